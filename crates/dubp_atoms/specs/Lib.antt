@@ -1,0 +1,5 @@
+pub mod Padded
+pub mod Letters
+pub mod Hashing
+pub mod Reading
+pub mod Spelling

@@ -1,12 +1,45 @@
 //! The atoms of the ledger's texts, and small parts that every crate above shares.
+//!
+//! An atom is a value with one spelling: keys, names, hashes, signatures, numbers, stamps. Contracts see `Key`, `Uid`, `Sig`,
+//! `Hash` and `Currency` as their texts, and `Stamp` and `Dec` as records of their fields. `read` accepts exactly the
+//! spelling, `put` writes it, and neither takes memory.
+//!
+//! ```text
+//! let key = Key::read(b"4tsFXtKofD6jK8zwLymgXWAoMBzhFx7KNANhtK86mKzA")?;
+//! let mut line: Line = ArrayVec::new();
+//! key.put(&mut line);
+//! put_number(1488987127, &mut line);
+//! ```
 #![tactic(auto)]
 
+mod currency;
+mod cutting;
+mod dec;
+mod hash;
 mod items;
+mod key;
+pub mod laws;
+mod line;
 mod no_memory;
 mod noted;
+mod number;
+mod sig;
+mod stamp;
 mod steps;
+mod text;
+mod uid;
 
+pub use currency::Currency;
+pub use cutting::cut;
+pub use dec::Dec;
+pub use hash::Hash;
 pub use items::Items;
+pub use key::Key;
+pub use line::{Line, put_bytes};
 pub use no_memory::NoMemory;
 pub use noted::Noted;
+pub use number::{put_number, put_signed, read_number, read_signed};
+pub use sig::Sig;
+pub use stamp::Stamp;
 pub use steps::Steps;
+pub use uid::Uid;
