@@ -1,0 +1,30 @@
+-- The tree that a condition of the code is.
+use Rattle.std.specs.Prelude.{List, [], ◌∷◌, map}
+use Rattle.dubp_cond.specs.Tree.{ItemTree, sig, xhx, csv, cltv, group, AllTree, no_items, add_item, CondTree, no_alls, add_all}
+use Rattle.dubp_cond.specs.declared.tree.Item.{Item}
+use Rattle.dubp_cond.specs.declared.tree.Item.TheVariants as item
+use Rattle.dubp_cond.specs.declared.tree.All.{All}
+
+abbrev pub all_of : List ItemTree → AllTree
+all_of [] = no_items
+all_of (i ∷ is) = add_item i (all_of is)
+
+abbrev pub cond_of : List AllTree → CondTree
+cond_of [] = no_alls
+cond_of (a ∷ as') = add_all a (cond_of as')
+
+abbrev pub item_tree : Item → ItemTree
+item_tree (item.Sig key) = sig key
+item_tree (item.Xhx hash) = xhx hash
+item_tree (item.Csv seconds) = csv seconds
+item_tree (item.Cltv time) = cltv time
+item_tree (item.Group c) = group c.value
+
+abbrev pub all_view : List Item → AllTree
+all_view items = all_of (map item_tree items)
+
+abbrev pub all_tree : All → AllTree
+all_tree a = all_view a.every.items
+
+abbrev pub cond_view : List All → CondTree
+cond_view alls = cond_of (map all_tree alls)
