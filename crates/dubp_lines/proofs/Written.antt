@@ -1,20 +1,18 @@
 -- What was written, line by line.
 use Rattle.std.proofs.Common.{◌≡◌, ℕ, List, [], ◌∷◌, ◌++◌, sym, ap, ◌∙◌, append_assoc}
 use Rattle.std.proofs.lemmas.List.{append-nil}
-use Rattle.std.proofs.lemmas.List.Concat.{flat_map-append}
+use Rattle.std.proofs.lemmas.List.Concat.{flat_map-append, flat_map-cons}
 use Rattle.dubp_lines.specs.Lines.{unlines}
 
--- out is what was there before, and then the text of these lines
-pub record Wrote (before out : List ℕ) (ls : List (List ℕ)) : Type 0 where
-  pub text : out ≡ before ++ unlines ls
+-- nothing more
+pub no_lines : (o : List ℕ) → o ≡ o ++ unlines []
+no_lines o = sym (append-nil o)
 
-pub wrote_nothing : (before : List ℕ) → Wrote before before []
-wrote_nothing before = record { text = sym (append-nil before) }
+-- lines, and then others
+pub lines_then : (o p q : List ℕ) (ks ls : List (List ℕ)) → p ≡ o ++ unlines ks → q ≡ p ++ unlines ls → q ≡ o ++ unlines (ks ++ ls)
+lines_then o p q ks ls d e =
+    e ∙ ap (λ x. x ++ unlines ls) d ∙ append_assoc o (unlines ks) (unlines ls) ∙ ap (λ x. o ++ x) (sym (flat_map-append (λ l. l ++ 10 ∷ []) ks ls))
 
-pub more_lines : (before o p : List ℕ) (ls more : List (List ℕ)) → Wrote before o ls → p ≡ o ++ unlines more → Wrote before p (ls ++ more)
-more_lines before o p ls more w e = record {
-  text = e ∙ ap (λ x. x ++ unlines more) w.text ∙ append_assoc before (unlines ls) (unlines more) ∙ ap (λ x. before ++ x) (sym (flat_map-append (λ l. l ++ 10 ∷ []) ls more));
-}
-
-pub one_line : (before o p : List ℕ) (ls : List (List ℕ)) (l : List ℕ) → Wrote before o ls → p ≡ o ++ (l ++ 10 ∷ []) → Wrote before p (ls ++ l ∷ [])
-one_line before o p ls l w e = more_lines before o p ls (l ∷ []) w (e ∙ ap (λ x. o ++ x) (sym (append-nil (l ++ 10 ∷ []))))
+-- a line, and then others
+pub line_then : (o p q l : List ℕ) (ls : List (List ℕ)) → p ≡ o ++ (l ++ 10 ∷ []) → q ≡ p ++ unlines ls → q ≡ o ++ unlines (l ∷ ls)
+line_then o p q l ls d e = lines_then o p q (l ∷ []) ls (d ∙ ap (λ x. o ++ x) (sym (append-nil (l ++ 10 ∷ [])))) e
