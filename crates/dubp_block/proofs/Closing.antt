@@ -1,7 +1,6 @@
 -- The last three lines of a block, as they are put together.
-use Rattle.std.proofs.Common.{◌≡◌, ℕ, List, [], ◌∷◌, ◌++◌, refl, sym, ap, ◌∙◌, append_assoc, append-nil}
+use Rattle.std.proofs.Common.{◌≡◌, ℕ, List, [], ◌∷◌, ◌++◌, ap, ◌∙◌, append_assoc, append-nil}
 use Rattle.std.specs.Prelude.{codes}
-use Rattle.std.proofs.lemmas.List.Concat.{flat_map-cons}
 use Rattle.dubp_lines.specs.Lines.{unlines}
 
 grown : (o p q x : List ℕ) → q ≡ p ++ x → p ≡ o → q ≡ o ++ x

@@ -1,5 +1,5 @@
 -- What was taken at a place is the spelling, and the spelling is taken.
-use Rattle.std.proofs.Common.{◌≡◌, ℕ, ℤ, ◌+◌, ◌^◌, ◌<◌, Bool, true, List, [], ◌∷◌, ◌++◌, length, take, drop, Option, Some, None, Result, Ok, Err, refl, sym, ap, subst, ◌∙◌, arith, decimal, unsigned_abs}
+use Rattle.std.proofs.Common.{append_assoc, ◌≡◌, ℕ, ℤ, ◌+◌, ◌^◌, ◌<◌, Bool, true, List, [], ◌∷◌, ◌++◌, length, take, drop, Option, Some, None, Result, Ok, Err, refl, sym, ap, subst, ◌∙◌, arith, decimal, unsigned_abs}
 use Rattle.std.specs.Prelude.{nat_eq, nat_lt, ◌||◌}
 use Rattle.std.specs.Cmp.Lexicographic.{pointwise}
 use Rattle.std.specs.Fmt.{signed_decimal}
@@ -12,7 +12,7 @@ use Rattle.dubp_atoms.proofs.Signed.{signed_found, signed_again}
 use Rattle.dubp_atoms.proofs.Fields.{text_found, text_again, Lacks-all}
 use Rattle.dubp_lines.proofs.Split.{text_is}
 use Rattle.dubp_lines.specs.Lines.{Place, split, unlines}
-use Rattle.dubp_lines.specs.Takes.{Takes}
+use Rattle.dubp_lines.specs.Takes.{Takes, Spans}
 use Rattle.dubp_lines.specs.Taking.{◌>>=◌, taken_or, line_of, line_at, value_of, named, just, number_line, signed_line, text_line}
 
 pub bind_ok : {A B : Type 0} (r : Result A ℕ) (f : A → Result B ℕ) (y : B) → (r >>= f) ≡ Ok y → (x : A) × (r ≡ Ok x) × (f x ≡ Ok y)
@@ -138,3 +138,30 @@ text_of_lines text ls p q = text_is text ∙ joined _ _ _ _ (ap unlines p) q ∙
 -- a text of visible bytes has no LF
 pub codes_lack : (line : List ℕ) → list_all (λ c. nat_lt c 10 || nat_lt 10 c) line ≡ true → Lacks 10 line
 codes_lack line h = Lacks-all 10 (λ c. nat_lt c 10 || nat_lt 10 c) line (omega arith) refl h
+
+-- ---- lines one after another
+
+pub spans_nothing : (p : Place) → Spans p [] p
+spans_nothing p = record { lines = refl; tail = refl }
+
+pub takes_then : (p q r : Place) (l : List ℕ) (ls : List (List ℕ)) → Takes p l q → Spans q ls r → Spans p (l ∷ ls) r
+takes_then p q r l ls a b = record { lines = a.lines ∙ ap (λ x. l ∷ x) b.lines; tail = a.tail ∙ b.tail }
+
+pub spans_then : (p q r : Place) (ks ls : List (List ℕ)) → Spans p ks q → Spans q ls r → Spans p (ks ++ ls) r
+spans_then p q r ks ls a b = record { lines = a.lines ∙ ap (λ x. ks ++ x) b.lines ∙ sym (append_assoc ks ls r.0); tail = a.tail ∙ b.tail }
+
+-- a value that a reader of the caller's gives
+pub value_took : {A : Type 0} (name : List ℕ) (read : List ℕ → Option A) (spell : A → List ℕ) (Is : A → Type 0) → ((text : List ℕ) (x : A) → read text ≡ Some x → Is x × (text ≡ spell x))
+    → (p : Place) (x : A) (q : Place) → line_at (named name read) p ≡ Ok (x, q) → Is x × Takes p (name ++ spell x) q
+value_took name read spell Is found p x q e =
+    let t = took (named name read) p (x, q) e in
+    let v = named_found name read t.line x t.reads in
+    let f = found v.0 x v.2 in
+    (f.0, record { lines = t.lines ∙ ap (λ (l : List ℕ). l ∷ q.0) (v.1 ∙ ap (λ (y : List ℕ). name ++ y) f.1); tail = t.tail })
+
+-- a line that is a text of its own
+pub whole_took : (test : List ℕ → Bool) (p : Place) (a : List ℕ) (q : Place) → line_at (text_if test) p ≡ Ok (a, q) → (test a ≡ true) × Takes p a q
+whole_took test p a q e =
+    let t = took (text_if test) p (a, q) e in
+    let f = text_found test t.line a t.reads in
+    (f.0, record { lines = t.lines ∙ ap (λ (l : List ℕ). l ∷ q.0) f.1; tail = t.tail })

@@ -1,7 +1,7 @@
 -- A value behind a name is read by a function of the caller's, and its line is skipped.
 use Rattle.std.proofs.Common.{◌≡◌, ℕ, List, [], ◌∷◌, length, drop, Option, Some, None, Result, Ok, Err, refl, sym, ap, ◌∙◌}
 use Rattle.dubp_lines.specs.Lines.{Place}
-use Rattle.dubp_lines.specs.Taking.{value_or, value_of, value_in, value_at, named, line_of, line_at, taken_or}
+use Rattle.dubp_lines.specs.Taking.{value_or, value_of, value_in, value_at, named, line_at, taken_or}
 use Rattle.dubp_lines.proofs.Taken.{ok_is}
 
 abbrev missing : ℕ → Result (List ℕ) ℕ

@@ -1,14 +1,6 @@
-use Rattle.std.proofs.Common.{◌≡◌, ◌∷◌, ◌++◌, [], decimal, ap, sym, ◌∙◌, append_assoc, append-nil}
-use Rattle.std.specs.Prelude.{codes, ℤ}
-use Rattle.std.proofs.Common.{arith, w64}
-use Rattle.std.proofs.lemmas.Int.{to_z-of_z, fits_signed_from_abs}
-use Rattle.std.specs.Fmt.{signed_decimal}
-use Rattle.dubp_atoms.specs.Hashing.{hash_of}
-use Rattle.dubp_lines.specs.Lines.{unlines}
-use Rattle.dubp_lines.proofs.Written.{no_lines, lines_then, line_then}
-use Rattle.dubp_params.specs.Spelling.{params_text}
-use Rattle.dubp_block.proofs.Closing.{closing_is}
-use Rattle.dubp_block.specs.Text.{opening_lines, issuer_lines, params_lines, headings, inner_lines, inner_text, signed_lines, block_lines, block_text, block_hash_of}
+use Rattle.std.proofs.Common.{◌∷◌, ◌++◌, [], decimal, ap, ◌∙◌}
+use Rattle.std.specs.Prelude.{codes}
+use Rattle.dubp_lines.proofs.Written.{no_lines, line_then}
 use Rattle.dubp_block.proofs.writing.put_opening.Goals as goal
 
 pub returns : goal.returns
