@@ -1,0 +1,33 @@
+//! Where bytes come from and where they go, with counted faults.
+//!
+//! All else of the node meets the outside through the traits `Source` and `Sink`. A source has bytes `left`, a sink
+//! has bytes `held`, each where it can tell them, and each counts its `faults`: a call fails only where the count
+//! rose, so that a failure has a cause outside of the code that calls.
+//!
+//! ```
+//! let mut source = ReadSource::new(rt.stdin());
+//! let mut sink = WriteSink::new(rt.stdout());
+//! let mut piece = [0; 4096];
+//! let count = source.read(&mut piece)?;
+//! write_whole(&mut sink, &piece[..count])?;
+//! ```
+#![tactic(auto)]
+
+mod copying;
+mod errors;
+mod memory;
+mod plain;
+mod schedule;
+mod sink;
+mod source;
+mod streams;
+mod unread;
+#[cfg(test)]
+mod tests;
+
+pub use errors::{Failed, NoMemory};
+pub use memory::{MemSink, MemSource};
+pub use plain::{PlainSink, PlainSource};
+pub use sink::{Sink, write_whole};
+pub use source::Source;
+pub use streams::{ReadSource, WriteSink};
