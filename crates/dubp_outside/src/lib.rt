@@ -21,9 +21,9 @@ mod schedule;
 mod sink;
 mod source;
 mod streams;
-mod unread;
 #[cfg(test)]
 mod tests;
+mod unread;
 
 pub use errors::{Failed, NoMemory};
 pub use memory::{MemSink, MemSource};

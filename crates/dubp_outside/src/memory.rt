@@ -29,11 +29,11 @@ impl Model for MemSource {
     ghost Value = { MemSourceState };
 
     ghost view = { λ s. record {
-        left = s.unread;
-        most = s.most;
-        fails = s.schedule.fails;
-        calls = s.schedule.calls;
-        faults = s.faults;
+      left = s.unread;
+      most = s.most;
+      fails = s.schedule.fails;
+      calls = s.schedule.calls;
+      faults = s.faults;
     } };
 
     ghost invariant = { λ s. 0 < s.most };
@@ -86,9 +86,13 @@ impl Source for MemSource {
         ensures fails { IsErr result ↔ Contains self.old.fails self.old.calls }
         ensures count { IfOk result (λ n. n ≡ given_count self.old (length buf.old)) }
         ensures ok { IfOk result (λ n. self.new ≡ record self.old {
-            left = drop n self.old.left; calls = next_call self.old.calls }) }
+          left = drop n self.old.left;
+          calls = next_call self.old.calls;
+        }) }
         ensures err { OnErr result (self.new ≡ record self.old {
-            calls = next_call self.old.calls; faults = raised_count self.old.faults }) }
+          calls = next_call self.old.calls;
+          faults = raised_count self.old.faults;
+        }) }
     {
         if self.schedule.next_fails() {
             self.faults = self.faults.saturating_add(1);
@@ -116,12 +120,12 @@ impl Model for MemSink {
     ghost Value = { MemSinkState };
 
     ghost view = { λ s. record {
-        room = s.room;
-        held = s.held.items;
-        most = s.most;
-        fails = s.schedule.fails;
-        calls = s.schedule.calls;
-        faults = s.faults;
+      room = s.room;
+      held = s.held.items;
+      most = s.most;
+      fails = s.schedule.fails;
+      calls = s.schedule.calls;
+      faults = s.faults;
     } };
 
     ghost invariant = { λ s. (vec_len s.held ≤ s.room) × (s.room ≤ vec_capacity s.held) × (0 < s.most) };
@@ -140,7 +144,13 @@ impl MemSink {
     ) -> Result<MemSink, NoMemory>
         requires { 1 ≤ most }
         ensures { IfOk result (λ sink. sink ≡ record {
-            room = room; held = []; most = most; fails = fails.items; calls = 0; faults = 0 }) }
+          room = room;
+          held = [];
+          most = most;
+          fails = fails.items;
+          calls = 0;
+          faults = 0;
+        }) }
     {
         let mut held = Vec::new(alloc);
         held.reserve_exact(room).map_err(|_| NoMemory)?;
@@ -182,9 +192,13 @@ impl Sink for MemSink {
         ensures fails { IsErr result ↔ FailsAt self.old piece.now }
         ensures count { IfOk result (λ n. n ≡ taken_count self.old piece.now) }
         ensures ok { IfOk result (λ n. self.new ≡ record self.old {
-            held = self.old.held ++ take n piece.now; calls = next_call self.old.calls }) }
+          held = self.old.held ++ take n piece.now;
+          calls = next_call self.old.calls;
+        }) }
         ensures err { OnErr result (self.new ≡ record self.old {
-            calls = next_call self.old.calls; faults = raised_count self.old.faults }) }
+          calls = next_call self.old.calls;
+          faults = raised_count self.old.faults;
+        }) }
     {
         let listed = self.schedule.next_fails();
         let count = self.most.min(piece.len());
