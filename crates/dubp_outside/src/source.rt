@@ -7,10 +7,10 @@ use crate::errors::Failed;
 
 /// Where bytes come from.
 pub trait Source {
-    // The bytes that it has not yet given, where it tells them.
+    /// The bytes that it has not yet given, where it tells them.
     ghost left: { Self → Option (List ℕ) };
 
-    // How often it has failed.
+    /// How often it has failed: a count that never falls, and stays where it stands at the greatest `u64`.
     ghost faults: { Self → ℕ };
 
     /// Puts the next bytes at the front of the buffer, and answers how many they are.

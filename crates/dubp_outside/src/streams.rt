@@ -67,6 +67,7 @@ impl<R: Read> Source for ReadSource<R> {
         ensures raised { OnErr result (self.new.faults ≡ raised_count self.old.faults) }
     {
         let len = buf.len().min(PIECE);
+        // The whole piece is lent before it is cut: so the loans of the piece and of the reader are proved apart.
         let whole = &mut self.piece[..];
         let piece = &mut whole[..len];
         match self.inner.read(piece) {
