@@ -2,7 +2,7 @@
 use Rattle.std.proofs.Common.{◌≡◌, ℕ, List, [], ◌++◌, Option, sym, ◌∙◌, ap, subst, append_assoc, append-nil}
 use Rattle.std.specs.Io.KnownBytes.{Appends, Consumes, Keeps}
 use Rattle.dubp_outside.specs.Parts.{AppendsPart}
-use Rattle.dubp_outside.proofs.Known.{appends_nothing, appends_then, appends_kept, consumes_nothing, consumes_then, consumes_kept}
+use Rattle.dubp_outside.proofs.Known.{appends_nothing, appends_then, consumes_nothing, consumes_then, consumes_kept}
 
 -- the same bytes were given and taken
 pub record IsCopied (left left' held held' : Option (List ℕ)) : Type 0 where

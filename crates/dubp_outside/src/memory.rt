@@ -1,5 +1,5 @@
 // A source and a sink in memory that give and take small pieces, and fail in the calls that they are told.
-ghost use Rattle.std.specs.Prelude.{◌≡◌, ◌↔◌, ◌≤◌, ◌<◌, [], ◌++◌, Some, min, length, take, drop, Contains, IsTrue, IsErr, IfOk, OnErr};
+ghost use Rattle.std.specs.Prelude.{◌≡◌, ◌↔◌, ◌≤◌, ◌<◌, [], ◌++◌, Some, length, take, drop, Contains, IsErr, IfOk, OnErr};
 ghost use Rattle.std.specs.Io.{ReadsAtMost, WritesAtMost};
 ghost use Rattle.std.specs.Io.KnownBytes.{ReadConsumes, WriteAppends};
 ghost use Rattle.dubp_outside.specs.Causes.{HasCause, raised_count};
@@ -83,6 +83,7 @@ impl Source for MemSource {
         ensures untouched { OnErr result (buf.new ≡ buf.old) }
         ensures cause { HasCause self.old.faults self.new.faults result }
 
+        // Exactly when it fails, how many bytes it gives, and the source after the call.
         ensures fails { IsErr result ↔ Contains self.old.fails self.old.calls }
         ensures count { IfOk result (λ n. n ≡ given_count self.old (length buf.old)) }
         ensures ok { IfOk result (λ n. self.new ≡ record self.old {
@@ -104,6 +105,9 @@ impl Source for MemSource {
 
 /// A sink in memory with room for a number of bytes, which takes at most `most` of a piece and fails in the calls
 /// that it is told.
+///
+/// It fails as well where the bytes that a call would take do not fit the room that is left. Its room was taken when it
+/// was made, so that writing takes no memory.
 #[derive(Drop)]
 pub struct MemSink {
     held: Vec<u8>,
@@ -189,6 +193,7 @@ impl Sink for MemSink {
         ensures bytes { WriteAppends (Some self.old.held) (Some self.new.held) result piece.now }
         ensures cause { HasCause self.old.faults self.new.faults result }
 
+        // Exactly when it fails, how many bytes it takes, and the sink after the call.
         ensures fails { IsErr result ↔ FailsAt self.old piece.now }
         ensures count { IfOk result (λ n. n ≡ taken_count self.old piece.now) }
         ensures ok { IfOk result (λ n. self.new ≡ record self.old {

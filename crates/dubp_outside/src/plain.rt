@@ -1,5 +1,5 @@
 // A source and a sink in memory that give and take whole pieces.
-ghost use Rattle.std.specs.Prelude.{◌≡◌, ◌↔◌, ◌+◌, ◌<◌, [], ◌++◌, Some, Ok, min, length, take, drop, IfOk, OnOk, OnErr, IsErr};
+ghost use Rattle.std.specs.Prelude.{◌≡◌, ◌↔◌, ◌+◌, ◌<◌, [], ◌++◌, Some, Ok, min, length, drop, IfOk, OnOk, OnErr, IsErr};
 ghost use Rattle.std.specs.Io.{ReadsAtMost, WritesAtMost};
 ghost use Rattle.std.specs.Io.KnownBytes.{ReadConsumes, WriteAppends};
 ghost use Rattle.dubp_outside.specs.Causes.{HasCause, raised_count};
@@ -57,6 +57,7 @@ impl Source for PlainSource {
         ensures untouched { OnErr result (buf.new ≡ buf.old) }
         ensures cause { HasCause 0 0 result }
 
+        // What is given, and what is left then.
         ensures count { result ≡ Ok (min (length buf.old) (length self.old)) }
         ensures left { IfOk result (λ n. self.new ≡ drop n self.old) }
     {
@@ -66,6 +67,9 @@ impl Source for PlainSource {
 }
 
 /// A sink in memory with room for a number of bytes, which takes a piece that fits whole.
+///
+/// Where a piece does not fit the room that is left, its count of faults rises and it takes nothing. Its room was taken
+/// when it was made, so that writing takes no memory.
 #[derive(Drop)]
 pub struct PlainSink {
     held: Vec<u8>,
@@ -124,6 +128,7 @@ impl Sink for PlainSink {
         ensures bytes { WriteAppends (Some self.old.held) (Some self.new.held) result piece.now }
         ensures cause { HasCause self.old.faults self.new.faults result }
 
+        // Exactly when it fails, what is taken, and the sink after the call.
         ensures full { IsErr result ↔ (self.old.room < length self.old.held + length piece.now) }
         ensures count { IfOk result (λ n. n ≡ length piece.now) }
         ensures ok { OnOk result (self.new ≡ record self.old { held = self.old.held ++ piece.now }) }

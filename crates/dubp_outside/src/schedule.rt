@@ -21,6 +21,7 @@ impl Model for Schedule {
 }
 
 impl Schedule {
+    /// The calls with these numbers fail, and the next call has the number 0.
     pub fn new(fails: Vec<u64>) -> Schedule
         ensures { result ≡ record { fails = fails.items; calls = 0 } }
     {
@@ -35,6 +36,7 @@ impl Schedule {
         ensures listed { IsTrue result ↔ Contains self.old.fails self.old.calls }
         ensures counted { self.new ≡ record self.old { calls = next_call self.old.calls } }
     {
+        // Taken before the test, so that a proof knows in both cases that each of the numbers fits a `u64`.
         let fails = self.fails.as_slice();
         let Some(call) = self.next else {
             return false;

@@ -11,7 +11,7 @@ pub trait Sink {
     /// The bytes that it has taken so far, where it tells them.
     ghost held: { Self → Option (List ℕ) };
 
-    /// How often it has failed: a count that never falls, and stays where it stands at the greatest `u64`.
+    /// How often it has failed. The count never falls; one that stands at the greatest `u64` stays there.
     ghost faults: { Self → ℕ };
 
     /// Takes the first bytes of the piece, at least one where there is one, and answers how many they are.

@@ -10,7 +10,7 @@ pub trait Source {
     /// The bytes that it has not yet given, where it tells them.
     ghost left: { Self → Option (List ℕ) };
 
-    /// How often it has failed: a count that never falls, and stays where it stands at the greatest `u64`.
+    /// How often it has failed. The count never falls; one that stands at the greatest `u64` stays there.
     ghost faults: { Self → ℕ };
 
     /// Puts the next bytes at the front of the buffer, and answers how many they are.

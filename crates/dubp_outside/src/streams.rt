@@ -11,12 +11,14 @@ use crate::source::Source;
 use std::io::{Read, Write};
 use std::marker::Model;
 
-/// How many bytes `ReadSource` reads at once.
+/// How many bytes `ReadSource` reads at most in a call.
 const PIECE: usize = 65_536;
 
 /// A source over a reader of std. It tells what is left where the reader tells it.
 ///
-/// It reads into a piece of its own and copies what was read, since a reader may write past the bytes that it gives.
+/// Each error of the reader, an interrupted read among them, raises the count of faults by one and is `Failed`. A call
+/// gives at most 65,536 bytes: it reads them into a piece of its own and copies them, since a reader may write past the
+/// bytes that it gives.
 #[derive(Drop)]
 pub struct ReadSource<R: Read> {
     inner: R,
@@ -84,6 +86,9 @@ impl<R: Read> Source for ReadSource<R> {
 }
 
 /// A sink over a writer of std. It tells what it holds where the writer tells it.
+///
+/// Each error of the writer, an interrupted write among them, raises the count of faults by one and is `Failed`, and so
+/// does a write that takes no byte of a piece that is not empty.
 #[derive(Drop)]
 pub struct WriteSink<W: Write> {
     inner: W,
