@@ -13,4 +13,4 @@ mod command;
 mod reading;
 
 pub use command::Command;
-pub use reading::read_command;
+pub use reading::{frame_len, read_command};
