@@ -38,7 +38,7 @@ impl Window {
         Ok(Window { times, room })
     }
 
-    /// Takes a time in. There is room for one more. It takes no memory.
+    /// Takes a time in, also one that it has already. There is room for one more. It takes no memory.
     pub fn insert(&mut self, t: u64)
         requires { length self.old.times < self.old.room }
         ensures times { SameTimes self.new.times (t ∷ self.old.times) }
@@ -51,7 +51,7 @@ impl Window {
         prove!(inserted.is_ok());
     }
 
-    /// Takes a time out, once, which is among the times. It takes no memory.
+    /// Takes out a time that it has, once where it has it more often. It takes no memory.
     pub fn remove(&mut self, t: u64)
         requires { 0 < count_of t self.old.times }
         ensures times { SameTimes self.old.times (t ∷ self.new.times) }
