@@ -87,12 +87,10 @@ fn names(rt: HostRuntime) {
         (100, true, false),
         (101, false, false),
     ] {
-        let name = [b'a'; 101];
-        if len > 101 {
-            continue;
-        }
-        assert_eq!(rt; Uid::read(&name[..len]).is_some(), is_uid);
-        assert_eq!(rt; Currency::read(&name[..len]).is_some(), is_currency);
+        let letters = [b'a'; 101];
+        let name = letters.get(..len).unwrap_or(b"".as_slice());
+        assert_eq!(rt; Uid::read(name).is_some(), is_uid);
+        assert_eq!(rt; Currency::read(name).is_some(), is_currency);
     }
     assert!(rt; Uid::read(b"a b").is_none());
     assert!(rt; Currency::read(b"a b").is_some());
