@@ -15,6 +15,8 @@ mod copying;
 pub mod laws;
 mod reading;
 mod refusal;
+#[cfg(test)]
+mod tests;
 mod writing;
 
 pub use block::{Block, CertLine, IdentityLine, MemberLine, RevokedLine};

@@ -1,4 +1,5 @@
 pub mod Cuts
+pub mod Decisions
 pub mod Exists
 pub mod Hands
 pub mod Lines
@@ -6,5 +7,4 @@ pub mod RunSteps
 pub mod Serves
 pub mod Sessions
 pub mod Taking
-pub mod TurnCases
 pub mod Wholes

@@ -10,6 +10,8 @@ mod node;
 mod reading;
 mod run;
 mod serving;
+#[cfg(test)]
+mod tests;
 
 use dubp_outside::{ReadSource, WriteSink};
 pub use laws::cutting;

@@ -50,6 +50,7 @@ pub fn run<S: Source, K: Sink>(
     ensures statuses { result ≤ 7 }
     ensures not_one { result ≢ 1 }
     ensures no_fault_before { (result ≡ 0) ⊎ (result ≡ 2) ⊎ (result ≡ 4) ⊎ (result ≡ 6) ⊎ (result ≡ 7) → (S.faults source.new ≡ S.faults source.old) × (K.faults sink.new ≡ K.faults sink.old) }
+    ensures faultless { ¬ (Rose (S.faults source.old) (S.faults source.new)) → ¬ (Rose (K.faults sink.old) (K.faults sink.new)) → IsRun words.now → (result ≡ 0) ⊎ (result ≡ 4) ⊎ (result ≡ 6) ⊎ (result ≡ 7) }
     ensures boundary { result ≡ 0 → AnsweredToEnd node.old node.new (S.left source.old) (S.left source.new) (K.held sink.old) (K.held sink.new) true }
     ensures untouched { (result ≡ 2) ⊎ (result ≡ 6) → Untouched node.old node.new (S.left source.old) (S.left source.new) (K.held sink.old) (K.held sink.new) }
     ensures read_fault { result ≡ 3 → Rose (S.faults source.old) (S.faults source.new) × AnsweredSome node.old node.new (S.left source.old) (S.left source.new) (K.held sink.old) (K.held sink.new) }

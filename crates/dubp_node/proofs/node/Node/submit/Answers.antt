@@ -2,7 +2,7 @@ use Rattle.std.proofs.Common.{subst}
 use Rattle.dubp_query.specs.AnswerBytes.{answer_bytes}
 use Rattle.dubp_replay.specs.Turns.{State}
 use Rattle.dubp_node.specs.Deciding.{Decided}
-use Rattle.dubp_node.proofs.TurnCases.{decided}
+use Rattle.dubp_node.proofs.Decisions.{decided}
 use Rattle.dubp_node.proofs.node.Node.submit.Goals as goal
 
 pub returns : goal.returns

@@ -1,0 +1,112 @@
+use crate::{ReadRefusal, block_hash, copy_block, inner_hash, put_block, read_block, stamp_of};
+use std::alloc::{AllocError, Global};
+use std::test::Fail;
+
+// A block of number 0, whose hashes were computed by another program.
+const FIRST_BLOCK: &[u8] = b"Version: 10\n\
+Type: Block\n\
+Currency: test_currency\n\
+Number: 0\n\
+PoWMin: 0\n\
+Time: 1488987127\n\
+MedianTime: 1488987127\n\
+UnitBase: 0\n\
+Issuer: 1111111111111111111111111111111111111111111\n\
+IssuersFrame: 1\n\
+IssuersFrameVar: 0\n\
+DifferentIssuersCount: 0\n\
+Parameters: 0.0488:86400:1000:432000:100:5259600:63115200:5:5259600:5259600:0.8:31557600:5:24:300:12:0.67:1488970800:1490094000:15778800\n\
+MembersCount: 0\n\
+Identities:\n\
+Joiners:\n\
+Actives:\n\
+Leavers:\n\
+Revoked:\n\
+Excluded:\n\
+Certifications:\n\
+Transactions:\n\
+InnerHash: 9880AB695793A40B4291DC5A5FB6FB082B901AFAD5E758E3B1B90168CFFB80B0\n\
+Nonce: 0\n\
+AAAAAAAAAAAAAAAAAAAAAAAAAAAAAAAAAAAAAAAAAAAAAAAAAAAAAAAAAAAAAAAAAAAAAAAAAAAAAAAAAAAAAA==\n";
+
+const HASH: &[u8] = b"213EECFB0EEA61A655E64854E92BE5C3C4F3DE3D12DAD82F421E4DFA250CBB36";
+
+#[test]
+fn reads_hashes_and_writes_the_first_block(rt: HostRuntime) -> Result<(), Fail> {
+    let alloc = rt.alloc();
+    let block = read_block(alloc, FIRST_BLOCK)?;
+    assert_eq!(rt; block.time, 1_488_987_127);
+    assert_eq!(rt; block.params.map(|params| params.ud0), Some(1000));
+    assert_eq!(rt; inner_hash(alloc, &block)?, block.inner_hash);
+    assert_eq!(rt; block_hash(&block).as_bytes(), HASH);
+    assert_eq!(rt; stamp_of(&block).number, 0);
+    assert_eq!(rt; put_block(alloc, &block)?.as_slice(), FIRST_BLOCK);
+    assert_eq!(rt; copy_block(alloc, &block)?.nonce, block.nonce);
+    Ok(())
+}
+
+#[test]
+fn each_line_stands_once_and_is_spelt_one_way(rt: HostRuntime) -> Result<(), Fail> {
+    let alloc = rt.alloc();
+    for line in 0..25usize {
+        for change in [Change::Lack, Change::Double, Change::Misspell] {
+            let text = changed(alloc, line, change)?;
+            let read = read_block(alloc, text.as_slice());
+            assert!(rt; read.err() == Some(ReadRefusal::Unbuilt), "line {line}");
+        }
+    }
+    Ok(())
+}
+
+#[derive(Clone, Copy)]
+enum Change {
+    Lack,
+    Double,
+    Misspell,
+}
+
+// The text of the first block with this line changed.
+fn changed(alloc: Global, line: usize, change: Change) -> Result<Vec<u8>, AllocError> {
+    let mut text = Vec::new(alloc);
+    for (i, old) in FIRST_BLOCK.split(|c| *c == b'\n').enumerate() {
+        if i == 25 {
+            break;
+        }
+        if i != line {
+            add(&mut text, old)?;
+            continue;
+        }
+        match change {
+            Change::Lack => {}
+            Change::Double => {
+                add(&mut text, old)?;
+                add(&mut text, old)?;
+            }
+            Change::Misspell => {
+                text.push(b' ')?;
+                add(&mut text, old)?;
+            }
+        }
+    }
+    Ok(text)
+}
+
+fn add(text: &mut Vec<u8>, line: &[u8]) -> Result<(), AllocError> {
+    text.extend_from_slice(line)?;
+    text.push(b'\n')?;
+    Ok(())
+}
+
+#[test]
+fn bytes_around_the_text_are_refused(rt: HostRuntime) -> Result<(), Fail> {
+    let alloc = rt.alloc();
+    for end in [b"\n".as_slice(), b"x".as_slice(), b"x\n".as_slice()] {
+        let mut text = FIRST_BLOCK.to_vec(alloc)?;
+        text.extend_from_slice(end)?;
+        assert!(rt; read_block(alloc, text.as_slice()).is_err());
+    }
+    let short = FIRST_BLOCK.len() - 1;
+    assert!(rt; read_block(alloc, &FIRST_BLOCK[..short]).is_err());
+    assert!(rt; read_block(alloc, b"").is_err());
+    Ok(())
+}
