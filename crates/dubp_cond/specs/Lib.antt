@@ -1,4 +1,16 @@
 pub mod Tree
 pub mod TreeCode
+pub mod Lists
 pub mod View
 pub mod Nesting
+pub mod Joined
+pub mod Conditions
+pub mod Truth
+pub mod Sources
+pub mod Unlocks
+pub mod Outputs
+pub mod Transactions
+pub mod Separated
+pub mod Finding
+pub mod Reading
+pub mod ReadingLines
