@@ -1,3 +1,5 @@
 pub mod Readers
 pub mod Separated
 pub mod Turns
+pub mod Items
+pub mod Conditions
