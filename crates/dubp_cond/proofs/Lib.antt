@@ -6,3 +6,7 @@ pub mod Conditions
 pub mod Sources
 pub mod Unlocks
 pub mod Outputs
+pub mod Strips
+pub mod Exact
+pub mod Loops
+pub mod ItemSteps

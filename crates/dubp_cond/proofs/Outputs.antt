@@ -28,9 +28,10 @@ output_found text o e =
     let b = base_found g.front g.value g.reads in
     let c = cond_found g.rest s.0 s.1 in
     let made : Output = record { amount = f.value; base = g.value; cond = s.0 } in
-    subst (λ x. IsOutput x × (text ≡ output_text x)) (some_is made o s.2)
-    (record { amount = a.0; base = b.0; cond = c.0 },
-    f.parts ∙ glue 58 f.front f.rest (decimal f.value) _ a.1 (g.parts ∙ glue 58 g.front g.rest (decimal g.value) (cond_text s.0) b.1 c.1))
+    subst (λ x. IsOutput x × (text ≡ output_text x)) (some_is made o s.2) (
+      record { amount = a.0; base = b.0; cond = c.0 },
+      f.parts ∙ glue 58 f.front f.rest (decimal f.value) _ a.1 (g.parts ∙ glue 58 g.front g.rest (decimal g.value) (cond_text s.0) b.1 c.1),
+    )
 
 pub output_again : (o : Output) → IsOutput o → output_of (output_text o) ≡ Some o
 unfolding output_of

@@ -108,9 +108,10 @@ input_found text i e =
     let b = base_found g.front g.value g.reads in
     let c = source_found g.rest s.0 s.1 in
     let made : Input = record { amount = f.value; base = g.value; source = s.0 } in
-    subst (λ x. IsInput x × (text ≡ input_text x)) (some_is made i s.2)
-    (record { amount = a.0; base = b.0; source = c.0 },
-    f.parts ∙ glue 58 f.front f.rest (decimal f.value) _ a.1 (g.parts ∙ glue 58 g.front g.rest (decimal g.value) (source_text s.0) b.1 c.1))
+    subst (λ x. IsInput x × (text ≡ input_text x)) (some_is made i s.2) (
+      record { amount = a.0; base = b.0; source = c.0 },
+      f.parts ∙ glue 58 f.front f.rest (decimal f.value) _ a.1 (g.parts ∙ glue 58 g.front g.rest (decimal g.value) (source_text s.0) b.1 c.1),
+    )
 
 pub input_again : (i : Input) → IsInput i → input_of (input_text i) ≡ Some i
 unfolding input_of

@@ -14,3 +14,5 @@ pub mod Separated
 pub mod Finding
 pub mod Reading
 pub mod ReadingLines
+pub mod Gives
+pub mod Asked

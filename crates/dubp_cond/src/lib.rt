@@ -2,15 +2,24 @@
 #![tactic(auto)]
 
 mod copying;
+mod cursor;
+pub mod laws;
+mod memory;
 mod output;
+mod passing;
+mod reading;
 mod source;
 mod tree;
+mod truth;
 mod tx;
 mod unlock;
 
 pub use copying::{copy_cond, copy_tx};
 pub use output::Output;
-pub use source::{Input, SourceId};
+pub use passing::is_cond;
+pub use reading::read_cond;
+pub use source::{Input, SourceId, read_input};
 pub use tree::{All, Cond, CondText, Item};
+pub use truth::holds;
 pub use tx::Tx;
 pub use unlock::{Unlock, UnlockLine};

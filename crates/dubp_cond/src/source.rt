@@ -1,4 +1,10 @@
-use dubp_atoms::{Hash, Key};
+ghost use Rattle.std.specs.Prelude.{◌≡◌, IfSome, Some, option_map};
+ghost use Rattle.dubp_cond.specs.Sources.{input_text, IsInput};
+ghost use Rattle.dubp_cond.specs.ReadingLines.{base_of, dividend_of, made_output_of, source_of, input_of};
+ghost use Rattle.dubp_cond.specs.declared.source.Input.{Input as InputValue};
+
+use crate::cursor::after;
+use dubp_atoms::{Hash, Key, cut, read_number};
 
 /// Where a source comes from: the dividend of a member in a block, or an output of a transaction.
 ///
@@ -15,4 +21,65 @@ pub struct Input {
     pub amount: u64,
     pub base: u8,
     pub source: SourceId,
+}
+
+/// The base that this text is. None exactly where it is no number from 0 to 15.
+pub fn read_base(text: &[u8]) -> Option<u8>
+    ensures { result ≡ base_of text.now }
+{
+    let base = read_number(text)?;
+    if base <= 15 { Some(base as u8) } else { None }
+}
+
+fn read_dividend(text: &[u8]) -> Option<SourceId>
+    ensures { result ≡ dividend_of text.now }
+{
+    let (key, block) = cut(text, b':')?;
+    let key = Key::read(key)?;
+    let block = read_number(block)?;
+    Some(SourceId::D { key, block })
+}
+
+fn read_made_output(text: &[u8]) -> Option<SourceId>
+    ensures { result ≡ made_output_of text.now }
+{
+    let (tx, index) = cut(text, b':')?;
+    let tx = Hash::read(tx)?;
+    let index = read_number(index)?;
+    Some(SourceId::T { tx, index })
+}
+
+#[tactic(auto, unfolding(crate::specs::ReadingLines::source_of))]
+fn read_source(text: &[u8]) -> Option<SourceId>
+    ensures { result ≡ source_of text.now }
+{
+    if let Some(rest) = after(b"D:", text) {
+        return read_dividend(rest);
+    }
+    read_made_output(after(b"T:", text)?)
+}
+
+#[tactic(auto, unfolding(crate::specs::ReadingLines::input_of))]
+fn read_parts(line: &[u8]) -> Option<Input>
+    ensures { result ≡ input_of line.now }
+{
+    let (amount, rest) = cut(line, b':')?;
+    let amount = read_number(amount)?;
+    let (base, source) = cut(rest, b':')?;
+    let base = read_base(base)?;
+    let source = read_source(source)?;
+    Some(Input {
+        amount,
+        base,
+        source,
+    })
+}
+
+/// The input that this line is. None exactly where it is the text of none. It takes no memory.
+pub fn read_input(line: &[u8]) -> Option<Input>
+    ensures found { IfSome result (λ i. IsInput i × (line.now ≡ input_text i)) }
+    ensures only { (i : InputValue) → IsInput i → line.now ≡ input_text i → result ≡ Some i }
+    ensures exact { result ≡ input_of line.now }
+{
+    read_parts(line)
 }
