@@ -10,3 +10,4 @@ pub mod Strips
 pub mod Exact
 pub mod Loops
 pub mod ItemSteps
+pub mod UpToLoops

@@ -30,7 +30,7 @@ given_some view (Some y) x rest r h e = let i : y ≡ x = cc in rw (← i) h
 abbrev pub SoFar : {A : Type 0} → Read A → List ℕ → List A → List ℕ → List ℕ → Type 0
 SoFar read word front at self = read_map (λ xs. front ++ xs) (separated read word at) ≡ separated read word self
 
-joined_maps : {A : Type 0} (front : List A) (x : A) (r : Option (List A × List ℕ)) → read_map (λ xs. (front ++ x ∷ []) ++ xs) r ≡ read_map (λ xs. front ++ xs) (read_map (λ xs. x ∷ xs) r)
+pub joined_maps : {A : Type 0} (front : List A) (x : A) (r : Option (List A × List ℕ)) → read_map (λ xs. (front ++ x ∷ []) ++ xs) r ≡ read_map (λ xs. front ++ xs) (read_map (λ xs. x ∷ xs) r)
 joined_maps front x None = refl
 joined_maps front x (Some p) = ap (λ v. Some (v, p.1)) (append_assoc front (x ∷ []) p.0)
 

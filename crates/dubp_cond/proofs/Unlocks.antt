@@ -12,7 +12,7 @@ use Rattle.dubp_atoms.proofs.Stamps.{colon, number_lacks}
 use Rattle.dubp_cond.specs.Separated.{Read, after, read_map, closed, if_last}
 use Rattle.dubp_cond.specs.Finding.{Finds, Again}
 use Rattle.dubp_cond.specs.Unlocks.{is_password_letter, is_password, unlock_text, IsUnlock, unlock_line_text, IsUnlockLine}
-use Rattle.dubp_cond.specs.ReadingLines.{unlock_at, unlocks_at, unlock_line_of}
+use Rattle.dubp_cond.specs.ReadingLines.{unlock_at, unlocks_at, unlocks_of, unlock_line_of}
 use Rattle.dubp_cond.specs.declared.unlock.Unlock.{Unlock}
 use Rattle.dubp_cond.specs.declared.unlock.Unlock.TheVariants.{Sig, Xhx}
 use Rattle.dubp_cond.specs.declared.unlock.UnlockLine.{UnlockLine}
@@ -67,7 +67,7 @@ list_good : (list : List Unlock) → GoodList list → UpTo 8 IsUnlock list
 list_good [] h = absurd (omega arith)
 list_good (u ∷ us) h = (recursion_from_All IsUnlock (u ∷ us) h.2, h.1)
 
-unlocks_found : (text : List ℕ) (list : List Unlock) → (unlocks_at 8 text >>= if_last) ≡ Some list → GoodList list × (text ≡ list_text unlock_text (codes " ") list)
+unlocks_found : (text : List ℕ) (list : List Unlock) → unlocks_of text ≡ Some list → GoodList list × (text ≡ list_text unlock_text (codes " ") list)
 unlocks_found text list e =
     let b = bind_some (unlocks_at 8 text) if_last list e in
     let f = separated_up_to_finds unlock_at unlock_text IsUnlock (codes " ") unlock_finds 8 text b.0.0 b.0.1 b.1 in
@@ -77,13 +77,13 @@ unlocks_found text list e =
     done : (x : List Unlock) (rest : List ℕ) → text ≡ list_text unlock_text (codes " ") x ++ rest → UpTo 8 IsUnlock x → x ≡ list → rest ≡ [] → GoodList list × (text ≡ list_text unlock_text (codes " ") list)
     done x rest f g e z = rw (← e) (good_list x g, f ∙ ap (λ v. list_text unlock_text (codes " ") x ++ v) z ∙ append-nil (list_text unlock_text (codes " ") x))
 
-unlocks_again : (list : List Unlock) → GoodList list → (unlocks_at 8 (list_text unlock_text (codes " ") list) >>= if_last) ≡ Some list
+unlocks_again : (list : List Unlock) → GoodList list → unlocks_of (list_text unlock_text (codes " ") list) ≡ Some list
 unlocks_again list good =
     let a = separated_up_to_again unlock_at unlock_text IsUnlock (codes " ") (λ rest. Unit {0}) unlock_again (λ rest. tt) 8 list [] (list_good list good) (tt, refl) in
-    ap (λ v. unlocks_at 8 v >>= if_last) (sym (append-nil (list_text unlock_text (codes " ") list))) ∙ ap (λ o. o >>= if_last) a
+    ap unlocks_of (sym (append-nil (list_text unlock_text (codes " ") list))) ∙ ap (λ o. o >>= if_last) a
 
 abbrev after_input : ℕ → List ℕ → Option UnlockLine
-after_input input rest = unlocks_at 8 rest >>= if_last >>= (λ list. Some (record { input = input; list = list }))
+after_input input rest = unlocks_of rest >>= (λ list. Some (record { input = input; list = list }))
 
 is_short : (n : ℕ) → nat_le n 1000 ≡ true → n ≤ 1000
 is_short n h = grind (arith, nat_tests)
@@ -96,7 +96,7 @@ unfolding unlock_line_of
 unlock_line_found text l e =
     let t = by_test (nat_le (length text) 1000) (field 58 number_of text after_input) l e in
     let f = field_found 58 number_of text after_input l t.1 in
-    let s = bind_some (unlocks_at 8 f.rest >>= if_last) _ l f.goes_on in
+    let s = bind_some (unlocks_of f.rest) _ l f.goes_on in
     let a = number_found f.front f.value f.reads in
     let u = unlocks_found f.rest s.0 s.1 in
     let made : UnlockLine = record { input = f.value; list = s.0 } in

@@ -42,11 +42,15 @@ unlock_at text =
 abbrev pub unlocks_at : ℕ → Read (List Unlock)
 unlocks_at most = separated_up_to unlock_at (codes " ") most
 
+-- 1 to 8 functions that are the whole text
+abbrev pub unlocks_of : List ℕ → Option (List Unlock)
+unlocks_of text = unlocks_at 8 text >>= if_last
+
 unfoldable pub unlock_line_of : List ℕ → Option UnlockLine
 unlock_line_of text =
     if nat_le (length text) 1000
     then field 58 number_of text (λ input rest.
-    unlocks_at 8 rest >>= if_last >>= (λ list.
+    unlocks_of rest >>= (λ list.
     Some (record { input = input; list = list })))
     else None
 

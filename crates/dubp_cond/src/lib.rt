@@ -15,11 +15,11 @@ mod tx;
 mod unlock;
 
 pub use copying::{copy_cond, copy_tx};
-pub use output::Output;
+pub use output::{Output, read_output};
 pub use passing::is_cond;
 pub use reading::read_cond;
 pub use source::{Input, SourceId, read_input};
 pub use tree::{All, Cond, CondText, Item};
 pub use truth::holds;
 pub use tx::Tx;
-pub use unlock::{Unlock, UnlockLine};
+pub use unlock::{Unlock, UnlockLine, read_unlock};

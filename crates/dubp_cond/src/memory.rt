@@ -16,3 +16,10 @@ pub fn boxed<T: Drop>(alloc: Global, value: T) -> Result<Box<T>, NoMemory>
 {
     Box::new(alloc, value).map_err(|_| NoMemory)
 }
+
+/// The bytes as a list. `NoMemory` where there is no room for it.
+pub fn copied(alloc: Global, bytes: &[u8]) -> Result<Vec<u8>, NoMemory>
+    ensures { IfOk result (λ copied. copied.items ≡ bytes.now) }
+{
+    Vec::from_slice(alloc, bytes).map_err(|_| NoMemory)
+}

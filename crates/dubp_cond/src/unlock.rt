@@ -1,4 +1,21 @@
-use dubp_atoms::Items;
+ghost use Rattle.std.specs.Prelude.{◌≡◌, Some, true, length, IfOk, IfSome};
+ghost use Rattle.std.specs.List.{list_all};
+ghost use Rattle.dubp_atoms.specs.Reading.{text_if};
+ghost use Rattle.dubp_cond.specs.Unlocks.{is_password_letter, is_password, unlock_line_text, IsUnlockLine};
+ghost use Rattle.dubp_cond.specs.Gives.{Gives};
+ghost use Rattle.dubp_cond.specs.ReadingLines.{unlock_at, unlocks_at, unlocks_of, unlock_line_of};
+ghost use Rattle.dubp_cond.specs.declared.unlock.UnlockLine.{UnlockLine as UnlockLineValue};
+
+use crate::cursor::Cursor;
+use crate::memory::{copied, push};
+use dubp_atoms::{Items, NoMemory, cut, read_number};
+use std::alloc::Global;
+
+/// The most characters of an UNLOCK line.
+const MAX_CHARACTERS: usize = 1000;
+
+/// The most functions of an UNLOCK line.
+const MAX_FUNCTIONS: usize = 8;
 
 /// A function of an UNLOCK line: the signature of an issuer, by its number from 0, or a password.
 #[derive(Debug, Drop)]
@@ -12,4 +29,111 @@ pub enum Unlock {
 pub struct UnlockLine {
     pub input: u64,
     pub list: Items<Unlock>,
+}
+
+fn all_password_letters(text: &[u8]) -> bool
+    ensures { result ≡ list_all is_password_letter text.now }
+{
+    text.iter()
+        .all(|c| matches!(*c, b'!'..=b'\'' | b'*'..=b'~'))
+}
+
+#[tactic(auto, unfolding(crate::specs::Unlocks::is_password))]
+fn is_password_text(text: &[u8]) -> bool
+    ensures { result ≡ is_password text.now }
+{
+    text.len() >= 1 && text.len() <= 255 && all_password_letters(text)
+}
+
+fn read_password(alloc: Global, text: &[u8]) -> Result<Option<Items<u8>>, NoMemory>
+    ensures { IfOk result (λ found. found ≡ text_if is_password text.now) }
+{
+    if !is_password_text(text) {
+        return Ok(None);
+    }
+    let password = copied(alloc, text)?;
+    Ok(Some(Items::from_vec(password)))
+}
+
+/// Takes a function.
+fn take_unlock(alloc: Global, cursor: &mut Cursor<'_>) -> Result<Option<Unlock>, NoMemory>
+    ensures { IfOk result (λ found. Gives (λ u. u) found cursor.new (unlock_at cursor.old)) }
+{
+    if cursor.take_word(b"SIG(") {
+        let Some(issuer) = cursor.take_field() else {
+            return Ok(None);
+        };
+        let Some(issuer) = read_number(issuer) else {
+            return Ok(None);
+        };
+        return Ok(Some(Unlock::Sig(issuer)));
+    }
+    if !cursor.take_word(b"XHX(") {
+        return Ok(None);
+    }
+    let Some(password) = cursor.take_field() else {
+        return Ok(None);
+    };
+    let Some(password) = read_password(alloc, password)? else {
+        return Ok(None);
+    };
+    Ok(Some(Unlock::Xhx(password)))
+}
+
+/// Takes 1 to 8 functions with one space between.
+fn take_unlocks(alloc: Global, cursor: &mut Cursor<'_>) -> Result<Option<Vec<Unlock>>, NoMemory>
+    ensures { IfOk result (λ found. Gives (λ list. list.items) found cursor.new (unlocks_at 8 cursor.old)) }
+{
+    let mut list: Vec<Unlock> = Vec::new(alloc);
+    for n in 0..MAX_FUNCTIONS {
+        let Some(unlock) = take_unlock(alloc, cursor)? else {
+            return Ok(None);
+        };
+        push(&mut list, unlock)?;
+        if !cursor.take_word(b" ") {
+            return Ok(Some(list));
+        }
+    }
+    Ok(None)
+}
+
+fn read_unlocks(alloc: Global, text: &[u8]) -> Result<Option<Items<Unlock>>, NoMemory>
+    ensures { IfOk result (λ found. found ≡ unlocks_of text.now) }
+{
+    let mut cursor = Cursor::new(text);
+    let Some(list) = take_unlocks(alloc, &mut cursor)? else {
+        return Ok(None);
+    };
+    if !cursor.is_done() {
+        return Ok(None);
+    }
+    Ok(Some(Items::from_vec(list)))
+}
+
+#[tactic(auto, unfolding(crate::specs::ReadingLines::unlock_line_of))]
+fn read_line(alloc: Global, line: &[u8]) -> Result<Option<UnlockLine>, NoMemory>
+    ensures { IfOk result (λ found. found ≡ unlock_line_of line.now) }
+{
+    if line.len() > MAX_CHARACTERS {
+        return Ok(None);
+    }
+    let Some((input, list)) = cut(line, b':') else {
+        return Ok(None);
+    };
+    let Some(input) = read_number(input) else {
+        return Ok(None);
+    };
+    let Some(list) = read_unlocks(alloc, list)? else {
+        return Ok(None);
+    };
+    Ok(Some(UnlockLine { input, list }))
+}
+
+/// The unlock line that this line is. None exactly where it is the text of none. `NoMemory` where there is no room for it.
+pub fn read_unlock(alloc: Global, line: &[u8]) -> Result<Option<UnlockLine>, NoMemory>
+    ensures found { IfOk result (λ found. IfSome found (λ l. IsUnlockLine l × (line.now ≡ unlock_line_text l))) }
+    ensures only { (l : UnlockLineValue) → IsUnlockLine l → line.now ≡ unlock_line_text l → IfOk result (λ found. found ≡ Some l) }
+    ensures exact { IfOk result (λ found. found ≡ unlock_line_of line.now) }
+{
+    read_line(alloc, line)
 }
