@@ -11,3 +11,4 @@ pub mod Exact
 pub mod Loops
 pub mod ItemSteps
 pub mod UpToLoops
+pub mod Tails

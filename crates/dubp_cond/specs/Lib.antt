@@ -7,6 +7,7 @@ pub mod Joined
 pub mod Conditions
 pub mod Truth
 pub mod Sources
+pub mod SourceOrder
 pub mod Unlocks
 pub mod Outputs
 pub mod Transactions

@@ -1,4 +1,4 @@
--- The one spelling of sources and inputs, which of them have one, and the order of sources. Protocol: sources.
+-- The one spelling of sources and inputs, and which of them have one. Protocol: sources.
 use Rattle.std.specs.Prelude.{ℕ, ◌≤◌, ◌≡◌, true, List, ◌∷◌, ◌++◌, codes, decimal}
 use Rattle.dubp_atoms.specs.Letters.{is_key, is_hash}
 use Rattle.dubp_atoms.specs.Spelling.{IsNumber}

@@ -3,8 +3,10 @@ ghost use Rattle.std.specs.Prelude.{◌≡◌};
 ghost use Rattle.dubp_cond.specs.Tree.{CondTree};
 ghost use Rattle.dubp_cond.specs.Conditions.{cond_text, IsCond};
 ghost use Rattle.dubp_cond.specs.Sources.{input_text, IsInput};
+ghost use Rattle.dubp_cond.specs.SourceOrder.{derived_cmp, source_cmp};
 ghost use Rattle.dubp_cond.specs.Unlocks.{unlock_line_text, IsUnlockLine};
 ghost use Rattle.dubp_cond.specs.Outputs.{output_text, IsOutput};
+ghost use Rattle.dubp_cond.specs.declared.source.SourceId.{SourceId as SourceIdValue};
 ghost use Rattle.dubp_cond.specs.declared.source.Input.{Input as InputValue};
 ghost use Rattle.dubp_cond.specs.declared.unlock.UnlockLine.{UnlockLine as UnlockLineValue};
 ghost use Rattle.dubp_cond.specs.declared.output.Output.{Output as OutputValue};
@@ -27,4 +29,9 @@ pub fn unlock_lines_have_one_text()
 /// Two outputs of one text are one.
 pub fn outputs_have_one_text()
     ensures { (o p : OutputValue) → IsOutput o → IsOutput p → output_text o ≡ output_text p → o ≡ p }
+{}
+
+/// The order of sources, by which they are keys of maps: dividends before outputs, each by its fields.
+pub fn sources_are_ordered()
+    ensures { (a b : SourceIdValue) → derived_cmp a b ≡ source_cmp a b }
 {}

@@ -13,13 +13,15 @@ mod tree;
 mod truth;
 mod tx;
 mod unlock;
+mod writing;
 
 pub use copying::{copy_cond, copy_tx};
-pub use output::{Output, read_output};
+pub use output::{Output, put_output, read_output};
 pub use passing::is_cond;
 pub use reading::read_cond;
-pub use source::{Input, SourceId, read_input};
+pub use source::{Input, SourceId, put_input, read_input};
 pub use tree::{All, Cond, CondText, Item};
 pub use truth::holds;
 pub use tx::Tx;
-pub use unlock::{Unlock, UnlockLine, read_unlock};
+pub use unlock::{Unlock, UnlockLine, put_unlock, read_unlock};
+pub use writing::put_cond;

@@ -1,4 +1,5 @@
-ghost use Rattle.std.specs.Prelude.{◌≡◌, Some, IfOk, IfSome};
+ghost use Rattle.std.specs.Prelude.{◌≡◌, ◌+◌, ◌≤◌, ◌++◌, Some, IfOk, IfSome};
+ghost use Rattle.arrayvec.specs.ArrayVec.{array_vec_len};
 ghost use Rattle.dubp_cond.specs.Outputs.{output_text, IsOutput};
 ghost use Rattle.dubp_cond.specs.ReadingLines.{output_of};
 ghost use Rattle.dubp_cond.specs.declared.output.Output.{Output as OutputValue};
@@ -6,7 +7,8 @@ ghost use Rattle.dubp_cond.specs.declared.output.Output.{Output as OutputValue};
 use crate::reading::read_cond;
 use crate::source::read_base;
 use crate::tree::Cond;
-use dubp_atoms::{NoMemory, cut, read_number};
+use crate::writing::put_cond;
+use dubp_atoms::{Line, NoMemory, cut, put_bytes, put_number, read_number};
 use std::alloc::Global;
 
 /// An OUTPUT: a new source of this amount in units of 10^`base`, and who may spend it.
@@ -46,4 +48,18 @@ pub fn read_output(alloc: Global, line: &[u8]) -> Result<Option<Output>, NoMemor
     ensures exact { IfOk result (λ found. found ≡ output_of line.now) }
 {
     read_parts(alloc, line)
+}
+
+/// Appends the output's text. The output is in range, and `out` has 1,100 free places. It takes no memory.
+pub fn put_output(output: &Output, out: &mut Line)
+    requires valid { IsOutput output.now }
+    requires room { array_vec_len out.old + 1100 ≤ 2048 }
+    ensures text { out.new.items ≡ out.old.items ++ output_text output.now }
+    ensures room { array_vec_len out.new ≤ array_vec_len out.old + 1100 }
+{
+    put_number(output.amount as u128, out);
+    put_bytes(out, b":");
+    put_number(output.base as u128, out);
+    put_bytes(out, b":");
+    put_cond(&output.cond, out);
 }

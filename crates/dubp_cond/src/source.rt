@@ -1,10 +1,11 @@
-ghost use Rattle.std.specs.Prelude.{◌≡◌, IfSome, Some, option_map};
-ghost use Rattle.dubp_cond.specs.Sources.{input_text, IsInput};
+ghost use Rattle.std.specs.Prelude.{◌≡◌, ◌+◌, ◌≤◌, ◌++◌, IfSome, Some, option_map};
+ghost use Rattle.arrayvec.specs.ArrayVec.{array_vec_len};
+ghost use Rattle.dubp_cond.specs.Sources.{source_text, input_text, IsInput};
 ghost use Rattle.dubp_cond.specs.ReadingLines.{base_of, dividend_of, made_output_of, source_of, input_of};
 ghost use Rattle.dubp_cond.specs.declared.source.Input.{Input as InputValue};
 
 use crate::cursor::after;
-use dubp_atoms::{Hash, Key, cut, read_number};
+use dubp_atoms::{Hash, Key, Line, cut, put_bytes, put_number, read_number};
 
 /// Where a source comes from: the dividend of a member in a block, or an output of a transaction.
 ///
@@ -82,4 +83,39 @@ pub fn read_input(line: &[u8]) -> Option<Input>
     ensures exact { result ≡ input_of line.now }
 {
     read_parts(line)
+}
+
+fn put_source(source: &SourceId, out: &mut Line)
+    requires { array_vec_len out.old + 300 ≤ 2048 }
+    ensures text { out.new.items ≡ out.old.items ++ source_text source.now }
+    ensures room { array_vec_len out.new ≤ array_vec_len out.old + 110 }
+{
+    match source {
+        SourceId::D { key, block } => {
+            put_bytes(out, b"D:");
+            key.put(out);
+            put_bytes(out, b":");
+            put_number(*block as u128, out);
+        }
+        SourceId::T { tx, index } => {
+            put_bytes(out, b"T:");
+            tx.put(out);
+            put_bytes(out, b":");
+            put_number(*index as u128, out);
+        }
+    }
+}
+
+/// Appends the input's text. The input is in range, and `out` has 1,100 free places. It takes no memory.
+pub fn put_input(input: &Input, out: &mut Line)
+    requires valid { IsInput input.now }
+    requires room { array_vec_len out.old + 1100 ≤ 2048 }
+    ensures text { out.new.items ≡ out.old.items ++ input_text input.now }
+    ensures room { array_vec_len out.new ≤ array_vec_len out.old + 200 }
+{
+    put_number(input.amount as u128, out);
+    put_bytes(out, b":");
+    put_number(input.base as u128, out);
+    put_bytes(out, b":");
+    put_source(&input.source, out);
 }

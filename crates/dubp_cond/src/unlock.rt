@@ -1,14 +1,17 @@
-ghost use Rattle.std.specs.Prelude.{◌≡◌, Some, true, length, IfOk, IfSome};
+ghost use Rattle.std.specs.Prelude.{◌≡◌, ◌+◌, ◌≤◌, ◌++◌, map, codes, Some, true, length, IfOk, IfSome};
 ghost use Rattle.std.specs.List.{list_all};
+ghost use Rattle.arrayvec.specs.ArrayVec.{array_vec_len};
 ghost use Rattle.dubp_atoms.specs.Reading.{text_if};
-ghost use Rattle.dubp_cond.specs.Unlocks.{is_password_letter, is_password, unlock_line_text, IsUnlockLine};
+ghost use Rattle.dubp_cond.specs.Joined.{joined};
+ghost use Rattle.dubp_cond.specs.Unlocks.{is_password_letter, is_password, unlock_text, unlock_line_text, IsUnlockLine};
 ghost use Rattle.dubp_cond.specs.Gives.{Gives};
 ghost use Rattle.dubp_cond.specs.ReadingLines.{unlock_at, unlocks_at, unlocks_of, unlock_line_of};
 ghost use Rattle.dubp_cond.specs.declared.unlock.UnlockLine.{UnlockLine as UnlockLineValue};
 
 use crate::cursor::Cursor;
 use crate::memory::{copied, push};
-use dubp_atoms::{Items, NoMemory, cut, read_number};
+use crate::writing::{put_between, put_function, put_number_function};
+use dubp_atoms::{Items, Line, NoMemory, cut, put_bytes, put_number, read_number};
 use std::alloc::Global;
 
 /// The most characters of an UNLOCK line.
@@ -136,4 +139,40 @@ pub fn read_unlock(alloc: Global, line: &[u8]) -> Result<Option<UnlockLine>, NoM
     ensures exact { IfOk result (λ found. found ≡ unlock_line_of line.now) }
 {
     read_line(alloc, line)
+}
+
+fn put_one(unlock: &Unlock, out: &mut Line)
+    requires { array_vec_len out.old + length (unlock_text unlock.now) ≤ 2048 }
+    ensures text { out.new.items ≡ out.old.items ++ unlock_text unlock.now }
+    ensures room { array_vec_len out.new ≡ array_vec_len out.old + length (unlock_text unlock.now) }
+{
+    match unlock {
+        Unlock::Sig(issuer) => put_number_function(b"SIG(", *issuer, out),
+        Unlock::Xhx(password) => put_function(b"XHX(", password.as_slice(), out),
+    }
+}
+
+fn put_list(list: &[Unlock], out: &mut Line)
+    requires { array_vec_len out.old + length (joined (codes " ") (map unlock_text list.now)) ≤ 2048 }
+    ensures text { out.new.items ≡ out.old.items ++ joined (codes " ") (map unlock_text list.now) }
+    ensures room { array_vec_len out.new ≡ array_vec_len out.old + length (joined (codes " ") (map unlock_text list.now)) }
+{
+    let mut first = true;
+    for unlock in list {
+        put_between(first, b" ", out);
+        first = false;
+        put_one(unlock, out);
+    }
+}
+
+/// Appends the line's text. The line is in range, and `out` has 1,100 free places. It takes no memory.
+pub fn put_unlock(unlock: &UnlockLine, out: &mut Line)
+    requires valid { IsUnlockLine unlock.now }
+    requires room { array_vec_len out.old + 1100 ≤ 2048 }
+    ensures text { out.new.items ≡ out.old.items ++ unlock_line_text unlock.now }
+    ensures room { array_vec_len out.new ≤ array_vec_len out.old + 1000 }
+{
+    put_number(unlock.input as u128, out);
+    put_bytes(out, b":");
+    put_list(unlock.list.as_slice(), out);
 }
