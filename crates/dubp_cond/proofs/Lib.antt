@@ -12,3 +12,4 @@ pub mod Loops
 pub mod ItemSteps
 pub mod UpToLoops
 pub mod Tails
+pub mod LineEnds

@@ -9,6 +9,8 @@ mod output;
 mod passing;
 mod reading;
 mod source;
+#[cfg(test)]
+mod tests;
 mod tree;
 mod truth;
 mod tx;
