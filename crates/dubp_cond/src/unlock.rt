@@ -10,7 +10,7 @@ ghost use Rattle.dubp_cond.specs.declared.unlock.UnlockLine.{UnlockLine as Unloc
 
 use crate::cursor::Cursor;
 use crate::memory::{copied, push};
-use crate::writing::{put_between, put_function, put_number_function};
+use crate::writing::{put_function, put_number_function};
 use dubp_atoms::{Items, Line, NoMemory, cut, put_bytes, put_number, read_number};
 use std::alloc::Global;
 
@@ -152,16 +152,17 @@ fn put_one(unlock: &Unlock, out: &mut Line)
     }
 }
 
+#[tactic(auto, using(crate::proofs::Tails::joined_tail))]
 fn put_list(list: &[Unlock], out: &mut Line)
     requires { array_vec_len out.old + length (joined (codes " ") (map unlock_text list.now)) ≤ 2048 }
     ensures text { out.new.items ≡ out.old.items ++ joined (codes " ") (map unlock_text list.now) }
     ensures room { array_vec_len out.new ≡ array_vec_len out.old + length (joined (codes " ") (map unlock_text list.now)) }
 {
-    let mut first = true;
+    let mut before: &[u8] = b"";
     for unlock in list {
-        put_between(first, b" ", out);
-        first = false;
+        put_bytes(out, before);
         put_one(unlock, out);
+        before = b" ";
     }
 }
 

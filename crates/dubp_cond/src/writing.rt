@@ -1,4 +1,4 @@
-ghost use Rattle.std.specs.Prelude.{◌≡◌, ◌+◌, ◌≤◌, ◌++◌, [], length, if◌then◌else◌, codes, decimal};
+ghost use Rattle.std.specs.Prelude.{◌≡◌, ◌+◌, ◌≤◌, ◌++◌, length, codes, decimal};
 ghost use Rattle.arrayvec.specs.ArrayVec.{array_vec_len};
 ghost use Rattle.dubp_cond.specs.Conditions.{item_text, all_text, cond_text, IsCond};
 ghost use Rattle.dubp_cond.specs.View.{item_tree, all_tree};
@@ -6,17 +6,6 @@ ghost use Rattle.dubp_cond.specs.View.{item_tree, all_tree};
 use crate::tree::{All, Cond, Item};
 use dubp_atoms::{Line, put_bytes};
 use itoa::Buffer;
-
-/// Appends the word that stands before each value but the first.
-pub fn put_between(first: bool, word: &[u8], out: &mut Line)
-    requires { array_vec_len out.old + length (if first then [] else word.now) ≤ 2048 }
-    ensures text { out.new.items ≡ out.old.items ++ (if first then [] else word.now) }
-    ensures room { array_vec_len out.new ≡ array_vec_len out.old + length (if first then [] else word.now) }
-{
-    if !first {
-        put_bytes(out, word);
-    }
-}
 
 /// Appends a function: its word, what stands in its parentheses, and `)`.
 pub fn put_function(word: &[u8], value: &[u8], out: &mut Line)
@@ -58,31 +47,33 @@ fn put_item(item: &Item, out: &mut Line)
     }
 }
 
+#[tactic(auto, using(crate::proofs::Tails::joined_tail))]
 #[cycle(put)]
 fn put_items(all: &All, out: &mut Line)
     requires { array_vec_len out.old + length (all_text (all_tree all.now)) ≤ 2048 }
     ensures text { out.new.items ≡ out.old.items ++ all_text (all_tree all.now) }
     ensures room { array_vec_len out.new ≡ array_vec_len out.old + length (all_text (all_tree all.now)) }
 {
-    let mut first = true;
+    let mut before: &[u8] = b"";
     for item in &all.every {
-        put_between(first, b" && ", out);
-        first = false;
+        put_bytes(out, before);
         put_item(item, out);
+        before = b" && ";
     }
 }
 
+#[tactic(auto, using(crate::proofs::Tails::joined_tail))]
 #[cycle(put)]
 fn put_alls(cond: &Cond, out: &mut Line)
     requires { array_vec_len out.old + length (cond_text cond.now) ≤ 2048 }
     ensures text { out.new.items ≡ out.old.items ++ cond_text cond.now }
     ensures room { array_vec_len out.new ≡ array_vec_len out.old + length (cond_text cond.now) }
 {
-    let mut first = true;
+    let mut before: &[u8] = b"";
     for all in &cond.any {
-        put_between(first, b" || ", out);
-        first = false;
+        put_bytes(out, before);
         put_items(all, out);
+        before = b" || ";
     }
 }
 

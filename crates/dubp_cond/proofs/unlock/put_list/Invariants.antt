@@ -7,6 +7,6 @@ use Rattle.dubp_cond.proofs.unlock.put_list.Given as goal
 
 abbrev pub invariant-loop-unlock : goal.invariant-loop-unlock
 invariant-loop-unlock l = record {
-  text : l.out.items ++ tail l.first (codes " ") (map unlock_text (drop l.unlock-index l.list)) ≡ l.fn.out.items ++ joined (codes " ") (map unlock_text l.list);
-  room : array_vec_len l.out + length (tail l.first (codes " ") (map unlock_text (drop l.unlock-index l.list))) ≡ array_vec_len l.fn.out + length (joined (codes " ") (map unlock_text l.list));
+  text : l.out.items ++ tail l.before (codes " ") (map unlock_text (drop l.unlock-index l.list)) ≡ l.fn.out.items ++ joined (codes " ") (map unlock_text l.list);
+  room : array_vec_len l.out + length (tail l.before (codes " ") (map unlock_text (drop l.unlock-index l.list))) ≡ array_vec_len l.fn.out + length (joined (codes " ") (map unlock_text l.list));
 }
