@@ -1,4 +1,18 @@
-//! Who may spend a source: conditions, unlocks, sources and transactions.
+//! Who may spend a source: conditions, the unlocks that meet them, sources, and whole transactions.
+//!
+//! A condition is some ALLs, each with its items; a group holds a condition in parentheses and stays in the tree, so each
+//! condition has one spelling. Contracts see a `Cond` as a tree of plain data, and every other type as the record of its
+//! fields, so two transactions are equal where their elements are. `read_..` accepts exactly the spelling, and `put_..` writes
+//! it. `holds` is the truth of a condition, by cases on the tree. Protocol: conditions, unlocks, sources, transactions.
+//!
+//! ```text
+//! let input = read_input(b"100:0:D:4tsFXtKofD6jK8zwLymgXWAoMBzhFx7KNANhtK86mKzA:5")?;
+//! let cond = read_cond(alloc, b"SIG(4tsFXtKofD6jK8zwLymgXWAoMBzhFx7KNANhtK86mKzA) && CSV(3600)")?;
+//! let unlocks = [Unlock::Sig(0)];
+//! let may_spend = holds(&cond, &unlocks, &issuers, now, written);
+//! let mut line: Line = ArrayVec::new();
+//! put_cond(&cond, &mut line);
+//! ```
 #![tactic(auto)]
 
 mod copying;

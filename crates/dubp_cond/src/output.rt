@@ -12,6 +12,8 @@ use dubp_atoms::{Line, NoMemory, cut, put_bytes, put_number, read_number};
 use std::alloc::Global;
 
 /// An OUTPUT: a new source of this amount in units of 10^`base`, and who may spend it.
+///
+/// The amount is below 2^53 and the base at most 15.
 #[derive(Debug, Drop)]
 pub struct Output {
     pub amount: u64,

@@ -71,7 +71,8 @@ fn pass_whole(text: &[u8]) -> bool
     pass_cond(&mut cursor, MAX_GROUPS) && cursor.is_done()
 }
 
-/// Whether the text is a condition's. It takes no memory.
+/// Whether the text is that of a condition, of at most 1,000 characters and with at most 64 groups open at once. It takes no
+/// memory, and a longer text is refused by its length alone.
 pub fn is_cond(text: &[u8]) -> bool
     ensures { IsTrue result ↔ ((c : CondTree) × IsCond c × (text.now ≡ cond_text c)) }
 {

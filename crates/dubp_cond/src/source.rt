@@ -7,9 +7,9 @@ ghost use Rattle.dubp_cond.specs.declared.source.Input.{Input as InputValue};
 use crate::cursor::after;
 use dubp_atoms::{Hash, Key, Line, cut, put_bytes, put_number, read_number};
 
-/// Where a source comes from: the dividend of a member in a block, or an output of a transaction.
+/// Which source: the dividend of a member in a block, or the output of this number, from 0, of a transaction.
 ///
-/// Dividends come before outputs; each are ordered by their fields.
+/// Dividends come before outputs, and each are ordered by their fields. The numbers are below 2^53.
 #[derive(Clone, Copy, Debug, PartialEq, Eq, PartialOrd, Ord, Hash)]
 pub enum SourceId {
     D { key: Key, block: u64 },
@@ -17,6 +17,8 @@ pub enum SourceId {
 }
 
 /// An INPUT: a source that a transaction spends, with its amount in units of 10^`base`.
+///
+/// The amount is below 2^53 and the base at most 15.
 #[derive(Clone, Copy, Debug, PartialEq, Eq)]
 pub struct Input {
     pub amount: u64,
@@ -24,12 +26,19 @@ pub struct Input {
     pub source: SourceId,
 }
 
+/// The greatest base.
+const MAX_BASE: u64 = 15;
+
 /// The base that this text is. None exactly where it is no number from 0 to 15.
 pub fn read_base(text: &[u8]) -> Option<u8>
     ensures { result ≡ base_of text.now }
 {
     let base = read_number(text)?;
-    if base <= 15 { Some(base as u8) } else { None }
+    if base <= MAX_BASE {
+        Some(base as u8)
+    } else {
+        None
+    }
 }
 
 fn read_dividend(text: &[u8]) -> Option<SourceId>

@@ -20,14 +20,19 @@ const MAX_CHARACTERS: usize = 1000;
 /// The most functions of an UNLOCK line.
 const MAX_FUNCTIONS: usize = 8;
 
-/// A function of an UNLOCK line: the signature of an issuer, by its number from 0, or a password.
+/// The most characters of a password.
+const MAX_PASSWORD: usize = 255;
+
+/// A function of an UNLOCK line: the signature of the issuer of this number, from 0, or a password.
+///
+/// A number is below 2^53, and a password has 1 to 255 characters from `!` to `~` other than `(` and `)`.
 #[derive(Debug, Drop)]
 pub enum Unlock {
     Sig(u64),
     Xhx(Items<u8>),
 }
 
-/// An UNLOCK line: what unlocks the input of this number.
+/// An UNLOCK line: what unlocks the input of this number, from 0. It has 1 to 8 functions.
 #[derive(Debug, Drop)]
 pub struct UnlockLine {
     pub input: u64,
@@ -45,7 +50,7 @@ fn all_password_letters(text: &[u8]) -> bool
 fn is_password_text(text: &[u8]) -> bool
     ensures { result ≡ is_password text.now }
 {
-    text.len() >= 1 && text.len() <= 255 && all_password_letters(text)
+    !text.is_empty() && text.len() <= MAX_PASSWORD && all_password_letters(text)
 }
 
 fn read_password(alloc: Global, text: &[u8]) -> Result<Option<Items<u8>>, NoMemory>
@@ -88,7 +93,7 @@ fn take_unlocks(alloc: Global, cursor: &mut Cursor<'_>) -> Result<Option<Vec<Unl
     ensures { IfOk result (λ found. Gives (λ list. list.items) found cursor.new (unlocks_at 8 cursor.old)) }
 {
     let mut list: Vec<Unlock> = Vec::new(alloc);
-    for n in 0..MAX_FUNCTIONS {
+    'functions: while list.len() < MAX_FUNCTIONS {
         let Some(unlock) = take_unlock(alloc, cursor)? else {
             return Ok(None);
         };
