@@ -27,12 +27,12 @@ impl Dec {
         read_dec(text)
     }
 
-    /// Appends its text. The value is in range, and `out` has 200 free places. It takes no memory.
+    /// Appends its text. The value is in range, and `out` has 60 free places. It takes no memory.
     pub fn put(&self, out: &mut Line)
-        requires room { array_vec_len out.old + 200 ≤ 2048 }
+        requires room { array_vec_len out.old + 60 ≤ 2048 }
         requires valid { IsDec self.now }
         ensures text { out.new.items ≡ out.old.items ++ dec_text self.now }
-        ensures room { array_vec_len out.new ≤ array_vec_len out.old + 60 }
+        ensures room { array_vec_len out.new ≤ array_vec_len out.old + 26 }
     {
         if self.places == 0 {
             put_number(self.mantissa as u128, out);

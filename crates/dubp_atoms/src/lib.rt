@@ -26,6 +26,8 @@ mod number;
 mod sig;
 mod stamp;
 mod steps;
+#[cfg(test)]
+mod tests;
 mod text;
 mod uid;
 

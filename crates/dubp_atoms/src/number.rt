@@ -70,19 +70,20 @@ fn signed(text: &[u8]) -> Option<i64>
     }
 }
 
-/// Appends the decimal text. `out` has 60 free places. It takes no memory.
+/// Appends the decimal text. `out` has 40 free places. It takes no memory.
 pub fn put_number(n: u128, out: &mut Line)
-    requires { array_vec_len out.old + 60 ≤ 2048 }
+    requires { array_vec_len out.old + 40 ≤ 2048 }
     ensures text { out.new.items ≡ out.old.items ++ decimal n }
     ensures room { array_vec_len out.new ≤ array_vec_len out.old + 40 }
+    ensures short { n < 2 ^ 53 → array_vec_len out.new ≤ array_vec_len out.old + 16 }
 {
     let mut buffer = Buffer::new();
     put_bytes(out, buffer.format(n).as_bytes());
 }
 
-/// Appends the decimal text. `out` has 60 free places. It takes no memory.
+/// Appends the decimal text. `out` has 40 free places. It takes no memory.
 pub fn put_signed(n: i64, out: &mut Line)
-    requires { array_vec_len out.old + 60 ≤ 2048 }
+    requires { array_vec_len out.old + 40 ≤ 2048 }
     ensures text { out.new.items ≡ out.old.items ++ signed_decimal n }
     ensures room { array_vec_len out.new ≤ array_vec_len out.old + 40 }
 {

@@ -1,0 +1,4 @@
+pub mod Split
+pub mod Taken
+pub mod Valued
+pub mod Written

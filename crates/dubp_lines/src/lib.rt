@@ -1,0 +1,20 @@
+//! Texts of lines: reading line after line with the place of a refusal, and writing them.
+//!
+//! A reader takes a line at each place of its format. `Lines` is seen as the lines that are left and the bytes behind the
+//! last LF; a refusal has how many lines are left, so the number of the refused line follows, and nothing is counted on the
+//! way.
+//!
+//! ```text
+//! let mut lines = Lines::of(text);
+//! lines.take(b"Type: Block")?;
+//! let number = lines.take_number(b"Number: ")?;
+//! ```
+#![tactic(auto)]
+
+mod lines;
+mod refusal;
+mod writing;
+
+pub use lines::{Lines, count_lines, next_line};
+pub use refusal::LineRefusal;
+pub use writing::{put_line, put_number_line, put_signed_line, put_text_line};

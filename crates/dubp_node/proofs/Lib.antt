@@ -1,0 +1,10 @@
+pub mod Cuts
+pub mod Exists
+pub mod Hands
+pub mod Lines
+pub mod RunSteps
+pub mod Serves
+pub mod Sessions
+pub mod Taking
+pub mod TurnCases
+pub mod Wholes

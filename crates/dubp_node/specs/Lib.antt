@@ -1,0 +1,10 @@
+pub mod Entries
+pub mod Cut
+pub mod Turns
+pub mod Deciding
+pub mod Session
+pub mod Serving
+pub mod Run
+pub mod Words
+pub mod Ends
+pub mod Reading

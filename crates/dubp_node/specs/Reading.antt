@@ -1,0 +1,60 @@
+-- What the bytes at hand are of the bytes of the input.
+use Rattle.std.specs.Prelude.{◌≡◌, ℕ, ◌+◌, ◌<◌, ◌≤◌, List, ◌∷◌, ◌++◌, length, drop, Some}
+use Rattle.dubp_node.specs.Entries.{Entry, Line, Frame, text_of, IsWhole, IsText, LF, longest_line, longest_frame}
+use Rattle.dubp_script.specs.Reading.{frame_len}
+use Rattle.dubp_node.specs.Cut.{BeginsNone}
+use Rattle.dubp_node.specs.declared.item.Item.{Item}
+use Rattle.dubp_node.specs.declared.item.Item.TheVariants.{Line as LineAtHand, LongLine as LongLinePast, Frame as FrameAtHand, LongFrame as LongFramePast}
+use Rattle.dubp_node.specs.declared.reading.Phase.{Phase}
+use Rattle.dubp_node.specs.declared.reading.Phase.TheVariants.{Start, LongLine, LongFrame}
+use Rattle.dubp_node.specs.declared.reading.Found.{Found}
+use Rattle.dubp_node.specs.declared.reading.Found.TheVariants.{Got, Pass, Wait}
+
+-- the bytes are a part of a line that is too long, of which the last are at hand
+pub record InLongLine (hand bytes : List ℕ) : Type 0 where
+  pub gone : List ℕ
+  pub bytes_are : bytes ≡ gone ++ hand
+  pub text : IsText gone
+  pub long : longest_line < length gone
+
+-- the bytes are a part of a frame that is too long, of which the last are at hand, and `left` more than `gone` end it
+pub record InLongFrame (left : ℕ) (hand bytes : List ℕ) : Type 0 where
+  pub head : List ℕ
+  pub gone : List ℕ
+  pub len : ℕ
+  pub bytes_are : bytes ≡ head ++ LF ∷ (gone ++ hand)
+  pub text : IsText head
+  pub len_is : frame_len head ≡ Some len
+  pub long : longest_frame < len
+  pub left_is : length gone + left ≡ len + 1
+  pub some : 0 < left
+
+abbrev pub Stands : Phase → List ℕ → List ℕ → Type 0
+Stands Start hand bytes = bytes ≡ hand
+Stands LongLine hand bytes = InLongLine hand bytes
+Stands (LongFrame left) hand bytes = InLongFrame left hand bytes
+
+-- what is at hand of a command, or was read past, is of this command
+abbrev pub Shows : Item → Entry → Type 0
+Shows (LineAtHand text) command = command ≡ Line text.now
+Shows LongLinePast command = (text : List ℕ) × (command ≡ Line text) × (longest_line < length text)
+Shows (FrameAtHand payload last) command = (head : List ℕ) × (command ≡ Frame head payload.now last)
+Shows (LongFramePast last) command = (head : List ℕ) × (payload : List ℕ) × (command ≡ Frame head payload last) × (longest_frame < length payload)
+
+-- the bytes begin with the command that the item shows
+pub record TakesOne (bytes rest : List ℕ) (item : Item) : Type 0 where
+  pub command : Entry
+  pub bytes_are : bytes ≡ text_of command ++ rest
+  pub whole : IsWhole command
+  pub shows : Shows item command
+
+-- no more than this is kept at hand
+abbrev pub most_kept : ℕ
+most_kept = 1048600
+
+abbrev pub Takes : Phase → List ℕ → Found → Type 0
+Takes phase hand (Got used item) =
+    (0 < used) × (used ≤ length hand) × ((bytes : List ℕ) → Stands phase hand bytes → TakesOne bytes (drop used hand) item)
+Takes phase hand (Pass used next) =
+    (0 < used) × (used ≤ length hand) × ((bytes : List ℕ) → Stands phase hand bytes → Stands next (drop used hand) bytes)
+Takes phase hand Wait = (length hand ≤ most_kept) × ((bytes : List ℕ) → Stands phase hand bytes → BeginsNone bytes)

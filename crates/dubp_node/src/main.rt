@@ -1,0 +1,71 @@
+//! A node of a currency: it reads commands, keeps the chain of accepted blocks, and answers from it.
+//!
+//! `run` is the whole program over any source and sink. `main` gives it the standard streams.
+#![tactic(auto)]
+
+mod hand;
+mod item;
+mod laws;
+mod node;
+mod reading;
+mod run;
+mod serving;
+
+use dubp_outside::{ReadSource, WriteSink};
+pub use laws::cutting;
+pub use node::Node;
+pub use run::{Ending, converse, run as run_program};
+use std::alloc::{AllocError, Global};
+use std::env;
+use std::io::ErrorKind;
+use std::process::ExitCode;
+
+/// The status where there is no room for the words.
+const NO_MEMORY: u8 = 6;
+
+/// The status where the words have no form of the program's.
+const USAGE: u8 = 2;
+
+fn main(rt: HostRuntime) -> ExitCode {
+    ExitCode::from(status(&rt))
+}
+
+// The status of the run over the standard streams.
+fn status(rt: &HostRuntime) -> u8 {
+    let args = match env::args(rt) {
+        Ok(args) => args,
+        Err(error) => return status_of(error.kind()),
+    };
+    let Ok(args) = args.skip(1).collect::<Vec<String>>(rt.alloc()) else {
+        return NO_MEMORY;
+    };
+    let Ok(words) = words(rt.alloc(), &args) else {
+        return NO_MEMORY;
+    };
+    let mut source = ReadSource::new(rt.stdin());
+    let mut sink = WriteSink::new(rt.stdout());
+    let mut node = Node::new(rt.alloc());
+    run_program(
+        rt.alloc(),
+        words.as_slice(),
+        &mut source,
+        &mut sink,
+        &mut node,
+    )
+}
+
+// Words that are no text have no form of the program's.
+fn status_of(kind: ErrorKind) -> u8 {
+    match kind {
+        ErrorKind::OutOfMemory => NO_MEMORY,
+        _ => USAGE,
+    }
+}
+
+fn words<'a>(alloc: Global, args: &'a [String]) -> Result<Vec<&'a str>, AllocError> {
+    let mut words = Vec::new(alloc);
+    for arg in args {
+        words.push(arg.as_str())?;
+    }
+    Ok(words)
+}

@@ -1,0 +1,147 @@
+ghost use Rattle.std.specs.Prelude.{◌≡◌, ◌++◌, [], codes, length, ◌≤◌};
+ghost use Rattle.dubp_node.specs.Turns.{Acts};
+ghost use Rattle.dubp_query.specs.AnswerBytes.{answer_bytes};
+ghost use Rattle.dubp_replay.specs.Answers.{accepted_answer, bad_answer, no_memory_answer, refused_answer};
+ghost use Rattle.dubp_block.specs.Text.{IsBuilt};
+ghost use Rattle.dubp_node.specs.Deciding.{BlockActs, Decided, outcome_text};
+ghost use Rattle.dubp_rules.specs.Table.{code_text};
+
+use arrayvec::ArrayVec;
+use dubp_atoms::{Line, Stamp, Steps, put_bytes};
+use dubp_block::{Block, ReadRefusal, read_block};
+use dubp_ledger::{Ledger, SubmitRefusal};
+use dubp_query::{Answer, answer};
+use dubp_rules::{Rule, code};
+use dubp_script::Command;
+use std::alloc::Global;
+use std::marker::Model;
+use std::sync::ledger::Ledger as StepBook;
+
+/// The raw bytes that a block has at most: rule `X01`.
+pub const LONGEST_FRAME: usize = 1_048_576;
+
+/// The node: it answers commands, one after another.
+///
+/// Contracts see the state that its answers depend on: the chain of accepted blocks.
+#[derive(Drop)]
+pub struct Node {
+    alloc: Global,
+    ledger: Ledger,
+}
+
+impl Model for Node {
+    ghost use Rattle.dubp_replay.specs.Turns.{State};
+
+    ghost Value = { State };
+
+    ghost use Rattle.std.specs.Coded.{codes};
+    ghost use Rattle.dubp_block.specs.contracts.block.Block as block;
+
+    ghost coded = { Prim.hlevel (codes, block.the_row.coded) };
+
+    ghost view = { λ n. record { chain = n.ledger.chain } };
+}
+
+impl Node {
+    /// The node of the empty chain. It takes no memory.
+    pub fn new(alloc: Global) -> Node
+        ensures { result.chain ≡ [] }
+    {
+        Node {
+            alloc,
+            ledger: Ledger::new(alloc),
+        }
+    }
+
+    /// One turn: the answer to a command, and what it changes.
+    ///
+    /// `frame` has the raw bytes that follow a BLOCK whose LEN is at most 1,048,576, and is empty otherwise. A BLOCK of a
+    /// greater LEN is answered `REFUSED X01`. `NOMEM` leaves the node as before; HEAD is never answered so.
+    pub fn act<L: StepBook>(
+        &mut self,
+        command: &Command,
+        frame: &[u8],
+        steps: &mut Steps<L>,
+    ) -> Answer
+        ensures { Acts self.old command.now frame.now (answer_bytes result) self.new }
+    {
+        match command {
+            Command::Block { len } => self.act_block(*len, frame, steps),
+            Command::Ask(query) => match answer(&self.ledger, query) {
+                Ok(answer) => answer,
+                Err(_) => one(b"NOMEM\n"),
+            },
+        }
+    }
+
+    fn act_block<L: StepBook>(&mut self, len: u64, frame: &[u8], steps: &mut Steps<L>) -> Answer
+        ensures { BlockActs self.old len frame.now (answer_bytes result) self.new }
+    {
+        if len > LONGEST_FRAME as u64 {
+            return refused(b"X01");
+        }
+        match read_block(self.alloc, frame) {
+            Ok(block) => self.submit(block, steps),
+            Err(ReadRefusal::Unbuilt) => refused(b"U01"),
+            Err(ReadRefusal::NoMemory) => one(b"NOMEM\n"),
+        }
+    }
+
+    fn submit<L: StepBook>(&mut self, block: Block, steps: &mut Steps<L>) -> Answer
+        requires { IsBuilt block }
+        ensures { Decided self.old block (answer_bytes result) self.new }
+    {
+        outcome_answer(self.ledger.submit(block, steps))
+    }
+}
+
+// `ACCEPTED` and the stamp, the code of the rule that the block breaks, or `NOMEM`. The block is let go.
+fn outcome_answer(outcome: Result<Stamp, SubmitRefusal>) -> Answer
+    ensures { answer_bytes result ≡ outcome_text outcome }
+{
+    match outcome {
+        Ok(stamp) => accepted(&stamp),
+        Err(SubmitRefusal::Refused { rule, block: _ }) => refused(code(rule).as_slice()),
+        Err(SubmitRefusal::NoMemory { block: _ }) => one(b"NOMEM\n"),
+    }
+}
+
+// An answer of one line, whose text and LF this is.
+fn one(text: &[u8]) -> Answer
+    requires { length text.now ≤ 64 }
+    ensures { answer_bytes result ≡ text.now }
+{
+    let mut line: Line = ArrayVec::new();
+    put_bytes(&mut line, text);
+    Answer::One(line)
+}
+
+// `ACCEPTED` and the stamp.
+fn accepted(stamp: &Stamp) -> Answer
+    ensures { answer_bytes result ≡ accepted_answer stamp.now }
+{
+    let mut line: Line = ArrayVec::new();
+    put_bytes(&mut line, b"ACCEPTED ");
+    stamp.put(&mut line);
+    put_bytes(&mut line, b"\n");
+    Answer::One(line)
+}
+
+/// `REFUSED` and a code of at most 64 bytes.
+pub fn refused(code: &[u8]) -> Answer
+    requires { length code.now ≤ 64 }
+    ensures { answer_bytes result ≡ refused_answer code.now }
+{
+    let mut line: Line = ArrayVec::new();
+    put_bytes(&mut line, b"REFUSED ");
+    put_bytes(&mut line, code);
+    put_bytes(&mut line, b"\n");
+    Answer::One(line)
+}
+
+/// `BAD`: the answer to a line that is no command, and to a frame that does not end with LF.
+pub fn bad() -> Answer
+    ensures { answer_bytes result ≡ bad_answer }
+{
+    one(b"BAD\n")
+}

@@ -1,0 +1,173 @@
+ghost use Rattle.std.specs.Prelude.{◌≡◌, ◌+◌, ◌-◌, ◌≤◌, ◌++◌, List, ℕ, length, drop, IfOk, OnOk, OnErr, ◌<◌};
+ghost use Rattle.dubp_outside.specs.Causes.{HasCause};
+ghost use Rattle.dubp_node.specs.Cut.{BeginsNone, lacking};
+ghost use Rattle.dubp_node.specs.Entries.{Entry, Frame as frame_entry, IsWhole, Line as line_entry, longest_frame};
+ghost use Rattle.dubp_node.specs.Turns.{Turn};
+ghost use Rattle.dubp_query.specs.AnswerBytes.{answer_bytes};
+ghost use Rattle.dubp_replay.specs.Turns.{State};
+ghost use Rattle.dubp_node.specs.Session.{Broke};
+ghost use Rattle.dubp_node.specs.Reading.{Shows, Stands, most_kept};
+ghost use Rattle.dubp_node.specs.Serving.{TurnWritten, TurnBroke, ServedAll, Finished};
+
+use crate::item::Item;
+use crate::node::{Node, bad, refused};
+use crate::reading::{Found, LONGEST_LINE, Phase, line_end, take_one};
+use dubp_atoms::Steps;
+use dubp_outside::{Failed, Sink, write_whole};
+use dubp_query::Answer;
+use dubp_script::{Command, frame_len, read_command};
+use std::sync::ledger::Ledger;
+
+/// The node takes its turn, and the answer is written.
+fn take_turn<K: Sink, L: Ledger>(
+    node: &mut Node,
+    sink: &mut K,
+    item: Item<'_>,
+    steps: &mut Steps<L>,
+) -> Result<(), Failed>
+    ensures written { OnOk result (TurnWritten node.old node.new (K.held sink.old) (K.held sink.new) item.entry) }
+    ensures broke { OnErr result (TurnBroke node.old node.new (K.held sink.old) (K.held sink.new) item.entry) }
+    ensures cause { HasCause (K.faults sink.old) (K.faults sink.new) result }
+{
+    let answer = answer_item(node, item, steps);
+    write_whole(sink, answer.as_bytes())
+}
+
+// The answer to an entry.
+fn answer_item<L: Ledger>(node: &mut Node, item: Item<'_>, steps: &mut Steps<L>) -> Answer
+    ensures { (entry : Entry) → IsWhole entry → Shows item.entry entry → Turn node.old entry (answer_bytes result) node.new }
+{
+    match item {
+        Item::Line(line) => answer_line(node, line, steps),
+        Item::LongLine => bad(),
+        Item::Frame(frame, last) => answer_frame(node, frame, last, steps),
+        Item::LongFrame(last) => answer_long_frame(last),
+    }
+}
+
+fn answer_line<L: Ledger>(node: &mut Node, line: &[u8], steps: &mut Steps<L>) -> Answer
+    ensures { IsWhole (line_entry line.now) → Turn node.old (line_entry line.now) (answer_bytes result) node.new }
+{
+    if line.len() > LONGEST_LINE {
+        return bad();
+    }
+    match read_command(line) {
+        Some(command) => node.act(&command, b"".as_slice(), steps),
+        None => bad(),
+    }
+}
+
+fn answer_frame<L: Ledger>(node: &mut Node, frame: &[u8], last: u8, steps: &mut Steps<L>) -> Answer
+    ensures { (head : List ℕ) → IsWhole (frame_entry head frame.now last) → Turn node.old (frame_entry head frame.now last) (answer_bytes result) node.new }
+{
+    if last != b'\n' {
+        return bad();
+    }
+    let len = frame.len() as u64;
+    node.act(&Command::Block { len }, frame, steps)
+}
+
+// The frame was read past, and the node is left as it is.
+fn answer_long_frame(last: u8) -> Answer
+    ensures { (old : State) (head payload : List ℕ) → IsWhole (frame_entry head payload last) → longest_frame < length payload → Turn old (frame_entry head payload last) (answer_bytes result) old }
+{
+    if last == b'\n' {
+        refused(b"X01")
+    } else {
+        bad()
+    }
+}
+
+fn skip(bytes: &[u8], count: usize) -> &[u8]
+    requires { count ≤ length bytes.now }
+    ensures { result.now ≡ drop count bytes.now }
+{
+    &bytes[count..]
+}
+
+/// Answers each whole command at hand. Gives how the bytes go on, and how many are left at hand.
+pub fn serve<K: Sink, L: Ledger>(
+    node: &mut Node,
+    sink: &mut K,
+    phase: Phase,
+    hand: &[u8],
+    steps: &mut Steps<L>,
+) -> Result<(Phase, usize), Failed>
+    ensures served { IfOk result (λ r. (bytes : List ℕ) → Stands phase hand.now bytes →
+        ServedAll node.old node.new (K.held sink.old) (K.held sink.new) bytes r.0 (drop (length hand.now - r.1) hand.now)) }
+    ensures left { IfOk result (λ r. (r.1 ≤ length hand.now) × (r.1 ≤ most_kept)) }
+    ensures broke { OnErr result ((bytes : List ℕ) → Stands phase hand.now bytes →
+        Broke node.old node.new (K.held sink.old) (K.held sink.new) bytes) }
+    ensures cause { HasCause (K.faults sink.old) (K.faults sink.new) result }
+{
+    let mut phase = phase;
+    let mut rest = hand;
+    'commands: loop {
+        match take_one(phase, rest) {
+            Found::Wait => return Ok((phase, rest.len())),
+            Found::Pass(used, next) => {
+                phase = next;
+                rest = skip(rest, used);
+            }
+            Found::Got(used, item) => {
+                if let Err(failed) = take_turn(node, sink, item, steps) {
+                    return Err(failed);
+                }
+                phase = Phase::Start;
+                rest = skip(rest, used);
+            }
+        }
+    }
+}
+
+/// Answers the last line where it lacks its LF, at the end of the input. Tells whether no frame was begun.
+pub fn finish<K: Sink, L: Ledger>(
+    node: &mut Node,
+    sink: &mut K,
+    phase: Phase,
+    hand: &[u8],
+    steps: &mut Steps<L>,
+) -> Result<bool, Failed>
+    ensures finished { IfOk result (λ done. (bytes : List ℕ) → Stands phase hand.now bytes → BeginsNone bytes →
+        Finished node.old node.new (K.held sink.old) (K.held sink.new) bytes done) }
+    ensures broke { OnErr result ((bytes : List ℕ) → Stands phase hand.now bytes → BeginsNone bytes →
+        Broke node.old node.new (K.held sink.old) (K.held sink.new) (bytes ++ lacking bytes)) }
+    ensures cause { HasCause (K.faults sink.old) (K.faults sink.new) result }
+{
+    match phase {
+        Phase::LongFrame(_) => Ok(false),
+        Phase::LongLine => {
+            if let Err(failed) = take_turn(node, sink, Item::LongLine, steps) {
+                return Err(failed);
+            }
+            Ok(true)
+        }
+        Phase::Start => finish_line(node, sink, hand, steps),
+    }
+}
+
+fn finish_line<K: Sink, L: Ledger>(
+    node: &mut Node,
+    sink: &mut K,
+    hand: &[u8],
+    steps: &mut Steps<L>,
+) -> Result<bool, Failed>
+    ensures finished { IfOk result (λ done. BeginsNone hand.now →
+        Finished node.old node.new (K.held sink.old) (K.held sink.new) hand.now done) }
+    ensures broke { OnErr result (Broke node.old node.new (K.held sink.old) (K.held sink.new) (hand.now ++ lacking hand.now)) }
+    ensures cause { HasCause (K.faults sink.old) (K.faults sink.new) result }
+{
+    if hand.is_empty() {
+        return Ok(true);
+    }
+    if let Some(_) = line_end(hand) {
+        return Ok(false);
+    }
+    if let Some(_) = frame_len(hand) {
+        return Ok(false);
+    }
+    if let Err(failed) = take_turn(node, sink, Item::Line(hand), steps) {
+        return Err(failed);
+    }
+    Ok(true)
+}

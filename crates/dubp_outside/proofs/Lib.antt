@@ -1,0 +1,3 @@
+mod Copies
+pub mod Known
+mod Pieces

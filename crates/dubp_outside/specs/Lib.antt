@@ -1,0 +1,4 @@
+pub mod Causes
+pub mod Memory
+pub mod Parts
+pub mod Streams

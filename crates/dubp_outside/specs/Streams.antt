@@ -1,0 +1,7 @@
+-- What contracts see of a source or a sink over a reader or a writer of std.
+use Rattle.std.specs.Prelude.{ℕ}
+
+-- the reader or writer, and how often it failed
+pub record StreamState (T : Type 0) : Type 0 where
+  pub inner : T
+  pub faults : ℕ

@@ -1,0 +1,16 @@
+//! The texts of the answers to queries.
+//!
+//! ```text
+//! let answer = answer(&ledger, &Query::Head)?;
+//! sink.write(answer.as_bytes())?;
+//! ```
+#![tactic(auto)]
+
+mod bytes;
+mod lines;
+mod asking;
+
+pub use bytes::Answer;
+pub use dubp_replay::Query;
+pub use lines::head_line;
+pub use asking::answer;

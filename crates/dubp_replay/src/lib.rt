@@ -1,0 +1,11 @@
+//! Definitions on chains: what all answers of the node are said in.
+//!
+//! A chain is a list of blocks, newest first. `specs/` has its head (`Chains`), the rules that a block keeps on it (`Rules`),
+//! the texts of answers (`Answers`) and what each command answers and changes (`Turns`).
+#![tactic(auto)]
+
+mod head;
+mod query;
+
+pub use head::Head;
+pub use query::Query;

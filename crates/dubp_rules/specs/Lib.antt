@@ -1,0 +1,4 @@
+pub mod First
+pub mod FirstLaws
+pub mod Sample
+pub mod Table

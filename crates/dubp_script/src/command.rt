@@ -1,0 +1,10 @@
+use dubp_replay::Query;
+
+/// A command of the input.
+#[derive(Clone, Copy, Debug, PartialEq, Eq)]
+pub enum Command {
+    /// `BLOCK LEN`: a block to be accepted. LEN raw bytes follow, and one byte more.
+    Block { len: u64 },
+    /// A query, which changes nothing.
+    Ask(Query),
+}
