@@ -57,7 +57,7 @@ pub fn put_output(output: &Output, out: &mut Line)
     requires valid { IsOutput output.now }
     requires room { array_vec_len out.old + 1100 ≤ 2048 }
     ensures text { out.new.items ≡ out.old.items ++ output_text output.now }
-    ensures room { array_vec_len out.new ≤ array_vec_len out.old + 1100 }
+    ensures room { array_vec_len out.new ≤ array_vec_len out.old + 1034 }
 {
     put_number(output.amount as u128, out);
     put_bytes(out, b":");

@@ -1,6 +1,6 @@
 ghost use Rattle.std.specs.Prelude.{◌≡◌, ◌+◌, ◌≤◌, ◌++◌, IfSome, Some, option_map};
 ghost use Rattle.arrayvec.specs.ArrayVec.{array_vec_len};
-ghost use Rattle.dubp_cond.specs.Sources.{source_text, input_text, IsInput};
+ghost use Rattle.dubp_cond.specs.Sources.{source_text, IsSource, input_text, IsInput};
 ghost use Rattle.dubp_cond.specs.ReadingLines.{base_of, dividend_of, made_output_of, source_of, input_of};
 ghost use Rattle.dubp_cond.specs.declared.source.Input.{Input as InputValue};
 
@@ -95,9 +95,10 @@ pub fn read_input(line: &[u8]) -> Option<Input>
 }
 
 fn put_source(source: &SourceId, out: &mut Line)
-    requires { array_vec_len out.old + 300 ≤ 2048 }
+    requires valid { IsSource source.now }
+    requires room { array_vec_len out.old + 300 ≤ 2048 }
     ensures text { out.new.items ≡ out.old.items ++ source_text source.now }
-    ensures room { array_vec_len out.new ≤ array_vec_len out.old + 110 }
+    ensures room { array_vec_len out.new ≤ array_vec_len out.old + 83 }
 {
     match source {
         SourceId::D { key, block } => {
@@ -120,7 +121,7 @@ pub fn put_input(input: &Input, out: &mut Line)
     requires valid { IsInput input.now }
     requires room { array_vec_len out.old + 1100 ≤ 2048 }
     ensures text { out.new.items ≡ out.old.items ++ input_text input.now }
-    ensures room { array_vec_len out.new ≤ array_vec_len out.old + 200 }
+    ensures room { array_vec_len out.new ≤ array_vec_len out.old + 117 }
 {
     put_number(input.amount as u128, out);
     put_bytes(out, b":");
