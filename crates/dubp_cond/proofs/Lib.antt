@@ -1,0 +1,15 @@
+pub mod Readers
+pub mod Separated
+pub mod Turns
+pub mod Items
+pub mod Conditions
+pub mod Sources
+pub mod Unlocks
+pub mod Outputs
+pub mod Strips
+pub mod Exact
+pub mod Loops
+pub mod ItemSteps
+pub mod UpToLoops
+pub mod Tails
+pub mod LineEnds

@@ -1,17 +1,10 @@
 -- The tree that a condition of the code is.
-use Rattle.std.specs.Prelude.{List, [], ◌∷◌, map}
-use Rattle.dubp_cond.specs.Tree.{ItemTree, sig, xhx, csv, cltv, group, AllTree, no_items, add_item, CondTree, no_alls, add_all}
+use Rattle.std.specs.Prelude.{List, map}
+use Rattle.dubp_cond.specs.Tree.{ItemTree, sig, xhx, csv, cltv, group, AllTree, CondTree}
+use Rattle.dubp_cond.specs.Lists.{all_of, cond_of}
 use Rattle.dubp_cond.specs.declared.tree.Item.{Item}
 use Rattle.dubp_cond.specs.declared.tree.Item.TheVariants as item
 use Rattle.dubp_cond.specs.declared.tree.All.{All}
-
-abbrev pub all_of : List ItemTree → AllTree
-all_of [] = no_items
-all_of (i ∷ is) = add_item i (all_of is)
-
-abbrev pub cond_of : List AllTree → CondTree
-cond_of [] = no_alls
-cond_of (a ∷ as') = add_all a (cond_of as')
 
 abbrev pub item_tree : Item → ItemTree
 item_tree (item.Sig key) = sig key

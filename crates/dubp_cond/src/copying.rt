@@ -1,24 +1,13 @@
-ghost use Rattle.std.specs.Prelude.{◌≡◌, ◌++◌, ◌∷◌, [], IfOk, OnOk};
+ghost use Rattle.std.specs.Prelude.{◌≡◌, IfOk};
 ghost use Rattle.dubp_cond.specs.View.{item_tree, all_tree};
 
+use crate::memory::{boxed, push};
 use crate::output::Output;
 use crate::tree::{All, Cond, Item};
 use crate::tx::Tx;
 use crate::unlock::{Unlock, UnlockLine};
 use dubp_atoms::{Items, NoMemory};
 use std::alloc::Global;
-
-fn add<T: Drop>(list: &mut Vec<T>, x: T) -> Result<(), NoMemory>
-    ensures { OnOk result (list.new.items ≡ list.old.items ++ x ∷ []) }
-{
-    list.push(x).map_err(|_| NoMemory)
-}
-
-fn boxed(alloc: Global, cond: Cond) -> Result<Box<Cond>, NoMemory>
-    ensures { IfOk result (λ boxed. boxed.value ≡ cond) }
-{
-    Box::new(alloc, cond).map_err(|_| NoMemory)
-}
 
 #[cycle(copy)]
 fn copy_item(alloc: Global, item: &Item) -> Result<Item, NoMemory>
@@ -39,7 +28,7 @@ fn copy_all(alloc: Global, all: &All) -> Result<All, NoMemory>
 {
     let mut every = Vec::new(alloc);
     for item in &all.every {
-        add(&mut every, copy_item(alloc, item)?)?;
+        push(&mut every, copy_item(alloc, item)?)?;
     }
     Ok(All { every })
 }
@@ -51,7 +40,7 @@ pub fn copy_cond(alloc: Global, cond: &Cond) -> Result<Cond, NoMemory>
 {
     let mut any = Vec::new(alloc);
     for all in &cond.any {
-        add(&mut any, copy_all(alloc, all)?)?;
+        push(&mut any, copy_all(alloc, all)?)?;
     }
     Ok(Cond { any })
 }
@@ -70,7 +59,7 @@ fn copy_unlocks(alloc: Global, unlocks: &[Unlock]) -> Result<Vec<Unlock>, NoMemo
 {
     let mut copied = Vec::new(alloc);
     for unlock in unlocks {
-        add(&mut copied, copy_unlock(alloc, unlock)?)?;
+        push(&mut copied, copy_unlock(alloc, unlock)?)?;
     }
     Ok(copied)
 }
@@ -89,7 +78,7 @@ fn copy_unlock_lines(alloc: Global, lines: &[UnlockLine]) -> Result<Vec<UnlockLi
 {
     let mut copied = Vec::new(alloc);
     for line in lines {
-        add(&mut copied, copy_unlock_line(alloc, line)?)?;
+        push(&mut copied, copy_unlock_line(alloc, line)?)?;
     }
     Ok(copied)
 }
@@ -109,7 +98,7 @@ fn copy_outputs(alloc: Global, outputs: &[Output]) -> Result<Vec<Output>, NoMemo
 {
     let mut copied = Vec::new(alloc);
     for output in outputs {
-        add(&mut copied, copy_output(alloc, output)?)?;
+        push(&mut copied, copy_output(alloc, output)?)?;
     }
     Ok(copied)
 }

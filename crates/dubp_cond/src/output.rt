@@ -1,9 +1,67 @@
+ghost use Rattle.std.specs.Prelude.{◌≡◌, ◌+◌, ◌≤◌, ◌++◌, Some, IfOk, IfSome};
+ghost use Rattle.arrayvec.specs.ArrayVec.{array_vec_len};
+ghost use Rattle.dubp_cond.specs.Outputs.{output_text, IsOutput};
+ghost use Rattle.dubp_cond.specs.ReadingLines.{output_of};
+ghost use Rattle.dubp_cond.specs.declared.output.Output.{Output as OutputValue};
+
+use crate::reading::read_cond;
+use crate::source::read_base;
 use crate::tree::Cond;
+use crate::writing::put_cond;
+use dubp_atoms::{Line, NoMemory, cut, put_bytes, put_number, read_number};
+use std::alloc::Global;
 
 /// An OUTPUT: a new source of this amount in units of 10^`base`, and who may spend it.
+///
+/// The amount is below 2^53 and the base at most 15.
 #[derive(Debug, Drop)]
 pub struct Output {
     pub amount: u64,
     pub base: u8,
     pub cond: Cond,
+}
+
+#[tactic(auto, unfolding(crate::specs::ReadingLines::output_of))]
+fn read_parts(alloc: Global, line: &[u8]) -> Result<Option<Output>, NoMemory>
+    ensures { IfOk result (λ found. found ≡ output_of line.now) }
+{
+    let Some((amount, rest)) = cut(line, b':') else {
+        return Ok(None);
+    };
+    let Some(amount) = read_number(amount) else {
+        return Ok(None);
+    };
+    let Some((base, cond)) = cut(rest, b':') else {
+        return Ok(None);
+    };
+    let Some(base) = read_base(base) else {
+        return Ok(None);
+    };
+    let Some(cond) = read_cond(alloc, cond)? else {
+        return Ok(None);
+    };
+    Ok(Some(Output { amount, base, cond }))
+}
+
+/// The output that this line is. None exactly where it is the text of none. `NoMemory` where there is no room for it.
+pub fn read_output(alloc: Global, line: &[u8]) -> Result<Option<Output>, NoMemory>
+    ensures found { IfOk result (λ found. IfSome found (λ o. IsOutput o × (line.now ≡ output_text o))) }
+    ensures only { (o : OutputValue) → IsOutput o → line.now ≡ output_text o → IfOk result (λ found. found ≡ Some o) }
+    ensures exact { IfOk result (λ found. found ≡ output_of line.now) }
+{
+    read_parts(alloc, line)
+}
+
+/// Appends the output's text. The output is in range, and `out` has 1,100 free places. It takes no memory.
+pub fn put_output(output: &Output, out: &mut Line)
+    requires valid { IsOutput output.now }
+    requires room { array_vec_len out.old + 1100 ≤ 2048 }
+    ensures text { out.new.items ≡ out.old.items ++ output_text output.now }
+    ensures room { array_vec_len out.new ≤ array_vec_len out.old + 1034 }
+{
+    put_number(output.amount as u128, out);
+    put_bytes(out, b":");
+    put_number(output.base as u128, out);
+    put_bytes(out, b":");
+    put_cond(&output.cond, out);
 }

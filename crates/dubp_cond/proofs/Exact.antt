@@ -1,0 +1,26 @@
+-- What a reading that is the inverse of a spelling gives: the three clauses of a reader, and that different values have
+-- different texts.
+use Rattle.std.proofs.Common.{◌≡◌, ℕ, List, Option, Some, None, Result, Ok, Err, IfOk, sym, ap, ◌∙◌}
+use Rattle.std.specs.Prelude.{IfSome}
+use Rattle.dubp_atoms.proofs.Numbers.{some_is}
+
+module _ {A : Type 0} (read : List ℕ → Option A) (spell : A → List ℕ) (Good : A → Type 0) where
+  pub is_found : ((t : List ℕ) (x : A) → read t ≡ Some x → Good x × (t ≡ spell x)) → (text : List ℕ) (o : Option A) → o ≡ read text → IfSome o (λ x. Good x × (text ≡ spell x))
+  is_found finds text (Some x) e = finds text x (sym e)
+  is_found finds text None e = tt
+
+  pub is_only : ((x : A) → Good x → read (spell x) ≡ Some x) → (text : List ℕ) (o : Option A) → o ≡ read text → (x : A) → Good x → text ≡ spell x → o ≡ Some x
+  is_only again text o e x good is = e ∙ ap read is ∙ again x good
+
+  pub is_found_ok : {E : Type 0} → ((t : List ℕ) (x : A) → read t ≡ Some x → Good x × (t ≡ spell x)) → (text : List ℕ) (r : Result (Option A) E) → IfOk r (λ o. o ≡ read text) →
+      IfOk r (λ o. IfSome o (λ x. Good x × (text ≡ spell x)))
+  is_found_ok finds text (Ok o) h = is_found finds text o h
+  is_found_ok finds text (Err e) h = tt
+
+  pub is_only_ok : {E : Type 0} → ((x : A) → Good x → read (spell x) ≡ Some x) → (text : List ℕ) (r : Result (Option A) E) → IfOk r (λ o. o ≡ read text) →
+      (x : A) → Good x → text ≡ spell x → IfOk r (λ o. o ≡ Some x)
+  is_only_ok again text (Ok o) h x good is = is_only again text o h x good is
+  is_only_ok again text (Err e) h x good is = tt
+
+  pub one_text : ((x : A) → Good x → read (spell x) ≡ Some x) → (x y : A) → Good x → Good y → spell x ≡ spell y → x ≡ y
+  one_text again x y p q e = some_is x y (sym (again x p) ∙ ap read e ∙ again y q)

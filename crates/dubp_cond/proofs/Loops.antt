@@ -1,0 +1,100 @@
+-- What a loop that takes values with a word between each two knows of `separated`.
+use Rattle.std.proofs.Common.{◌≡◌, ℕ, ◌<◌, Bool, true, false, List, [], ◌∷◌, ◌++◌, length, map, Option, Some, None, refl, sym, ap, ◌∙◌, append_assoc, if◌then◌else◌}
+use Rattle.std.proofs.lemmas.List.{map-append}
+use Rattle.dubp_atoms.specs.Reading.{◌>>=◌}
+use Rattle.dubp_cond.specs.Separated.{Read, after, read_map, go_on, separated}
+use Rattle.dubp_cond.specs.Gives.{Gives, left_of, Passes}
+use Rattle.dubp_cond.proofs.Turns.{Shrinks, separated_step}
+
+-- ---- what `take_word` says
+
+pub word_absent : (taken : Bool) (next : List ℕ) (o : Option (List ℕ)) → (if taken then Some next else None) ≡ o → taken ≡ false → o ≡ None
+word_absent false next o h e = sym h
+word_absent true next o h e = absurd cc
+
+pub word_there : (taken : Bool) (next : List ℕ) (o : Option (List ℕ)) → (if taken then Some next else None) ≡ o → taken ≡ true → o ≡ Some next
+word_there true next o h e = sym h
+word_there false next o h e = absurd cc
+
+-- ---- what a function that reads gives
+
+pub given_none : {X A : Type 0} (view : X → A) (o : Option X) (rest : List ℕ) (r : Option (A × List ℕ)) → Gives view o rest r → o ≡ None → r ≡ None
+given_none view None rest r h e = h
+given_none view (Some x) rest r h e = absurd cc
+
+pub given_some : {X A : Type 0} (view : X → A) (o : Option X) (x : X) (rest : List ℕ) (r : Option (A × List ℕ)) → Gives view o rest r → o ≡ Some x → r ≡ Some (view x, rest)
+given_some view None x rest r h e = absurd cc
+given_some view (Some y) x rest r h e = let i : y ≡ x = cc in rw (← i) h
+
+-- what the loop has read, and what is left
+abbrev pub SoFar : {A : Type 0} → Read A → List ℕ → List A → List ℕ → List ℕ → Type 0
+SoFar read word front at self = read_map (λ xs. front ++ xs) (separated read word at) ≡ separated read word self
+
+pub joined_maps : {A : Type 0} (front : List A) (x : A) (r : Option (List A × List ℕ)) → read_map (λ xs. (front ++ x ∷ []) ++ xs) r ≡ read_map (λ xs. front ++ xs) (read_map (λ xs. x ∷ xs) r)
+joined_maps front x None = refl
+joined_maps front x (Some p) = ap (λ v. Some (v, p.1)) (append_assoc front (x ∷ []) p.0)
+
+module _ {A : Type 0} (read : Read A) (short : Shrinks read) (word : List ℕ) (long : 0 < length word) (front : List A) (at self : List ℕ) (so_far : SoFar read word front at self) where
+  fails : read at ≡ None → separated read word self ≡ None
+  fails none = sym so_far ∙ rw (separated_step read word short long at, none) refl
+
+  ends : (x : A) (rest : List ℕ) → read at ≡ Some (x, rest) → after word rest ≡ None → separated read word self ≡ Some (front ++ x ∷ [], rest)
+  ends x rest is none = sym so_far ∙ rw (separated_step read word short long at, is, none) refl
+
+  goes : (x : A) (rest next : List ℕ) → read at ≡ Some (x, rest) → after word rest ≡ Some next → SoFar read word (front ++ x ∷ []) next self
+  goes x rest next is more =
+      joined_maps front x (separated read word next) ∙ ap (read_map (λ xs. front ++ xs)) (sym (rw (separated_step read word short long at, is, more) refl)) ∙ so_far
+
+-- the code's values are seen by a view, and their list is made into one value
+module _ {X A B : Type 0} (read : Read A) (short : Shrinks read) (word : List ℕ) (long : 0 < length word) (view : X → A) (make : List A → B) (items : List X) (at self : List ℕ) where
+  pub loop_fails : SoFar read word (map view items) at self → (o : Option X) (rest : List ℕ) → Gives view o rest (read at) → o ≡ None → read_map make (separated read word self) ≡ None
+  loop_fails so_far o rest gives none = ap (read_map make) (fails read short word long (map view items) at self so_far (given_none view o rest (read at) gives none))
+
+  pub loop_ends : SoFar read word (map view items) at self → (o : Option X) (x : X) (rest next : List ℕ) (taken : Bool) (all : List X) → Gives view o rest (read at) → o ≡ Some x → all ≡ items ++ x ∷ [] →
+      (if taken then Some next else None) ≡ after word rest → taken ≡ false → (taken ≡ false → next ≡ rest) → read_map make (separated read word self) ≡ Some (make (map view all), next)
+  loop_ends so_far o x rest next taken all gives is listed word_is no_more kept =
+      let r = given_some view o x rest (read at) gives is in
+      ap (read_map make) (ends read short word long (map view items) at self so_far (view x) rest r (word_absent taken next (after word rest) word_is no_more))
+      ∙ rw (listed, map-append, kept no_more) refl
+
+  pub loop_goes : SoFar read word (map view items) at self → (o : Option X) (x : X) (rest next : List ℕ) (taken : Bool) (all : List X) → Gives view o rest (read at) → o ≡ Some x → all ≡ items ++ x ∷ [] →
+      (if taken then Some next else None) ≡ after word rest → taken ≡ true → SoFar read word (map view all) next self
+  loop_goes so_far o x rest next taken all gives is listed word_is more =
+      let r = given_some view o x rest (read at) gives is in
+      rw (listed, map-append) (goes read short word long (map view items) at self so_far (view x) rest next r (word_there taken next (after word rest) word_is more))
+
+-- ---- passing is reading without the value
+
+left_of-map : {A B : Type 0} (f : A → B) (r : Option (A × List ℕ)) → left_of (read_map f r) ≡ left_of r
+left_of-map f None = refl
+left_of-map f (Some p) = refl
+
+pub no_value : {A : Type 0} (r : Option (A × List ℕ)) → left_of r ≡ None → r ≡ None
+no_value None h = refl
+no_value (Some p) h = absurd cc
+
+pub a_value : {A : Type 0} (r : Option (A × List ℕ)) (rest : List ℕ) → left_of r ≡ Some rest → (x : A) × (r ≡ Some (x, rest))
+a_value None rest h = absurd cc
+a_value (Some p) rest h = let e : p.1 ≡ rest = cc in (p.0, rw (← e) refl)
+
+module _ {A B : Type 0} (read : Read A) (short : Shrinks read) (word : List ℕ) (long : 0 < length word) (make : List A → B) (at self : List ℕ) (so_far : left_of (separated read word at) ≡ left_of (separated read word self)) where
+  step : left_of (separated read word at) ≡ left_of (read at >>= (λ r. go_on (separated read word) r.0 (after word r.1) r.1))
+  step = ap left_of (separated_step read word short long at)
+
+  back : left_of (read_map make (separated read word self)) ≡ left_of (separated read word at)
+  back = left_of-map make (separated read word self) ∙ sym so_far
+
+  pub pass_fails : (passed : Bool) (rest : List ℕ) → Passes passed rest (read at) → passed ≡ false → left_of (read_map make (separated read word self)) ≡ None
+  pass_fails passed rest passes none = back ∙ step ∙ rw (no_value (read at) (passes ∙ rw none refl)) refl
+
+  pub pass_ends : (passed taken : Bool) (rest next : List ℕ) → Passes passed rest (read at) → passed ≡ true → (if taken then Some next else None) ≡ after word rest → taken ≡ false →
+      (taken ≡ false → next ≡ rest) → left_of (read_map make (separated read word self)) ≡ Some next
+  pass_ends passed taken rest next passes there word_is no_more kept =
+      let v = a_value (read at) rest (passes ∙ rw there refl) in
+      back ∙ step ∙ rw (v.1, word_absent taken next (after word rest) word_is no_more, kept no_more) refl
+
+  pub pass_goes : (passed taken : Bool) (rest next : List ℕ) → Passes passed rest (read at) → passed ≡ true → (if taken then Some next else None) ≡ after word rest → taken ≡ true →
+      left_of (separated read word next) ≡ left_of (separated read word self)
+  pass_goes passed taken rest next passes there word_is more =
+      let v = a_value (read at) rest (passes ∙ rw there refl) in
+      sym (step ∙ rw (v.1, word_there taken next (after word rest) word_is more) (left_of-map (λ xs. v.0 ∷ xs) (separated read word next))) ∙ so_far

@@ -1,0 +1,25 @@
+ghost use Rattle.std.specs.Prelude.{◌≡◌, ◌++◌, ◌∷◌, [], IfOk, OnOk};
+
+use dubp_atoms::NoMemory;
+use std::alloc::Global;
+
+/// Appends a value to a list. `NoMemory` where there is no room for it.
+pub fn push<T: Drop>(list: &mut Vec<T>, value: T) -> Result<(), NoMemory>
+    ensures { OnOk result (list.new.items ≡ list.old.items ++ value ∷ []) }
+{
+    list.push(value).map_err(|_| NoMemory)
+}
+
+/// A value in a box. `NoMemory` where there is no room for it.
+pub fn boxed<T: Drop>(alloc: Global, value: T) -> Result<Box<T>, NoMemory>
+    ensures { IfOk result (λ boxed. boxed.value ≡ value) }
+{
+    Box::new(alloc, value).map_err(|_| NoMemory)
+}
+
+/// The bytes as a list. `NoMemory` where there is no room for it.
+pub fn copied(alloc: Global, bytes: &[u8]) -> Result<Vec<u8>, NoMemory>
+    ensures { IfOk result (λ copied. copied.items ≡ bytes.now) }
+{
+    Vec::from_slice(alloc, bytes).map_err(|_| NoMemory)
+}
