@@ -33,6 +33,7 @@ impl Model for Hand {
 }
 
 impl Hand {
+    /// Room for the longest frame and a piece more, with nothing at hand.
     pub fn new(alloc: Global) -> Result<Hand, AllocError>
         ensures { IfOk result (λ h. h ≡ []) }
     {
@@ -40,6 +41,7 @@ impl Hand {
         Ok(Hand { bytes, len: 0 })
     }
 
+    /// The bytes at hand.
     pub fn bytes(&self) -> &[u8]
         ensures { result.now ≡ self.now }
     {

@@ -15,6 +15,8 @@ pub mod laws;
 mod params;
 mod ranges;
 mod reading;
+#[cfg(test)]
+mod tests;
 mod writing;
 
 pub use params::Params;
