@@ -1,0 +1,4 @@
+pub mod Rows
+pub mod Handicaps
+pub mod Digits
+pub mod Returns
