@@ -1,4 +1,4 @@
--- The difficulty of an issuer for the next block. Protocol: difficulty.
+-- The difficulty of an issuer for the next block. Protocol: difficulty of an issuer.
 use Rattle.std.specs.Prelude.{◌≡◌, ℕ, zero, suc, ◌+◌, ◌*◌, ◌/◌, ◌%◌, ◌^◌, ◌<◌, ◌≤◌, ◌⊎◌, ◌==◌, max, nat_le, if◌then◌else◌}
 use Rattle.dubp_atoms.specs.declared.dec.Dec.{Dec}
 use Rattle.dubp_pow.specs.Ladder.{rung}

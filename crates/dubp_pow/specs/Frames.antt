@@ -1,4 +1,4 @@
--- The frame of blocks over which issuers are counted, and its variation. Protocol: head values.
+-- The frame of blocks over which issuers are counted, and its variation. Protocol: frames.
 use Rattle.std.specs.Prelude.{ℕ, zero, suc, ◌+◌, ◌-◌, max, ℤ, pos, negsuc, ◌+ℤ◌, ◌-ℤ◌, ◌*ℤ◌}
 
 -- one wider where the variation is positive, one narrower where it is negative, never below 1

@@ -1,4 +1,4 @@
--- The table T from which handicaps are read. Protocol: difficulty.
+-- The table T from which handicaps are read. Protocol: difficulty of an issuer.
 use Rattle.std.specs.Prelude.{◌≡◌, ℕ, zero, suc, ◌*◌, ◌<◌, List, [], ◌∷◌, length, slice_index, Bool, true, ◌==◌, ◌&&◌}
 use Rattle.std.specs.Int.{div_ceil}
 

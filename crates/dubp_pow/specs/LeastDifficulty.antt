@@ -1,4 +1,4 @@
--- The least difficulty of a block, from that of the one before. Protocol: head values.
+-- The least difficulty of a block, from that of the one before. Protocol: least difficulty.
 use Rattle.std.specs.Prelude.{ℕ, ◌+◌, ◌-◌, ◌*◌, ◌%◌, Bool, true, false, ◌==◌, nat_le, if◌then◌else◌}
 use Rattle.dubp_params.specs.Ranges.{greatest_gen_time, least_gen_time}
 use Rattle.dubp_params.specs.declared.params.Params.{Params}

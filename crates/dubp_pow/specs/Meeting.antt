@@ -1,4 +1,4 @@
--- Which hashes meet a difficulty. Protocol: difficulty.
+-- Which hashes meet a difficulty. Protocol: meeting a difficulty.
 use Rattle.std.specs.Prelude.{◌≡◌, ℕ, ◌-◌, ◌/◌, ◌%◌, ◌<◌, ◌≤◌, List, take, slice_index, nat_lt, if◌then◌else◌}
 use Rattle.std.specs.List.{All}
 
