@@ -1,3 +1,4 @@
+pub mod Moves
 pub mod Rows
 pub mod Handicaps
 pub mod Digits
