@@ -1,0 +1,20 @@
+//! The re-evaluation of the dividend.
+//!
+//! `next_dividend` is an exact function of whole numbers, and takes no memory. `specs/Reevaluation.antt` defines it in numbers
+//! without a bound, and the code stays within 128 bits. Contracts see `Dividend` as the record of its amount and base.
+//! `docs/PROTOCOL.md`, "Re-evaluation of the dividend", says the same in words.
+//!
+//! ```text
+//! let previous = Dividend { amount: 1000, base: 0 };
+//! let next = next_dividend(previous, 1_000_000, 10, &params)?;
+//! ```
+#![tactic(auto)]
+
+mod dividends;
+mod division;
+mod reevaluation;
+#[cfg(test)]
+mod tests;
+
+pub use dividends::{Dividend, Limit};
+pub use reevaluation::next_dividend;

@@ -1,0 +1,5 @@
+pub mod Moves
+pub mod Rows
+pub mod Handicaps
+pub mod Digits
+pub mod Returns

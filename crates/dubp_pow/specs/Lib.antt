@@ -1,0 +1,5 @@
+pub mod Frames
+pub mod LeastDifficulty
+pub mod Ladder
+pub mod Difficulty
+pub mod Meeting
