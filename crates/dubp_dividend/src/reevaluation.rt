@@ -103,9 +103,8 @@ fn share(numerator: u128, members: u64, params: &Params) -> u128
         return 0;
     }
     let places = params.c.places;
-    div_ceil_by_power(div_ceil_by_power(numerator, places), places).div_ceil(
-        members as u128 * params.dt_reeval as u128,
-    )
+    let scaled = div_ceil_by_power(div_ceil_by_power(numerator, places), places);
+    scaled.div_ceil(members as u128 * params.dt_reeval as u128)
 }
 
 // The amount in this base or the one above, where it is within its limits.
