@@ -100,10 +100,20 @@ fn add(text: &mut Vec<u8>, line: &[u8]) -> Result<(), AllocError> {
 #[test]
 fn unit_bases_up_to_15_are_read(rt: HostRuntime) -> Result<(), Fail> {
     let alloc = rt.alloc();
-    for (line, is_read) in [(b"UnitBase: 15".as_slice(), true), (b"UnitBase: 16".as_slice(), false)] {
+    for (line, is_read) in [
+        (b"UnitBase: 15".as_slice(), true),
+        (b"UnitBase: 16".as_slice(), false),
+    ] {
         let mut text = Vec::new(alloc);
         for old in FIRST_BLOCK.split(|c| *c == b'\n').take(25) {
-            add(&mut text, if old.starts_with(b"UnitBase") { line } else { old })?;
+            add(
+                &mut text,
+                if old.starts_with(b"UnitBase") {
+                    line
+                } else {
+                    old
+                },
+            )?;
         }
         assert_eq!(rt; read_block(alloc, text.as_slice()).is_ok(), is_read);
     }

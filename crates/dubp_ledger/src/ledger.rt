@@ -32,7 +32,7 @@ impl Model for Ledger {
     ghost use Rattle.dubp_replay.specs.Chains.{head_of};
     ghost use Rattle.dubp_replay.specs.Rules.{IsAccepted};
     ghost use Rattle.dubp_rules.specs.First.{FirstOf};
-ghost use Rattle.dubp_ledger.specs.States.{LedgerState};
+    ghost use Rattle.dubp_ledger.specs.States.{LedgerState};
 
     ghost Value = { LedgerState };
 

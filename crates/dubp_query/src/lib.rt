@@ -6,11 +6,11 @@
 //! ```
 #![tactic(auto)]
 
+mod asking;
 mod bytes;
 mod lines;
-mod asking;
 
+pub use asking::answer;
 pub use bytes::Answer;
 pub use dubp_replay::Query;
 pub use lines::head_line;
-pub use asking::answer;
