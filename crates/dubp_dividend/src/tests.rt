@@ -1,3 +1,6 @@
+ghost use Rattle.std.specs.Prelude.{◌≡◌};
+ghost use Rattle.dubp_dividend.specs.Reevaluation.{of_base};
+
 use crate::{Dividend, Limit, next_dividend};
 use dubp_atoms::Dec;
 use dubp_params::{Params, in_range, read_params};
@@ -5,7 +8,9 @@ use dubp_params::{Params, in_range, read_params};
 const TEXT: &[u8] =
     b"0.0488:86400:1000:432000:100:5259600:63115200:5:5259600:5259600:0.8:31557600:5:24:300:12:0.67:1488970800:1490094000:15778800";
 
-fn of_base(amount: u64, base: u8) -> Dividend {
+fn of_base(amount: u64, base: u8) -> Dividend
+    ensures { result ≡ of_base amount base }
+{
     Dividend { amount, base }
 }
 
