@@ -1,0 +1,9 @@
+pub mod Journals
+pub mod Live
+pub mod Maps
+pub mod Past
+pub mod Placing
+pub mod Results
+pub mod Setting
+pub mod Turning
+pub mod Walks
