@@ -1,5 +1,5 @@
 -- What the journal and its marks say: undoing, the maps at the marks, and the room for the ways back and forward.
-use Rattle.std.proofs.Common.{◌≡◌, ℕ, suc, ◌+◌, ◌-◌, ◌<◌, ◌≤◌, List, [], ◌∷◌, ◌++◌, length, get_or, set, take, drop, reverse, Option, Some, None, refl, sym, ap, ◌∙◌, arith, length-append, append-nil}
+use Rattle.std.proofs.Common.{◌≡◌, ℕ, suc, ◌+◌, ◌-◌, ◌<◌, ◌≤◌, List, [], ◌∷◌, ◌++◌, length, get_or, set, take, drop, Option, None, refl, sym, ap, ◌∙◌, arith, length-append, append-nil}
 use Rattle.std.specs.declared.cmp.Ordering.{Ordering}
 use Rattle.std.specs.List.{All, sum}
 use Rattle.std.proofs.lemmas.List.Sums.{sum_by-append, sum_by-cons}
@@ -10,7 +10,7 @@ use Rattle.dubp_undo.specs.MovingTable.{last_count}
 use Rattle.dubp_undo.specs.Rows.{live}
 use Rattle.dubp_undo.specs.Journal.{undo, states, last_changes, IsJournal, HasRoom, IsKept}
 
--- ---- undoing
+-- undoing
 pub length-undo : {V : Type 0} (slots : List (Option V)) (j : List (ℕ × Option V)) → length (undo slots j) ≡ length slots
 length-undo slots [] = refl
 length-undo slots (c ∷ j) = length-set (undo slots j) c.0 c.1 ∙ length-undo slots j
@@ -23,7 +23,7 @@ undo-append slots (c ∷ j) k = ap (λ x. set x c.0 c.1) (undo-append slots j k)
 pub undo-set : {V : Type 0} (slots : List (Option V)) (i : ℕ) (v : Option V) → undo (set slots i v) ((i, get_or slots i None) ∷ []) ≡ slots
 undo-set slots i v = set-set slots i v (get_or slots i None) ∙ set-get_or slots i None
 
--- ---- the marks
+-- the marks
 pub sum_cons : (n : ℕ) (ns : List ℕ) → sum (n ∷ ns) ≡ n + sum ns
 sum_cons n ns = sum_by-cons (λ x. x) n ns
 
@@ -56,7 +56,7 @@ last_changes-more marks i n len all lt is =
     let whole : drop (length marks - (i + 1)) marks ≡ n ∷ drop (length marks - i) marks = cc in
     ap sum whole ∙ sum_cons n (drop (length marks - i) marks) ∙ omega arith
 
--- ---- the maps at the marks
+-- the maps at the marks
 pub length-states : {K V : Type 0} (rows : List (K × ℕ)) (slots : List (Option V)) (j : List (ℕ × Option V)) (marks : List ℕ) → length (states rows slots j marks) ≡ length marks
 length-states rows slots j [] = refl
 length-states rows slots j (n ∷ marks) = ap suc (length-states rows slots (drop n j) marks)
@@ -76,7 +76,7 @@ last_count-states rows slots j [] n = refl
 last_count-states rows slots j (m ∷ []) n = refl
 last_count-states rows slots j (m ∷ x ∷ marks) n = last_count-states rows slots (drop m j) (x ∷ marks) n
 
--- ---- the last segment
+-- the last segment
 pub parted : {X : Type 0} (j : List X) (n : ℕ) → n ≤ length j → record { whole : j ≡ take (length j - n) j ++ drop (length j - n) j; front : length (take (length j - n) j) ≡ length j - n; back : length (drop (length j - n) j) ≡ n }
 parted j n le = record { whole = sym (take-append-drop (length j - n) j); front = length-take (length j - n) j ∙ omega arith; back = length-drop (length j - n) j ∙ omega arith }
 
@@ -99,7 +99,7 @@ last_state rows slots m j marks n ok =
 pub push_journal : {V : Type 0} (n : ℕ) (j k : List (ℕ × Option V)) (marks : List ℕ) (m : ℕ) → IsJournal n j marks → All (λ c. c.0 < n) k → length k ≡ m → IsJournal n (j ++ k) (marks ++ m ∷ [])
 push_journal n j k marks m ok all is = record { within = All-append (λ c. c.0 < n) j k ok.within all; divided = sum_push marks m ∙ omega (arith, length-append j k, ok.divided) }
 
--- ---- the room
+-- the room
 -- no way forward is promised
 pub no_spare : {V : Type 0} (j redo : List (ℕ × Option V)) (marks redo_marks : List ℕ) (jr mr rr rmr : ℕ) → length j + length redo ≤ jr → length marks + length redo_marks ≤ mr → length redo ≤ rr → length redo_marks ≤ rmr → HasRoom j redo marks redo_marks 0 jr mr rr rmr
 no_spare j redo marks redo_marks jr mr rr rmr a b c d = record { back = a; back_marks = b; few = omega arith; forward = omega (arith, last_changes-none marks); forward_marks = omega arith }

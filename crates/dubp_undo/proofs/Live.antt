@@ -1,5 +1,5 @@
 -- The map that slots hold: what it has at a key, and the order of its keys.
-use Rattle.std.proofs.Common.{◌≡◌, ℕ, ◌<◌, ◌≤◌, Bool, true, false, cond, List, [], ◌∷◌, ◌++◌, length, get_or, Option, Some, None, refl, sym, ap, ◌∙◌, arith}
+use Rattle.std.proofs.Common.{◌≡◌, ℕ, ◌<◌, ◌≤◌, Bool, true, false, cond, List, [], ◌∷◌, length, get_or, Option, Some, None, refl, sym, ap, ◌∙◌, arith}
 use Rattle.std.specs.Prelude.{IfSome}
 use Rattle.std.specs.declared.cmp.Ordering.{Ordering}
 use Rattle.std.specs.declared.cmp.Ordering.TheVariants.{Less}
@@ -7,7 +7,6 @@ use Rattle.std.specs.Cmp.{IsTotalOrder, IsEquivalence, eq_by_cmp_equiv}
 use Rattle.std.specs.List.{IsDistinct, AllByRecursion, filter}
 use Rattle.std.specs.List.Sorted.{IsStrictlySortedBy}
 use Rattle.std.specs.Map.{keys_of, lookup}
-use Rattle.std.specs.BTreeMap.{is_at}
 use Rattle.std.proofs.lemmas.Map.{NonePasses, lookup-none}
 use Rattle.std.proofs.lemmas.Map.Entries.{none_past_head}
 use Rattle.std.proofs.lemmas.Map.Keys.{IsDistinct-from_sorted, IsDistinct-tail}
@@ -19,7 +18,7 @@ abbrev pub held : {V : Type 0} → List (Option V) → Option ℕ → Option V
 held slots None = None
 held slots (Some i) = get_or slots i None
 
--- ---- the value at a key
+-- the value at a key
 none_entry : {K V : Type 0} (test : K → Bool) (k : K) (o : Option V) (rest : List (K × V)) → test k ≡ false → NonePasses test rest → NonePasses test (entry k o rest)
 none_entry test k None rest e n = n
 none_entry test k (Some v) rest e n = (e, n)
@@ -49,7 +48,7 @@ module _ {K V : Type 0} {eq : K → K → Bool} (laws : IsEquivalence eq) where
 pub get-live : {K V : Type 0} {cmp : K → K → Ordering} (o : IsTotalOrder cmp) (k : K) (rows : List (K × ℕ)) (slots : List (Option V)) → AreRows cmp rows → get cmp (live rows slots) k ≡ held slots (slot_of cmp rows k)
 get-live {cmp = cmp} o k rows slots a = lookup-live (eq_by_cmp_equiv o) k rows slots (IsDistinct-from_sorted cmp (keys_of rows) a.ordered)
 
--- ---- the slot of a key
+-- the slot of a key
 slot_cases : (n : ℕ) (b : Bool) (j : ℕ) (o : Option ℕ) (i : ℕ) → j < n → ((i : ℕ) → o ≡ Some i → i < n) → cond b (Some j) o ≡ Some i → i < n
 slot_cases n true j o i w f p = let is : j ≡ i = cc in rw (← is) w
 slot_cases n false j o i w f p = f i p
@@ -66,7 +65,7 @@ pub found_within : {K : Type 0} (test : K → Bool) (rows : List (K × ℕ)) (r 
 found_within test rows None is w = tt
 found_within test rows (Some i) is w = slot_within test (length rows) rows i w (sym is)
 
--- ---- the order of the keys
+-- the order of the keys
 all_entry : {K V : Type 0} (P : K → Type 0) (k : K) (o : Option V) (rest : List (K × V)) → P k → AllByRecursion P (keys_of rest) → AllByRecursion P (keys_of (entry k o rest))
 all_entry P k None rest p a = a
 all_entry P k (Some v) rest p a = (p, a)
@@ -85,7 +84,7 @@ unfolding IsStrictlySortedBy
 sorted_live cmp [] slots o = o
 sorted_live cmp (r ∷ rows) slots o = sorted_entry cmp r.0 (get_or slots r.1 None) (live rows slots) (all_live (λ y. cmp r.0 y ≡ Less) rows slots o.0) (sorted_live cmp rows slots o.1)
 
--- ---- a part of the rows, by a test on their keys
+-- a part of the rows, by a test on their keys
 pub within_filter : {K : Type 0} (n : ℕ) (p : K → Bool) (rows : List (K × ℕ)) → AreWithin n rows → AreWithin n (filter (λ r. p r.0) rows)
 within_filter n p [] w = tt
 within_filter n p (r ∷ rows) w = within_kept (p r.0) (within_filter n p rows w.1)

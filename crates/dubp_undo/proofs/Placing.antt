@@ -1,5 +1,5 @@
 -- A key that gets a new slot, with nothing in it: no map changes.
-use Rattle.std.proofs.Common.{◌≡◌, ℕ, suc, ◌+◌, ◌-◌, ◌<◌, ◌≤◌, Bool, true, false, cond, List, [], ◌∷◌, ◌++◌, length, get_or, set, drop, Option, Some, None, IsSome, is_some, zero, refl, sym, ap, ◌∙◌, inl, inr, ◌⊎◌, arith}
+use Rattle.std.proofs.Common.{◌≡◌, ℕ, suc, ◌+◌, ◌<◌, ◌≤◌, Bool, true, false, cond, List, [], ◌∷◌, ◌++◌, length, get_or, set, drop, Option, Some, None, IsSome, is_some, zero, refl, sym, ap, ◌∙◌, inl, inr, ◌⊎◌, arith}
 use Rattle.std.specs.declared.cmp.Ordering.{Ordering}
 use Rattle.std.specs.declared.cmp.Ordering.TheVariants.{Less, Equal, Greater}
 use Rattle.std.specs.Ordering.{match_ordering}
@@ -17,7 +17,7 @@ use Rattle.dubp_undo.specs.Journal.{undo, states, IsKept}
 use Rattle.dubp_undo.proofs.Journals.{length-undo}
 use Rattle.dubp_undo.proofs.Live.{slot_within, within_le}
 
--- ---- a slot with nothing in it
+-- a slot with nothing in it
 get_or-none : {V : Type 0} (slots : List (Option V)) (i : ℕ) → get_or (slots ++ None ∷ []) i None ≡ get_or slots i None
 get_or-none [] zero = refl
 get_or-none [] (suc i) = refl
@@ -50,7 +50,7 @@ states-rows rows other slots n j [] same le = refl
 states-rows rows other slots n j (m ∷ marks) same le =
     rw (same (undo slots j) (omega (arith, length-undo slots j))) (ap (λ x. (live rows (undo slots j), m) ∷ x) (states-rows rows other slots n (drop m j) marks same le))
 
--- ---- what a table shows is as before
+-- what a table shows is as before
 module _ {K V : Type 0} {cmp : K → K → Ordering} {rows other : List (K × ℕ)} {slots more : List (Option V)} {k : K} (g : Grows cmp rows slots k other more) where
   pub grown_length : length slots ≤ length more
   grown_length = elim g.grown [ inl same ↦ rw same (omega arith) | inr longer ↦ rw longer (omega (arith, length_push slots None)) ]
@@ -95,7 +95,7 @@ module _ {K V : Type 0} {cmp : K → K → Ordering} {rows other : List (K × �
 pub grows_not : {K V : Type 0} {cmp : K → K → Ordering} (rows : List (K × ℕ)) (slots : List (Option V)) (k : K) → AreRows cmp rows → length slots ≡ length rows → Grows cmp rows slots k rows slots
 grows_not rows slots k ok len = record { are_rows = ok; slot_each = len; grown = inl refl; same_maps = λ t le. refl; stay = λ q some. some; only = λ q some. inr some }
 
--- ---- a key that has none gets the next one
+-- a key that has none gets the next one
 module _ {K : Type 0} (cmp : K → K → Ordering) (k : K) (n : ℕ) where
   within_cases : (o : Ordering) (r : K × ℕ) (rows new : List (K × ℕ)) → AreWithin n (r ∷ rows) → AreWithin (n + 1) new → AreWithin (n + 1) (match_ordering o ((k, n) ∷ r ∷ rows) ((r.0, n) ∷ rows) (r ∷ new))
   within_cases Less r rows new w x = (omega arith, within_le n (n + 1) (r ∷ rows) (omega arith) w)

@@ -1,8 +1,8 @@
 -- A slot that is written: the map has the new value at its key alone, and the maps at the marks are as before.
-use Rattle.std.proofs.Common.{◌≡◌, ℕ, suc, ◌+◌, ◌-◌, ◌<◌, ◌≤◌, Bool, true, false, cond, List, [], ◌∷◌, ◌++◌, length, get_or, set, drop, reverse, Option, Some, None, refl, sym, ap, subst, ◌∙◌, inl, inr, arith}
+use Rattle.std.proofs.Common.{◌≡◌, ℕ, suc, ◌+◌, ◌<◌, ◌≤◌, Bool, true, false, cond, List, [], ◌∷◌, ◌++◌, length, get_or, set, drop, reverse, Option, Some, None, refl, sym, ap, subst, ◌∙◌, inl, inr, arith}
 use Rattle.std.specs.declared.cmp.Ordering.{Ordering}
 use Rattle.std.specs.Cmp.{IsTotalOrder, eq_by_cmp_equiv}
-use Rattle.std.specs.List.{All, sum}
+use Rattle.std.specs.List.{sum}
 use Rattle.std.specs.Map.{keys_of, lookup}
 use Rattle.std.specs.BTreeMap.{is_at}
 use Rattle.std.proofs.lemmas.List.{length-set, get_or-set_same, get_or-set_other, drop-append-le, length_push, length-drop}
@@ -15,7 +15,7 @@ use Rattle.dubp_undo.proofs.Journals.{undo-append, undo-set, sum_cons, no_spare}
 use Rattle.dubp_undo.proofs.Live.{held, get-live, slot_within}
 use Rattle.dubp_undo.proofs.Placing.{grown_live, grown_states, grown_old_states, grown_kept, grown_places}
 
--- ---- the last mark
+-- the last mark
 pub bump-push : (marks : List ℕ) (n : ℕ) → bump (marks ++ n ∷ []) ≡ marks ++ (n + 1) ∷ []
 bump-push [] n = refl
 bump-push (m ∷ []) n = refl
@@ -61,7 +61,7 @@ set_kept {slots = slots} {j = j} {marks = marks} k i v old jr' lt room =
       room = no_spare _ _ _ _ _ _ _ _ room (omega (arith, k.room.back_marks, length-bump marks)) (omega (arith, k.room.forward)) (omega (arith, k.room.forward_marks));
     }
 
--- ---- what the map has at each key
+-- what the map has at each key
 lookup-alike : {K X : Type 0} (p q : K → Bool) (rows : List (K × X)) → ((x : K) → p x ≡ q x) → lookup p rows ≡ lookup q rows
 lookup-alike p q [] same = refl
 lookup-alike p q (r ∷ rows) same = rw (same r.0, lookup-alike p q rows same) refl

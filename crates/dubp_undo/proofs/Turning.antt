@@ -18,7 +18,7 @@ use Rattle.dubp_undo.specs.Journal.{undo, redo_of, states, IsKept}
 use Rattle.dubp_undo.proofs.Live.{none_live}
 use Rattle.dubp_undo.proofs.Journals.{length-undo, undo-append, undo-set, sum_push, sum_cons, states-append, length-states, no_spare, last_changes-push, last_count-states, parted, last_few, last_state, push_journal}
 
--- ---- making again what was undone
+-- making again what was undone
 pub length-redo_of : {V : Type 0} (slots : List (Option V)) (j : List (ℕ × Option V)) → length (redo_of slots j) ≡ length j
 length-redo_of slots [] = refl
 length-redo_of slots (c ∷ j) = length_push (redo_of slots j) _ ∙ omega (arith, length-redo_of slots j)
@@ -47,7 +47,7 @@ redo_more slots j i c lt is =
 pub turned : {K V : Type 0} (rows : List (K × ℕ)) (slots : List (Option V)) (seg to : List (ℕ × Option V)) (marks : List ℕ) (n : ℕ) → sum marks ≡ length to → states rows (undo slots seg) (to ++ redo_of slots seg) (marks ++ n ∷ []) ≡ states rows slots to marks ++ (live rows slots, n) ∷ []
 turned rows slots seg to marks n e = states-append rows (undo slots seg) to (redo_of slots seg) marks n e ∙ ap (λ x. states rows x to marks ++ (live rows x, n) ∷ []) (undo-redo_of slots seg)
 
--- ---- slots that the rows cannot tell apart
+-- slots that the rows cannot tell apart
 abbrev pub AreAlike : {K V : Type 0} → List (K × ℕ) → List (Option V) → List (Option V) → Type 0
 AreAlike [] slots t = ⊤
 AreAlike (r ∷ rows) slots t = (get_or slots r.1 None ≡ get_or t r.1 None) × AreAlike rows slots t

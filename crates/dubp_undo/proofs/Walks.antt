@@ -45,7 +45,7 @@ module _ {K V : Type 0} {cmp : K → K → Ordering} (o : IsTotalOrder cmp) wher
     abbrev passing : List (K × V) → List (K × V)
     passing es = filter (λ e. p e.0) es
 
-    -- ---- the first that passes
+    -- the first that passes
     first_least : (e : K × V) (es : List (K × V)) (q : K) (c : Bool) → is_at (cmp q) e.0 ≡ c → AllByRecursion (λ y. cmp e.0 y ≡ Less) (keys_of es) → IsSome (cond c (Some e.1) (get cmp es q)) → IsLeBy cmp e.0 q
     first_least e es q true at all some = ap is_gt (tied_back o q e.0 (tied (cmp q e.0) at))
     first_least e es q false at all some = ap is_gt (above e.0 q es all some)
@@ -79,7 +79,7 @@ module _ {K V : Type 0} {cmp : K → K → Ordering} (o : IsTotalOrder cmp) wher
     least_passing [] f sorted is = cc
     least_passing (e ∷ es) f sorted is = least_cases e es f (p e.0) refl sorted (least_passing es f (sorted_tail cmp e.0 (keys_of es) sorted)) is
 
-    -- ---- none that passes
+    -- none that passes
     none_found : (e : K × V) (es : List (K × V)) (q : K) (c : Bool) → is_at (cmp q) e.0 ≡ c → p e.0 ≡ false → p q ≡ true → get cmp es q ≡ None → cond c (Some e.1) (get cmp es q) ≡ None
     none_found e es q true at fails passes none = cc (alike q e.0 (tied (cmp q e.0) at))
     none_found e es q false at fails passes none = none
@@ -92,7 +92,7 @@ module _ {K V : Type 0} {cmp : K → K → Ordering} (o : IsTotalOrder cmp) wher
     none_passing [] is q pq = refl
     none_passing (e ∷ es) is q pq = none_cases e es (p e.0) refl (none_passing es) is q pq
 
-  -- ---- from a bound on
+  -- from a bound on
   least_of : (from : Bound K) (rows : List (K × ℕ)) (slots : List (Option V)) (r : Option (K × V)) → AreRows cmp rows → slice_get (filter (λ e. range_contains cmp from Unbounded e.0) (live rows slots)) 0 ≡ r → IfSome r (IsLeast cmp (live rows slots) (IsFromStart cmp from))
   least_of from rows slots None ok is = tt
   least_of from rows slots (Some e) ok is =

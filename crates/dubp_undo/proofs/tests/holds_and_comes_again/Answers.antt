@@ -1,4 +1,4 @@
-use Rattle.std.proofs.Common.{◌≡◌, ◌∙◌, ◌++◌, ◌∷◌, [], sym, ap, length, arith}
+use Rattle.std.proofs.Common.{◌∙◌, sym, ap, length, arith}
 use Rattle.std.proofs.lemmas.List.{length_push}
 use Rattle.dubp_undo.specs.MovingTable.{one_more}
 use Rattle.dubp_undo.proofs.Past.{length-one_more, one_more-push, push_same}

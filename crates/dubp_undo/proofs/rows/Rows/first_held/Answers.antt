@@ -1,7 +1,7 @@
-use Rattle.std.proofs.Common.{◌≡◌, ◌∙◌, ◌≤◌, length, refl, slice_get}
+use Rattle.std.proofs.Common.{◌≡◌, ◌∙◌, ◌≤◌, length, refl}
 use Rattle.std.specs.declared.ops.Bound.TheVariants.{Unbounded}
 use Rattle.std.specs.BTreeMap.Range.{range_contains}
-use Rattle.dubp_undo.specs.Rows.{live, rows_from}
+use Rattle.dubp_undo.specs.Rows.{rows_from}
 use Rattle.dubp_undo.proofs.Live.{within_filter, within_le}
 use Rattle.dubp_undo.proofs.rows.Rows.first_held.Goals as goal
 

@@ -1,4 +1,4 @@
-use Rattle.std.proofs.Common.{◌≡◌, ◌∙◌, length, subst, sym, ap, Some, cond}
+use Rattle.std.proofs.Common.{◌≡◌, ◌∙◌, length, subst, ap, Some, cond}
 use Rattle.std.specs.BTreeMap.{is_at, insert_entry}
 use Rattle.dubp_undo.specs.Rows.{AddsRow, slot_of}
 use Rattle.dubp_undo.proofs.Placing.{adds_row}

@@ -1,4 +1,4 @@
-use Rattle.std.proofs.Common.{◌≡◌, ◌<◌, ◌∙◌, length, Option, Some, None, ap, sym, subst}
+use Rattle.std.proofs.Common.{◌<◌, ◌∙◌, length, subst}
 use Rattle.std.specs.Prelude.{IfSome}
 use Rattle.std.specs.BTreeMap.{is_at}
 use Rattle.dubp_undo.proofs.Live.{found_within}
