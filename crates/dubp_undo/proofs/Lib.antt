@@ -1,3 +1,4 @@
+pub mod Alike
 pub mod Journals
 pub mod Live
 pub mod Maps

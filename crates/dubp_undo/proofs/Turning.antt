@@ -1,21 +1,21 @@
 -- What moving the last changes to the other journal does to the maps: back, forth, and without the oldest.
-use Rattle.std.proofs.Common.{◌≡◌, ℕ, suc, ◌+◌, ◌-◌, ◌<◌, ◌≤◌, Bool, List, [], ◌∷◌, ◌++◌, length, get_or, set, take, drop, reverse, Option, Some, None, refl, sym, ap, ◌∙◌, inl, inr, ◌⊎◌, arith, length-append, append-nil}
+use Rattle.std.proofs.Common.{◌≡◌, ℕ, suc, ◌+◌, ◌-◌, ◌<◌, ◌≤◌, Bool, true, false, cond, List, [], ◌∷◌, ◌++◌, length, get_or, set, take, drop, reverse, Option, Some, None, refl, sym, ap, ◌∙◌, inl, inr, ◌⊎◌, arith, length-append, append-nil}
 use Rattle.std.specs.Prelude.{⊤}
 use Rattle.std.specs.declared.cmp.Ordering.{Ordering}
 use Rattle.std.specs.Cmp.{IsTotalOrder, IsEquivalence, eq_by_cmp_equiv}
 use Rattle.std.specs.List.{All, sum, IsDistinct}
-use Rattle.std.specs.Map.{keys_of}
+use Rattle.std.specs.Map.{keys_of, lookup}
 use Rattle.std.proofs.lemmas.List.{length-reverse, reverse-append, get_or-take, take-take, get_or-set_same, get_or-set_other, length-drop, length-take, length_push}
 use Rattle.std.proofs.lemmas.List.Elements.{All-head, All-tail, All-push, All-drop}
-use Rattle.std.proofs.lemmas.Map.{NonePasses}
+use Rattle.std.proofs.lemmas.Map.{lookup-none}
 use Rattle.std.proofs.lemmas.Map.Entries.{none_past_head}
 use Rattle.std.proofs.lemmas.Map.Keys.{IsDistinct-from_sorted, IsDistinct-tail}
 use Rattle.std.proofs.lemmas.Bool.{cases_eq}
 use Rattle.std.proofs.Math.Seq.{drop-cons}
-use Rattle.dubp_undo.specs.MovingTable.{last_count}
-use Rattle.dubp_undo.specs.Rows.{entry, live}
+use Rattle.dubp_undo.specs.MovingTable.{last_count, SameValues}
+use Rattle.dubp_undo.specs.Rows.{live, AreRows}
 use Rattle.dubp_undo.specs.Journal.{undo, redo_of, states, IsKept}
-use Rattle.dubp_undo.proofs.Live.{none_live}
+use Rattle.dubp_undo.proofs.Alike.{alike_live, alike_undo, alike_states, alike_from_values}
 use Rattle.dubp_undo.proofs.Journals.{length-undo, undo-append, undo-set, sum_push, sum_cons, states-append, length-states, no_spare, last_changes-push, last_count-states, parted, last_few, last_state, push_journal}
 
 -- making again what was undone
@@ -46,55 +46,6 @@ redo_more slots j i c lt is =
 -- the changes of seg, undone and noted after those of `to`
 pub turned : {K V : Type 0} (rows : List (K × ℕ)) (slots : List (Option V)) (seg to : List (ℕ × Option V)) (marks : List ℕ) (n : ℕ) → sum marks ≡ length to → states rows (undo slots seg) (to ++ redo_of slots seg) (marks ++ n ∷ []) ≡ states rows slots to marks ++ (live rows slots, n) ∷ []
 turned rows slots seg to marks n e = states-append rows (undo slots seg) to (redo_of slots seg) marks n e ∙ ap (λ x. states rows x to marks ++ (live rows x, n) ∷ []) (undo-redo_of slots seg)
-
--- slots that the rows cannot tell apart
-abbrev pub AreAlike : {K V : Type 0} → List (K × ℕ) → List (Option V) → List (Option V) → Type 0
-AreAlike [] slots t = ⊤
-AreAlike (r ∷ rows) slots t = (get_or slots r.1 None ≡ get_or t r.1 None) × AreAlike rows slots t
-
-pub alike_live : {K V : Type 0} (rows : List (K × ℕ)) (slots t : List (Option V)) → AreAlike rows slots t → live rows slots ≡ live rows t
-alike_live [] slots t a = refl
-alike_live (r ∷ rows) slots t a = rw (a.0, alike_live rows slots t a.1) refl
-
-alike_set : {K V : Type 0} (rows : List (K × ℕ)) (slots t : List (Option V)) (i : ℕ) (v : Option V) → i < length slots → i < length t → AreAlike rows slots t → AreAlike rows (set slots i v) (set t i v)
-alike_set [] slots t i v p q a = tt
-alike_set (r ∷ rows) slots t i v p q a = (
-  elim (cases_eq r.1 i) [
-    | inl same ↦ rw (same, get_or-set_same slots i v None p, get_or-set_same t i v None q) refl
-    | inr other ↦ get_or-set_other slots i r.1 v None other ∙ a.0 ∙ sym (get_or-set_other t i r.1 v None other)
-  ],
-  alike_set rows slots t i v p q a.1,
-)
-
-pub alike_undo : {K V : Type 0} (rows : List (K × ℕ)) (slots t : List (Option V)) (j : List (ℕ × Option V)) → All (λ c. c.0 < length t) j → length t ≤ length slots → AreAlike rows slots t → AreAlike rows (undo slots j) (undo t j)
-alike_undo rows slots t [] all le a = a
-alike_undo rows slots t (c ∷ j) all le a =
-    let here = All-head (λ c. c.0 < length t) c j all in
-    alike_set rows (undo slots j) (undo t j) c.0 c.1 (omega (arith, length-undo slots j, here)) (omega (arith, length-undo t j, here)) (alike_undo rows slots t j (All-tail (λ c. c.0 < length t) c j all) le a)
-
-pub alike_states : {K V : Type 0} (rows : List (K × ℕ)) (slots t : List (Option V)) (j : List (ℕ × Option V)) (marks : List ℕ) → All (λ c. c.0 < length t) j → length t ≤ length slots → AreAlike rows slots t → states rows slots j marks ≡ states rows t j marks
-alike_states rows slots t j [] all le a = refl
-alike_states rows slots t j (n ∷ marks) all le a =
-    rw (alike_live rows (undo slots j) (undo t j) (alike_undo rows slots t j all le a)) (ap (λ x. (live rows (undo t j), n) ∷ x) (alike_states rows slots t (drop n j) marks (All-drop (λ c. c.0 < length t) n j all) le a))
-
-first_value : {K V : Type 0} → List (K × V) → Option V
-first_value [] = None
-first_value (e ∷ es) = Some e.1
-
-module _ {K V : Type 0} {E : K → K → Bool} (laws : IsEquivalence E) where
-  alike_entries : (k : K) (a b : Option V) (x y : List (K × V)) → NonePasses (E k) x → NonePasses (E k) y → entry k a x ≡ entry k b y → (a ≡ b) × (x ≡ y)
-  unfolding first_value
-  alike_entries k None None x y p q e = (refl, e)
-  alike_entries k (Some v) (Some w) x y p q e = (let same : Some v ≡ Some w = ap first_value e in same, cc)
-  alike_entries k None (Some w) x y p q e = let bad : NonePasses (E k) ((k, w) ∷ y) = rw e at p in cc (laws.refl k, bad.0)
-  alike_entries k (Some v) None x y p q e = let bad : NonePasses (E k) ((k, v) ∷ x) = rw (← e) at q in cc (laws.refl k, bad.0)
-
-  pub alike_from_live : (rows : List (K × ℕ)) (slots t : List (Option V)) → IsDistinct E (keys_of rows) → live rows slots ≡ live rows t → AreAlike rows slots t
-  alike_from_live [] slots t d e = tt
-  alike_from_live (r ∷ rows) slots t d e =
-      let none = none_past_head laws r.0 r rows d (laws.refl r.0) in
-      let both = alike_entries r.0 (get_or slots r.1 None) (get_or t r.1 None) (live rows slots) (live rows t) (none_live (E r.0) rows slots none) (none_live (E r.0) rows t none) e in
-      (both.0, alike_from_live rows slots t (IsDistinct-tail E r.0 (keys_of rows) d) both.1)
 
 module _ {K V : Type 0} {cmp : K → K → Ordering} {rows : List (K × ℕ)} {slots root : List (Option V)} {j redo : List (ℕ × Option V)} where
   pub back_kept : (marks redo_marks : List ℕ) (n spare : ℕ) {jr mr rr rmr : ℕ} (k : IsKept cmp rows slots root j redo (marks ++ n ∷ []) redo_marks spare jr mr rr rmr) → IsKept cmp rows (undo slots (drop (length j - n) j)) root (take (length j - n) j) redo marks redo_marks 0 jr mr rr rmr
@@ -157,13 +108,13 @@ module _ {K V : Type 0} {cmp : K → K → Ordering} {rows : List (K × ℕ)} {s
       }
 
   -- the maps ahead, from slots at which they begin
-  same_ahead : {marks redo_marks : List ℕ} {spare jr mr rr rmr : ℕ} → IsTotalOrder cmp → IsKept cmp rows slots root j redo marks redo_marks spare jr mr rr rmr → (reverse (states rows root redo redo_marks) ≡ []) ⊎ (live rows slots ≡ live rows root) → states rows slots redo redo_marks ≡ states rows root redo redo_marks
+  same_ahead : {marks redo_marks : List ℕ} {spare jr mr rr rmr : ℕ} → IsTotalOrder cmp → IsKept cmp rows slots root j redo marks redo_marks spare jr mr rr rmr → (reverse (states rows root redo redo_marks) ≡ []) ⊎ SameValues cmp (live rows slots) (live rows root) → states rows slots redo redo_marks ≡ states rows root redo redo_marks
   same_ahead {redo_marks = []} o k begins = refl
   same_ahead {redo_marks = m ∷ ms} o k (inl none) =
       let n = length-reverse (states rows root redo (m ∷ ms)) in
       absurd (omega (arith, n, ap length none, length-states rows root redo (m ∷ ms)))
   same_ahead {redo_marks = m ∷ ms} o k (inr same) =
-      alike_states rows slots root redo (m ∷ ms) k.forward_ok.within k.root_fits (alike_from_live (eq_by_cmp_equiv o) rows slots root (IsDistinct-from_sorted cmp (keys_of rows) k.rows_ok.ordered) same)
+      alike_states rows slots root redo (m ∷ ms) k.forward_ok.within k.root_fits (alike_from_values o rows slots root k.rows_ok same)
 
   -- what `back` does, where all marks are `marks` and then n
   pub back_parts : (all marks redo_marks : List ℕ) (n spare : ℕ) {jr mr rr rmr : ℕ} → all ≡ marks ++ n ∷ [] → IsKept cmp rows slots root j redo all redo_marks spare jr mr rr rmr → record {
@@ -219,7 +170,7 @@ module _ {K V : Type 0} {cmp : K → K → Ordering} {rows : List (K × ℕ)} {s
       }
 
   -- what `hold` does
-  pub hold_parts : IsTotalOrder cmp → (all marks redo_marks : List ℕ) (n spare before : ℕ) {jr mr rr rmr : ℕ} → all ≡ marks ++ n ∷ [] → before ≡ spare + 1 → IsKept cmp rows slots root j redo all redo_marks before jr mr rr rmr → (reverse (states rows root redo redo_marks) ≡ []) ⊎ (live rows slots ≡ live rows root) → record {
+  pub hold_parts : IsTotalOrder cmp → (all marks redo_marks : List ℕ) (n spare before : ℕ) {jr mr rr rmr : ℕ} → all ≡ marks ++ n ∷ [] → before ≡ spare + 1 → IsKept cmp rows slots root j redo all redo_marks before jr mr rr rmr → (reverse (states rows root redo redo_marks) ≡ []) ⊎ SameValues cmp (live rows slots) (live rows root) → record {
     few : n ≤ length j;
     room : length redo + n ≤ rr;
     marks_room : length redo_marks < rmr;
@@ -243,7 +194,7 @@ module _ {K V : Type 0} {cmp : K → K → Ordering} {rows : List (K × ℕ)} {s
       }
 
   -- what `again` does
-  pub again_parts : IsTotalOrder cmp → (all marks redo_marks : List ℕ) (n spare : ℕ) {jr mr rr rmr : ℕ} → all ≡ redo_marks ++ n ∷ [] → IsKept cmp rows slots root j redo marks all spare jr mr rr rmr → live rows slots ≡ live rows root → record {
+  pub again_parts : IsTotalOrder cmp → (all marks redo_marks : List ℕ) (n spare : ℕ) {jr mr rr rmr : ℕ} → all ≡ redo_marks ++ n ∷ [] → IsKept cmp rows slots root j redo marks all spare jr mr rr rmr → SameValues cmp (live rows slots) (live rows root) → record {
     few : n ≤ length redo;
     within : All (λ c. c.0 < length slots) redo;
     room : length j + n ≤ jr;
@@ -256,7 +207,7 @@ module _ {K V : Type 0} {cmp : K → K → Ordering} {rows : List (K × ℕ)} {s
       let k = rw split at k in
       let l = last_few (length root) redo redo_marks n k.forward_ok in
       let seg = drop (length redo - n) redo in
-      let alike = alike_from_live (eq_by_cmp_equiv o) rows slots root (IsDistinct-from_sorted cmp (keys_of rows) k.rows_ok.ordered) begins in
+      let alike = alike_from_values o rows slots root k.rows_ok begins in
       let after = alike_undo rows slots root seg l.last k.root_fits alike in
       let later = alike_states rows (undo slots seg) (undo root seg) (take (length redo - n) redo) redo_marks (λ i d lt. omega (arith, l.rest.within i d lt, length-undo root seg)) (omega (arith, k.root_fits, length-undo root seg, length-undo slots seg)) after in
       let was = last_state rows root (length root) redo redo_marks n k.forward_ok in

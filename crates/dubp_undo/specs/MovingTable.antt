@@ -44,6 +44,10 @@ module _ {K V : Type 0} where
   abbrev pub Puts : (K → K → Ordering) → List (K × V) → List (K × V) → K → Option V → Type 0
   Puts cmp m n k v = (q : K) → get cmp n q ≡ cond (is_at (cmp q) k) v (get cmp m q)
 
+  -- m and n have the same value at each key
+  abbrev pub SameValues : (K → K → Ordering) → List (K × V) → List (K × V) → Type 0
+  SameValues cmp m n = (q : K) → get cmp m q ≡ get cmp n q
+
   -- one more key was set since the last of the maps
   abbrev pub one_more : List (List (K × V) × ℕ) → List (List (K × V) × ℕ)
   one_more [] = []

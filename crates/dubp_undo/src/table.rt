@@ -2,7 +2,7 @@ ghost use Rattle.std.specs.Prelude.{◌≡◌, ◌⊎◌, ◌+◌, ◌-◌, ◌<
 ghost use Rattle.std.specs.BTreeMap.Range.{IsLeBy};
 ghost use Rattle.std.specs.List.Sorted.{IsStrictlySortedBy};
 ghost use Rattle.std.specs.Map.{keys_of};
-ghost use Rattle.dubp_undo.specs.MovingTable.{MovingTable, empty, IsUnchanged, get, Puts, one_more, last_count, IsLeast, HasNone, IsPlaced, Places, IsAfter};
+ghost use Rattle.dubp_undo.specs.MovingTable.{MovingTable, empty, IsUnchanged, get, Puts, SameValues, one_more, last_count, IsLeast, HasNone, IsPlaced, Places, IsAfter};
 
 use crate::moves::{
     Change, changes_since, drop_first, make_room, move_last, note, place, undo_last,
@@ -234,7 +234,7 @@ impl<K: Ord + Copy, V: Copy + Eq> UndoTable<K, V> {
     pub fn hold<L: Ledger>(&mut self, steps: &mut Steps<L>)
         requires past { 0 < length self.old.past }
         requires spare { 1 ≤ self.old.spare }
-        requires begins { (self.old.ahead ≡ []) ⊎ (self.old.now ≡ self.old.root) }
+        requires begins { (self.old.ahead ≡ []) ⊎ SameValues K.cmp self.old.now self.old.root }
         ensures past { self.old.past ≡ self.new.past ++ (self.new.now, steps.new - steps.old) ∷ [] }
         ensures ahead { self.new.ahead ≡ (self.old.now, steps.new - steps.old) ∷ self.old.ahead }
         ensures root { self.new.root ≡ self.new.now }
@@ -268,7 +268,7 @@ impl<K: Ord + Copy, V: Copy + Eq> UndoTable<K, V> {
     /// memory. One step for each key that was set between the two.
     pub fn again<L: Ledger>(&mut self, steps: &mut Steps<L>)
         requires ahead { 0 < length self.old.ahead }
-        requires begins { self.old.now ≡ self.old.root }
+        requires begins { SameValues K.cmp self.old.now self.old.root }
         ensures past { self.new.past ≡ self.old.past ++ (self.old.now, steps.new - steps.old) ∷ [] }
         ensures ahead { self.old.ahead ≡ (self.new.now, steps.new - steps.old) ∷ self.new.ahead }
         ensures root { self.new.root ≡ self.new.now }

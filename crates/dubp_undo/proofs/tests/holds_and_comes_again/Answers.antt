@@ -1,6 +1,7 @@
 use Rattle.std.proofs.Common.{◌∙◌, sym, ap, length, arith}
 use Rattle.std.proofs.lemmas.List.{length_push}
-use Rattle.dubp_undo.specs.MovingTable.{one_more}
+use Rattle.std.specs.Ordering.{nat_cmp}
+use Rattle.dubp_undo.specs.MovingTable.{get, one_more}
 use Rattle.dubp_undo.proofs.Past.{length-one_more, one_more-push, push_same}
 use Rattle.dubp_undo.proofs.tests.holds_and_comes_again.Goals as goal
 
@@ -12,4 +13,5 @@ pub again-requires-clause-begins : goal.again-requires-clause-begins
 again-requires-clause-begins g c =
     let written = c.in_ok-set-3.ensures.past ∙ ap one_more c.in_ok-mark-3.ensures.past ∙ one_more-push c.hold.new.self.past c.hold.new.self.now 0 in
     let last = (push_same _ _ _ _ (sym c.back.ensures.past ∙ written)).1 in
-    ap (λ x. x.0) last ∙ sym (c.back.ensures.root ∙ c.set-3.ensures.root ∙ c.mark-3.ensures.root ∙ c.hold.ensures.root)
+    let same = ap (λ x. x.0) last ∙ sym (c.back.ensures.root ∙ c.set-3.ensures.root ∙ c.mark-3.ensures.root ∙ c.hold.ensures.root) in
+    λ q. ap (λ m. get nat_cmp m q) same

@@ -1,6 +1,6 @@
 use Rattle.std.proofs.Common.{◌≡◌, ◌∙◌, ◌++◌, ◌∷◌, [], ap, subst, sym, ◌-◌, arith}
 use Rattle.std.specs.Option.{option_to_list}
-use Rattle.dubp_undo.specs.MovingTable.{MovingTable}
+use Rattle.dubp_undo.specs.MovingTable.{MovingTable, SameValues}
 use Rattle.dubp_undo.proofs.Turning.{again_parts}
 use Rattle.dubp_undo.proofs.table.UndoTable.again.Goals as goal
 
@@ -9,7 +9,7 @@ invariant_of-self g c =
     let t = c.self.inside in
     let n = c.unwrap-n.result in
     let split : t.redo_marks.items ≡ c.pop_back.new.self.items ++ n ∷ [] = c.pop_back.ensures.items ∙ ap (λ o. c.pop_back.new.self.items ++ option_to_list o) c.unwrap-n.ensures in
-    let begins = subst (λ (v : MovingTable g.row.K.Denot g.row.V.Denot). v.now ≡ v.root) (sym c.self.view_is) c.requires.begins in
+    let begins = subst (λ (v : MovingTable g.row.K.Denot g.row.V.Denot). SameValues g.K.Ord.cmp v.now v.root) (sym c.self.view_is) c.requires.begins in
     let r = c.move_last.ensures in
     let p = c.push_back_reserved.ensures in
     let parts = again_parts g.met.K.Ord.total t.redo_marks.items t.marks.items c.pop_back.new.self.items n t.spare split c.self.invariant begins in
@@ -20,7 +20,7 @@ returns-clause-past g c =
     let t = c.self.inside in
     let n = c.unwrap-n.result in
     let split : t.redo_marks.items ≡ c.pop_back.new.self.items ++ n ∷ [] = c.pop_back.ensures.items ∙ ap (λ o. c.pop_back.new.self.items ++ option_to_list o) c.unwrap-n.ensures in
-    let begins = subst (λ (v : MovingTable g.row.K.Denot g.row.V.Denot). v.now ≡ v.root) (sym c.self.view_is) c.requires.begins in
+    let begins = subst (λ (v : MovingTable g.row.K.Denot g.row.V.Denot). SameValues g.K.Ord.cmp v.now v.root) (sym c.self.view_is) c.requires.begins in
     let r = c.move_last.ensures in
     let taken : c.move_last.new.steps - c.args.steps.now ≡ n = omega (arith, r.steps) in
     let parts = again_parts g.met.K.Ord.total t.redo_marks.items t.marks.items c.pop_back.new.self.items n t.spare split c.self.invariant begins in
@@ -31,7 +31,7 @@ returns-clause-ahead g c =
     let t = c.self.inside in
     let n = c.unwrap-n.result in
     let split : t.redo_marks.items ≡ c.pop_back.new.self.items ++ n ∷ [] = c.pop_back.ensures.items ∙ ap (λ o. c.pop_back.new.self.items ++ option_to_list o) c.unwrap-n.ensures in
-    let begins = subst (λ (v : MovingTable g.row.K.Denot g.row.V.Denot). v.now ≡ v.root) (sym c.self.view_is) c.requires.begins in
+    let begins = subst (λ (v : MovingTable g.row.K.Denot g.row.V.Denot). SameValues g.K.Ord.cmp v.now v.root) (sym c.self.view_is) c.requires.begins in
     let r = c.move_last.ensures in
     let taken : c.move_last.new.steps - c.args.steps.now ≡ n = omega (arith, r.steps) in
     let parts = again_parts g.met.K.Ord.total t.redo_marks.items t.marks.items c.pop_back.new.self.items n t.spare split c.self.invariant begins in

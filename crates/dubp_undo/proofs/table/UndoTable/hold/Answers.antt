@@ -1,6 +1,6 @@
 use Rattle.std.proofs.Common.{◌≡◌, ◌∙◌, ◌++◌, ◌∷◌, [], ◌⊎◌, ap, subst, sym, ◌-◌, ◌+◌, arith}
 use Rattle.std.specs.Option.{option_to_list}
-use Rattle.dubp_undo.specs.MovingTable.{MovingTable}
+use Rattle.dubp_undo.specs.MovingTable.{MovingTable, SameValues}
 use Rattle.dubp_undo.proofs.Turning.{hold_parts}
 use Rattle.dubp_undo.proofs.table.UndoTable.hold.Goals as goal
 
@@ -10,7 +10,7 @@ move_last-requires-clause-room g c =
     let n = c.unwrap-n.result in
     let split : t.marks.items ≡ c.pop_back.new.self.items ++ n ∷ [] = c.pop_back.ensures.items ∙ ap (λ o. c.pop_back.new.self.items ++ option_to_list o) c.unwrap-n.ensures in
     let less : t.spare ≡ t.spare - 1 + 1 = omega (arith, ap (λ v. v.spare) c.self.view_is, c.requires.spare) in
-    let begins = subst (λ (v : MovingTable g.row.K.Denot g.row.V.Denot). (v.ahead ≡ []) ⊎ (v.now ≡ v.root)) (sym c.self.view_is) c.requires.begins in
+    let begins = subst (λ (v : MovingTable g.row.K.Denot g.row.V.Denot). (v.ahead ≡ []) ⊎ SameValues g.K.Ord.cmp v.now v.root) (sym c.self.view_is) c.requires.begins in
     (hold_parts g.met.K.Ord.total t.marks.items c.pop_back.new.self.items t.redo_marks.items n (t.spare - 1) t.spare split less c.self.invariant begins).room
 
 pub push_back_reserved-requires : goal.push_back_reserved-requires
@@ -24,7 +24,7 @@ invariant_of-self g c =
     let n = c.unwrap-n.result in
     let split : t.marks.items ≡ c.pop_back.new.self.items ++ n ∷ [] = c.pop_back.ensures.items ∙ ap (λ o. c.pop_back.new.self.items ++ option_to_list o) c.unwrap-n.ensures in
     let less : t.spare ≡ t.spare - 1 + 1 = omega (arith, ap (λ v. v.spare) c.self.view_is, c.requires.spare) in
-    let begins = subst (λ (v : MovingTable g.row.K.Denot g.row.V.Denot). (v.ahead ≡ []) ⊎ (v.now ≡ v.root)) (sym c.self.view_is) c.requires.begins in
+    let begins = subst (λ (v : MovingTable g.row.K.Denot g.row.V.Denot). (v.ahead ≡ []) ⊎ SameValues g.K.Ord.cmp v.now v.root) (sym c.self.view_is) c.requires.begins in
     let r = c.move_last.ensures in
     let p = c.push_back_reserved.ensures in
     let parts = hold_parts g.met.K.Ord.total t.marks.items c.pop_back.new.self.items t.redo_marks.items n (t.spare - 1) t.spare split less c.self.invariant begins in
@@ -36,7 +36,7 @@ returns-clause-past g c =
     let n = c.unwrap-n.result in
     let split : t.marks.items ≡ c.pop_back.new.self.items ++ n ∷ [] = c.pop_back.ensures.items ∙ ap (λ o. c.pop_back.new.self.items ++ option_to_list o) c.unwrap-n.ensures in
     let less : t.spare ≡ t.spare - 1 + 1 = omega (arith, ap (λ v. v.spare) c.self.view_is, c.requires.spare) in
-    let begins = subst (λ (v : MovingTable g.row.K.Denot g.row.V.Denot). (v.ahead ≡ []) ⊎ (v.now ≡ v.root)) (sym c.self.view_is) c.requires.begins in
+    let begins = subst (λ (v : MovingTable g.row.K.Denot g.row.V.Denot). (v.ahead ≡ []) ⊎ SameValues g.K.Ord.cmp v.now v.root) (sym c.self.view_is) c.requires.begins in
     let r = c.move_last.ensures in
     let taken : c.move_last.new.steps - c.args.steps.now ≡ n = omega (arith, r.steps) in
     let parts = hold_parts g.met.K.Ord.total t.marks.items c.pop_back.new.self.items t.redo_marks.items n (t.spare - 1) t.spare split less c.self.invariant begins in
@@ -48,7 +48,7 @@ returns-clause-ahead g c =
     let n = c.unwrap-n.result in
     let split : t.marks.items ≡ c.pop_back.new.self.items ++ n ∷ [] = c.pop_back.ensures.items ∙ ap (λ o. c.pop_back.new.self.items ++ option_to_list o) c.unwrap-n.ensures in
     let less : t.spare ≡ t.spare - 1 + 1 = omega (arith, ap (λ v. v.spare) c.self.view_is, c.requires.spare) in
-    let begins = subst (λ (v : MovingTable g.row.K.Denot g.row.V.Denot). (v.ahead ≡ []) ⊎ (v.now ≡ v.root)) (sym c.self.view_is) c.requires.begins in
+    let begins = subst (λ (v : MovingTable g.row.K.Denot g.row.V.Denot). (v.ahead ≡ []) ⊎ SameValues g.K.Ord.cmp v.now v.root) (sym c.self.view_is) c.requires.begins in
     let r = c.move_last.ensures in
     let taken : c.move_last.new.steps - c.args.steps.now ≡ n = omega (arith, r.steps) in
     let parts = hold_parts g.met.K.Ord.total t.marks.items c.pop_back.new.self.items t.redo_marks.items n (t.spare - 1) t.spare split less c.self.invariant begins in
