@@ -15,9 +15,14 @@
 #![tactic(auto)]
 
 mod moves;
+mod both;
+mod leaf;
+pub mod moving;
 mod rows;
 mod table;
 #[cfg(test)]
 mod tests;
 
+pub use both::Both;
+pub use leaf::Leaf;
 pub use table::UndoTable;
