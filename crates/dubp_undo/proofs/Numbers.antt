@@ -2,7 +2,7 @@
 use Rattle.std.proofs.Common.{◌≡◌, ℕ, suc, ◌+◌, ◌-◌, ◌<◌, ◌≤◌, ◌∙◌, List, [], ◌∷◌, ◌++◌, length, drop, refl, ap, arith}
 use Rattle.std.proofs.lemmas.List.{length_push}
 use Rattle.dubp_undo.specs.MovingTable.{one_more, last_count}
-use Rattle.dubp_undo.specs.Definition.{plus, counts, last_number, add_last}
+use Rattle.dubp_undo.specs.Numbers.{plus, counts, last_number, add_last}
 
 module _ {K V : Type 0} where
   pub counts-push : (xs : List (List (K × V) × ℕ)) (x : List (K × V) × ℕ) → counts (xs ++ x ∷ []) ≡ counts xs ++ x.1 ∷ []
@@ -44,6 +44,11 @@ add_last-add_last m n (l ∷ []) = ap (λ z. z ∷ []) (omega arith)
 add_last-add_last m n (k ∷ l ∷ []) = ap (λ z. k ∷ z) (add_last-add_last m n (l ∷ []))
 add_last-add_last m n (j ∷ k ∷ l ∷ ns) = ap (λ z. j ∷ z) (add_last-add_last m n (k ∷ l ∷ ns))
 
+pub length-add_last : (n : ℕ) (ns : List ℕ) → length (add_last n ns) ≡ length ns
+length-add_last n [] = refl
+length-add_last n (m ∷ []) = refl
+length-add_last n (l ∷ m ∷ ns) = ap suc (length-add_last n (m ∷ ns))
+
 -- two lists of numbers, of one length
 pub length-plus : (xs ys : List ℕ) → length xs ≡ length ys → length (plus xs ys) ≡ length xs
 length-plus [] ys e = refl
@@ -69,6 +74,15 @@ last_number-plus (x ∷ []) (y ∷ []) e = refl
 last_number-plus (x ∷ []) (y ∷ z ∷ ys) e = absurd (omega arith)
 last_number-plus (w ∷ x ∷ xs) (y ∷ []) e = absurd (omega arith)
 last_number-plus (w ∷ x ∷ xs) (y ∷ z ∷ ys) e = last_number-plus (x ∷ xs) (z ∷ ys) (omega arith)
+
+-- some more at the last numbers of both
+pub plus-add_last : (m n : ℕ) (xs ys : List ℕ) → length xs ≡ length ys → plus (add_last m xs) (add_last n ys) ≡ add_last (m + n) (plus xs ys)
+plus-add_last m n [] ys e = refl
+plus-add_last m n (x ∷ xs) [] e = absurd (omega arith)
+plus-add_last m n (x ∷ []) (y ∷ []) e = ap (λ z. z ∷ []) (omega arith)
+plus-add_last m n (x ∷ []) (y ∷ z ∷ ys) e = absurd (omega arith)
+plus-add_last m n (w ∷ x ∷ xs) (y ∷ []) e = absurd (omega arith)
+plus-add_last m n (w ∷ x ∷ xs) (y ∷ z ∷ ys) e = ap (λ l. (w + y) ∷ l) (plus-add_last m n (x ∷ xs) (z ∷ ys) (omega arith))
 
 -- one table after the other went back
 pub plus_back : (xs ys xs' ys' : List ℕ) (a b c : ℕ) → length xs ≡ length ys → a ≤ b → b ≤ c → xs ≡ xs' ++ (b - a) ∷ [] → ys ≡ ys' ++ (c - b) ∷ [] → plus xs ys ≡ plus xs' ys' ++ (c - a) ∷ []

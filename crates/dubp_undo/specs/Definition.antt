@@ -39,11 +39,6 @@ module _ {B K V : Type 0} (cmp : K → K → Ordering) (definition : List B → 
     pub begins : 0 < i → IsAt root (drop i o)
 
 module _ {K V : Type 0} where
-  -- the numbers beside the maps
-  abbrev pub counts : List (List (K × V) × ℕ) → List ℕ
-  counts [] = []
-  counts (x ∷ xs) = x.1 ∷ counts xs
-
   -- the same maps, whatever is spare, and whatever was placed besides
   pub record SameMaps (old new : MovingTable K V) : Type 0 where
     pub past : new.past ≡ old.past
@@ -57,21 +52,3 @@ module _ {K V : Type 0} where
     pub now : new.now ≡ old.now
     pub ahead : new.ahead ≡ old.ahead
     pub root : new.root ≡ old.root
-
--- two lists of numbers, added place by place
-abbrev pub plus : List ℕ → List ℕ → List ℕ
-plus [] ys = []
-plus (x ∷ xs) [] = []
-plus (x ∷ xs) (y ∷ ys) = (x + y) ∷ plus xs ys
-
--- the last number, or 0
-abbrev pub last_number : List ℕ → ℕ
-last_number [] = 0
-last_number (n ∷ []) = n
-last_number (m ∷ n ∷ ns) = last_number (n ∷ ns)
-
--- n more at the last number
-abbrev pub add_last : ℕ → List ℕ → List ℕ
-add_last n [] = []
-add_last n (m ∷ []) = (m + n) ∷ []
-add_last n (l ∷ m ∷ ns) = l ∷ add_last n (m ∷ ns)

@@ -2,7 +2,7 @@
 use Rattle.std.proofs.Common.{◌≡◌, ℕ, List, [], ◌∷◌, Option, sym, subst}
 use Rattle.std.specs.declared.cmp.Ordering.{Ordering}
 use Rattle.dubp_undo.specs.Trail.{Trail, trail_push}
-use Rattle.dubp_undo.specs.Definition.{IsAt, IsBefore, Stands, IsMarked, Waits, plus}
+use Rattle.dubp_undo.specs.Definition.{IsAt, IsBefore, Stands, IsMarked, Waits}
 
 module _ {B K V : Type 0} (cmp : K → K → Ordering) (definition : List B → K → Option V) where
   abbrev Maps : Type 0
@@ -29,6 +29,3 @@ module _ {B K V : Type 0} (cmp : K → K → Ordering) (definition : List B → 
   -- the newest block is applied
   pub stands_applied : (past : Maps) (now : List (K × V)) (b : B) (c : List B) → IsMarked cmp definition past c → At now (b ∷ c) → Stands cmp definition past now (b ∷ c)
   stands_applied past now b c m is = record { is = is; kept = subst (λ l. Trail Before l (b ∷ c)) (sym m.split) (trail_push Before m.earlier m.last b c m.kept m.is) }
-
-pub plus_same : (xs xs' ys ys' : List ℕ) → xs' ≡ xs → ys' ≡ ys → plus xs' ys' ≡ plus xs ys
-plus_same xs xs' ys ys' e f = cc

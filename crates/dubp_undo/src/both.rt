@@ -1,5 +1,5 @@
 ghost use Rattle.std.specs.Prelude.{◌≡◌, ℕ, ◌+◌, List, length, min};
-ghost use Rattle.dubp_undo.specs.Definition.{plus};
+ghost use Rattle.dubp_undo.specs.Numbers.{plus};
 
 use crate::moving::Tables;
 use dubp_atoms::{NoMemory, Steps};
@@ -104,7 +104,7 @@ impl<B, X: Tables<B>, Y: Tables<B>> Tables<B> for Both<B, X, Y> {
         self.second.drop_ahead();
     }
 
-    ghost use Rattle.dubp_undo.specs.Standing.{plus_same};
+    ghost use Rattle.dubp_undo.specs.Numbers.{plus_same};
 
     ghost stands_at = { λ t c s. (X.stands_at t.first c s.0, Y.stands_at t.second c s.1) };
 

@@ -1,4 +1,5 @@
-//! A table that keeps its earlier states: one ordered map that goes back to them, and forth again, without memory.
+//! A table that keeps its earlier states: one ordered map that goes back to them, and forth again, without memory. And many
+//! such tables that move as one.
 //!
 //! Contracts see an `UndoTable` as a `MovingTable`: `past` (the maps that are kept, oldest first), `now`, `ahead` (what
 //! `hold` took off), `root`, `spare`, `room` and the placed keys. Beside each map stands how many keys were set between it
@@ -12,12 +13,15 @@
 //! table.again(&mut steps);             // 7 has 1 again
 //! table.back(&mut steps);              // as at the mark, for good
 //! ```
+//!
+//! Tables of a chain of blocks are seen by whose maps they have. A `Leaf` is a table with its `Definition`, which says what
+//! it has at each key, for each chain; `Both` is two that move together; the moves of `Tables` are proved once for all.
 #![tactic(auto)]
 
-mod moves;
 mod both;
 mod leaf;
-pub mod moving;
+mod moves;
+mod moving;
 mod rows;
 mod table;
 #[cfg(test)]
@@ -25,4 +29,5 @@ mod tests;
 
 pub use both::Both;
 pub use leaf::Leaf;
+pub use moving::{Definition, Tables};
 pub use table::UndoTable;

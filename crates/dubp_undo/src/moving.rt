@@ -1,5 +1,5 @@
 ghost use Rattle.std.specs.Prelude.{◌≡◌, ℕ, ◌+◌, ◌-◌, ◌<◌, ◌≤◌, List, [], ◌∷◌, ◌++◌, length, drop, OnOk, OnErr, Option};
-ghost use Rattle.dubp_undo.specs.Definition.{last_number};
+ghost use Rattle.dubp_undo.specs.Numbers.{last_number};
 
 use dubp_atoms::{NoMemory, Steps};
 use std::sync::ledger::Ledger;
@@ -40,7 +40,9 @@ pub trait Tables<B>: Drop {
 
     /// How many earlier states are kept.
     fn depth(&self) -> usize
-        ensures { result ≡ length (costs self.now) };
+        ensures depth { result ≡ length (costs self.now) }
+        ensures at { (c : List B) → stands self.now c → at self.now c }
+        ensures applied { (b : B) (c : List B) → marked self.now c → at self.now (b ∷ c) → stands self.now (b ∷ c) };
 
     /// Keeps the state as it is now.
     fn mark(&mut self) -> Result<(), NoMemory>

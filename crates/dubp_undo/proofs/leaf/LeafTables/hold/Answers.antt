@@ -1,6 +1,7 @@
 use Rattle.std.proofs.Common.{◌≡◌, [], ◌⊎◌, ◌∙◌, ◌+◌, drop, ap, sym, subst}
 use Rattle.dubp_undo.specs.MovingTable.{MovingTable, SameValues}
-use Rattle.dubp_undo.specs.Definition.{counts, Stands, Waits}
+use Rattle.dubp_undo.specs.Definition.{Stands, Waits}
+use Rattle.dubp_undo.specs.Numbers.{counts}
 use Rattle.dubp_undo.proofs.Numbers.{counts-push}
 use Rattle.dubp_undo.proofs.Standing.{may_hold, moved_on}
 use Rattle.dubp_undo.proofs.leaf.LeafTables.hold.Goals as goal

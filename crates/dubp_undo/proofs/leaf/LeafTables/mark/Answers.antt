@@ -1,6 +1,7 @@
 use Rattle.std.proofs.Common.{◌∙◌, ◌++◌, ◌∷◌, [], ap, subst}
 use Rattle.dubp_undo.specs.MovingTable.{MovingTable}
-use Rattle.dubp_undo.specs.Definition.{MarksNow, counts}
+use Rattle.dubp_undo.specs.Definition.{MarksNow}
+use Rattle.dubp_undo.specs.Numbers.{counts}
 use Rattle.dubp_undo.proofs.Numbers.{counts-push}
 use Rattle.dubp_undo.proofs.leaf.LeafTables.mark.Goals as goal
 
