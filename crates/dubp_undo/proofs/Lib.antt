@@ -1,0 +1,12 @@
+pub mod Alike
+pub mod Journals
+pub mod Live
+pub mod Maps
+pub mod Numbers
+pub mod Past
+pub mod Placing
+pub mod Results
+pub mod Setting
+pub mod Standing
+pub mod Turning
+pub mod Walks

@@ -1,0 +1,107 @@
+-- A slot that is written: the map has the new value at its key alone, and the maps at the marks are as before.
+use Rattle.std.proofs.Common.{◌≡◌, ℕ, suc, ◌+◌, ◌<◌, ◌≤◌, Bool, true, false, cond, List, [], ◌∷◌, ◌++◌, length, get_or, set, drop, reverse, Option, Some, None, refl, sym, ap, subst, ◌∙◌, inl, inr, arith}
+use Rattle.std.specs.declared.cmp.Ordering.{Ordering}
+use Rattle.std.specs.Cmp.{IsTotalOrder, eq_by_cmp_equiv}
+use Rattle.std.specs.List.{sum}
+use Rattle.std.specs.Map.{keys_of, lookup}
+use Rattle.std.specs.BTreeMap.{is_at}
+use Rattle.std.proofs.lemmas.List.{length-set, get_or-set_same, get_or-set_other, drop-append-le, length_push, length-drop}
+use Rattle.std.proofs.lemmas.List.Elements.{All-push}
+use Rattle.std.proofs.lemmas.Bool.{cases_eq}
+use Rattle.dubp_undo.specs.MovingTable.{Puts, Places, one_more}
+use Rattle.dubp_undo.specs.Rows.{live, slot_of, AreRows, Grows}
+use Rattle.dubp_undo.specs.Journal.{undo, states, bump, noted, IsJournal, IsKept}
+use Rattle.dubp_undo.proofs.Journals.{undo-append, undo-set, sum_cons, no_spare}
+use Rattle.dubp_undo.proofs.Live.{held, get-live, slot_within}
+use Rattle.dubp_undo.proofs.Placing.{grown_live, grown_states, grown_old_states, grown_kept, grown_places}
+
+-- the last mark
+pub bump-push : (marks : List ℕ) (n : ℕ) → bump (marks ++ n ∷ []) ≡ marks ++ (n + 1) ∷ []
+bump-push [] n = refl
+bump-push (m ∷ []) n = refl
+bump-push (m ∷ x ∷ marks) n = ap (λ z. m ∷ z) (bump-push (x ∷ marks) n)
+
+sum-bump : (m : ℕ) (marks : List ℕ) → sum (bump (m ∷ marks)) ≡ sum (m ∷ marks) + 1
+sum-bump m [] = omega arith
+sum-bump m (n ∷ marks) = sum_cons m (bump (n ∷ marks)) ∙ omega (arith, sum-bump n marks, sum_cons m (n ∷ marks))
+
+pub length-bump : (marks : List ℕ) → length (bump marks) ≡ length marks
+length-bump [] = refl
+length-bump (n ∷ []) = refl
+length-bump (m ∷ n ∷ marks) = ap suc (length-bump (n ∷ marks))
+
+pub length-noted-le : {V : Type 0} (marks : List ℕ) (j : List (ℕ × Option V)) (c : ℕ × Option V) → length (noted marks j c) ≤ length j + 1
+length-noted-le [] j c = omega arith
+length-noted-le (n ∷ marks) j c = omega (arith, length_push j c)
+
+noted_ok : {V : Type 0} (n : ℕ) (j : List (ℕ × Option V)) (marks : List ℕ) (c : ℕ × Option V) → IsJournal n j marks → c.0 < n → IsJournal n (noted marks j c) (bump marks)
+noted_ok n j [] c ok lt = ok
+noted_ok n j (m ∷ marks) c ok lt = record { within = All-push (λ c. c.0 < n) j c ok.within lt; divided = sum-bump m marks ∙ omega (arith, ok.divided, length_push j c) }
+
+-- the same maps before the written slot, the last of which now has one more set after it
+pub noted_states : {K V : Type 0} (rows : List (K × ℕ)) (slots : List (Option V)) (i : ℕ) (v : Option V) (j : List (ℕ × Option V)) (marks : List ℕ) → sum marks ≡ length j → states rows (set slots i v) (noted marks j (i, get_or slots i None)) (bump marks) ≡ one_more (states rows slots j marks)
+noted_states rows slots i v j [] e = refl
+noted_states rows slots i v j (m ∷ []) e = rw (undo-append (set slots i v) j ((i, get_or slots i None) ∷ []), undo-set slots i v) refl
+noted_states rows slots i v j (m ∷ n ∷ marks) e =
+    let total = sum_cons m (n ∷ marks) in
+    let rest : sum (n ∷ marks) ≡ length (drop m j) = omega (arith, e, total, length-drop m j) in
+    rw (undo-append (set slots i v) j ((i, get_or slots i None) ∷ []), undo-set slots i v, drop-append-le m j ((i, get_or slots i None) ∷ []) (omega (arith, e, total)))
+    (ap (λ x. (live rows (undo slots j), m) ∷ x) (noted_states rows slots i v (drop m j) (n ∷ marks) rest))
+
+pub set_kept : {K V : Type 0} {cmp : K → K → Ordering} {rows : List (K × ℕ)} {slots root : List (Option V)} {j redo : List (ℕ × Option V)} {marks redo_marks : List ℕ} {spare jr mr rr rmr : ℕ} → IsKept cmp rows slots root j redo marks redo_marks spare jr mr rr rmr →
+    (i : ℕ) (v old : Option V) (jr' : ℕ) → i < length slots → length (noted marks j (i, old)) + length redo ≤ jr' → IsKept cmp rows (set slots i v) root (noted marks j (i, old)) redo (bump marks) redo_marks 0 jr' mr rr rmr
+set_kept {slots = slots} {j = j} {marks = marks} k i v old jr' lt room =
+    let same = length-set slots i v in
+    record {
+      rows_ok = k.rows_ok;
+      slots_ok = same ∙ k.slots_ok;
+      back_ok = rw same (noted_ok (length slots) j marks (i, old) k.back_ok lt);
+      forward_ok = k.forward_ok;
+      root_fits = rw same k.root_fits;
+      room = no_spare _ _ _ _ _ _ _ _ room (omega (arith, k.room.back_marks, length-bump marks)) (omega (arith, k.room.forward)) (omega (arith, k.room.forward_marks));
+    }
+
+-- what the map has at each key
+lookup-alike : {K X : Type 0} (p q : K → Bool) (rows : List (K × X)) → ((x : K) → p x ≡ q x) → lookup p rows ≡ lookup q rows
+lookup-alike p q [] same = refl
+lookup-alike p q (r ∷ rows) same = rw (same r.0, lookup-alike p q rows same) refl
+
+module _ {K V : Type 0} {cmp : K → K → Ordering} (o : IsTotalOrder cmp) (k : K) (i : ℕ) (v : Option V) (rows : List (K × ℕ)) (slots : List (Option V)) (a : AreRows cmp rows) (lt : i < length slots) (found : slot_of cmp rows k ≡ Some i) where
+  -- by whether q is k, and else by whether its slot is the written one
+  put_held : (q : K) (b : Bool) → is_at (cmp q) k ≡ b → (x : Option ℕ) → slot_of cmp rows q ≡ x → held (set slots i v) x ≡ cond b v (held slots x)
+  put_held q true e x at =
+      let alike = lookup-alike (is_at (cmp q)) (is_at (cmp k)) rows (λ y. (eq_by_cmp_equiv o).congr q k y e) in
+      let is : x ≡ Some i = sym at ∙ alike ∙ found in
+      rw is (get_or-set_same slots i v None lt)
+  put_held q false e None at = refl
+  put_held q false e (Some x) at = elim (cases_eq x i) [
+    | inl same ↦ let both = a.apart q k i (at ∙ ap Some same) found in cc (both, e)
+    | inr other ↦ get_or-set_other slots i x v None other
+  ]
+
+  pub put_live : Puts cmp (live rows slots) (live rows (set slots i v)) k v
+  put_live q =
+      get-live o q rows (set slots i v) a ∙ put_held q (is_at (cmp q) k) refl (slot_of cmp rows q) refl ∙ ap (cond (is_at (cmp q) k) v) (sym (get-live o q rows slots a))
+
+-- what `set` does, where the key has the slot i of the rows `other` and the slots `more`
+pub record IsSet {K V : Type 0} (cmp : K → K → Ordering) (rows other : List (K × ℕ)) (slots more root : List (Option V)) (k : K) (i : ℕ) (v : Option V) (j redo : List (ℕ × Option V)) (marks redo_marks : List ℕ) (jr mr rr rmr : ℕ) : Type 0 where
+  pub within : i < length more
+  pub kept : IsKept cmp other (set more i v) root (noted marks j (i, get_or more i None)) redo (bump marks) redo_marks 0 jr mr rr rmr
+  pub now : Puts cmp (live rows slots) (live other (set more i v)) k v
+  pub past : states other (set more i v) (noted marks j (i, get_or more i None)) (bump marks) ≡ one_more (states rows slots j marks)
+  pub placed : Places cmp (keys_of rows) (keys_of other) k
+  pub ahead : reverse (states other root redo redo_marks) ≡ reverse (states rows root redo redo_marks)
+
+module _ {K V : Type 0} {cmp : K → K → Ordering} (o : IsTotalOrder cmp) {rows other : List (K × ℕ)} {slots more root : List (Option V)} {k : K} {j redo : List (ℕ × Option V)} {marks redo_marks : List ℕ} {spare jr mr rr rmr : ℕ} where
+  pub is_set : IsKept cmp rows slots root j redo marks redo_marks spare jr mr rr rmr → Grows cmp rows slots k other more → (i : ℕ) → slot_of cmp other k ≡ Some i → (v : Option V) (jr' : ℕ) → length j + length redo + 1 ≤ jr' → IsSet cmp rows other slots more root k i v j redo marks redo_marks jr' mr rr rmr
+  is_set kept g i found v jr' room =
+      let within : i < length more = rw g.slot_each (slot_within (is_at (cmp k)) (length other) other i g.are_rows.within found) in
+      let room' : length (noted marks j (i, get_or more i None)) + length redo ≤ jr' = omega (arith, length-noted-le marks j (i, get_or more i None)) in
+      record {
+        within = within;
+        kept = set_kept (grown_kept g kept) i v (get_or more i None) jr' within room';
+        now = subst (λ m. Puts cmp m (live other (set more i v)) k v) (grown_live g) (put_live o k i v other more g.are_rows within found);
+        past = noted_states other more i v j marks kept.back_ok.divided ∙ ap one_more (grown_states g j marks kept.back_ok.within);
+        placed = grown_places g i found;
+        ahead = ap reverse (grown_old_states g root redo redo_marks kept.root_fits);
+      }

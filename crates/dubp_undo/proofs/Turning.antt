@@ -1,0 +1,245 @@
+-- What moving the last changes to the other journal does to the maps: back, forth, and without the oldest.
+use Rattle.std.proofs.Common.{◌≡◌, ℕ, suc, ◌+◌, ◌-◌, ◌<◌, ◌≤◌, Bool, true, false, cond, List, [], ◌∷◌, ◌++◌, length, get_or, set, take, drop, reverse, Option, Some, None, refl, sym, ap, ◌∙◌, inl, inr, ◌⊎◌, arith, length-append, append-nil}
+use Rattle.std.specs.Prelude.{⊤}
+use Rattle.std.specs.declared.cmp.Ordering.{Ordering}
+use Rattle.std.specs.Cmp.{IsTotalOrder, IsEquivalence, eq_by_cmp_equiv}
+use Rattle.std.specs.List.{All, sum, IsDistinct}
+use Rattle.std.specs.Map.{keys_of, lookup}
+use Rattle.std.proofs.lemmas.List.{length-reverse, reverse-append, get_or-take, take-take, get_or-set_same, get_or-set_other, length-drop, length-take, length_push}
+use Rattle.std.proofs.lemmas.List.Elements.{All-head, All-tail, All-push, All-drop}
+use Rattle.std.proofs.lemmas.Map.{lookup-none}
+use Rattle.std.proofs.lemmas.Map.Entries.{none_past_head}
+use Rattle.std.proofs.lemmas.Map.Keys.{IsDistinct-from_sorted, IsDistinct-tail}
+use Rattle.std.proofs.lemmas.Bool.{cases_eq}
+use Rattle.std.proofs.Math.Seq.{drop-cons}
+use Rattle.dubp_undo.specs.MovingTable.{last_count, SameValues}
+use Rattle.dubp_undo.specs.Rows.{live, AreRows}
+use Rattle.dubp_undo.specs.Journal.{undo, redo_of, states, IsKept}
+use Rattle.dubp_undo.proofs.Alike.{alike_live, alike_undo, alike_states, alike_from_values}
+use Rattle.dubp_undo.proofs.Journals.{length-undo, undo-append, undo-set, sum_push, sum_cons, states-append, length-states, no_spare, last_changes-push, last_count-states, parted, last_few, last_state, push_journal}
+
+-- making again what was undone
+pub length-redo_of : {V : Type 0} (slots : List (Option V)) (j : List (ℕ × Option V)) → length (redo_of slots j) ≡ length j
+length-redo_of slots [] = refl
+length-redo_of slots (c ∷ j) = length_push (redo_of slots j) _ ∙ omega (arith, length-redo_of slots j)
+
+pub All-redo_of : {V : Type 0} (n : ℕ) (slots : List (Option V)) (j : List (ℕ × Option V)) → All (λ c. c.0 < n) j → All (λ c. c.0 < n) (redo_of slots j)
+All-redo_of n slots [] a = λ k d lt. absurd (omega arith)
+All-redo_of n slots (c ∷ j) a = All-push (λ c. c.0 < n) (redo_of slots j) _ (All-redo_of n slots j (All-tail (λ c. c.0 < n) c j a)) (All-head (λ c. c.0 < n) c j a)
+
+pub undo-redo_of : {V : Type 0} (slots : List (Option V)) (j : List (ℕ × Option V)) → undo (undo slots j) (redo_of slots j) ≡ slots
+undo-redo_of slots [] = refl
+undo-redo_of slots (c ∷ j) =
+    undo-append (set (undo slots j) c.0 c.1) (redo_of slots j) ((c.0, get_or (undo slots j) c.0 None) ∷ [])
+    ∙ ap (λ x. undo x (redo_of slots j)) (undo-set (undo slots j) c.0 c.1)
+    ∙ undo-redo_of slots j
+
+-- one more change from the end of j
+pub redo_more : {V : Type 0} (slots : List (Option V)) (j : List (ℕ × Option V)) (i : ℕ) (c : ℕ × Option V) → i < length j → get_or j (length j - (i + 1)) c ≡ c → redo_of slots (drop (length j - (i + 1)) j) ≡ redo_of slots (drop (length j - i) j) ++ (c.0, get_or (undo slots (drop (length j - i) j)) c.0 None) ∷ []
+redo_more slots j i c lt is =
+    let next : suc (length j - (i + 1)) ≡ length j - i = omega arith in
+    let rest = ap (λ n. drop n j) next in
+    let split = drop-cons j (length j - (i + 1)) c (omega arith) in
+    let whole : drop (length j - (i + 1)) j ≡ c ∷ drop (length j - i) j = cc in
+    ap (redo_of slots) whole
+
+-- the changes of seg, undone and noted after those of `to`
+pub turned : {K V : Type 0} (rows : List (K × ℕ)) (slots : List (Option V)) (seg to : List (ℕ × Option V)) (marks : List ℕ) (n : ℕ) → sum marks ≡ length to → states rows (undo slots seg) (to ++ redo_of slots seg) (marks ++ n ∷ []) ≡ states rows slots to marks ++ (live rows slots, n) ∷ []
+turned rows slots seg to marks n e = states-append rows (undo slots seg) to (redo_of slots seg) marks n e ∙ ap (λ x. states rows x to marks ++ (live rows x, n) ∷ []) (undo-redo_of slots seg)
+
+module _ {K V : Type 0} {cmp : K → K → Ordering} {rows : List (K × ℕ)} {slots root : List (Option V)} {j redo : List (ℕ × Option V)} where
+  pub back_kept : (marks redo_marks : List ℕ) (n spare : ℕ) {jr mr rr rmr : ℕ} (k : IsKept cmp rows slots root j redo (marks ++ n ∷ []) redo_marks spare jr mr rr rmr) → IsKept cmp rows (undo slots (drop (length j - n) j)) root (take (length j - n) j) redo marks redo_marks 0 jr mr rr rmr
+  back_kept marks redo_marks n spare k =
+      let l = last_few (length slots) j marks n k.back_ok in
+      let same = length-undo slots (drop (length j - n) j) in
+      let front = (parted j n l.few).front in
+      record {
+        rows_ok = k.rows_ok;
+        slots_ok = same ∙ k.slots_ok;
+        back_ok = rw same l.rest;
+        forward_ok = k.forward_ok;
+        root_fits = rw same k.root_fits;
+        room = no_spare _ _ _ _ _ _ _ _ (omega (arith, k.room.back, front)) (omega (arith, k.room.back_marks, length_push marks n)) (omega (arith, k.room.forward)) (omega (arith, k.room.forward_marks));
+      }
+
+  pub hold_kept : (marks redo_marks : List ℕ) (n spare : ℕ) {jr mr rr rmr : ℕ} (k : IsKept cmp rows slots root j redo (marks ++ n ∷ []) redo_marks (spare + 1) jr mr rr rmr) →
+      IsKept cmp rows (undo slots (drop (length j - n) j)) (undo slots (drop (length j - n) j)) (take (length j - n) j) (redo ++ redo_of slots (drop (length j - n) j)) marks (redo_marks ++ n ∷ []) spare jr mr rr rmr
+  hold_kept marks redo_marks n spare k =
+      let l = last_few (length slots) j marks n k.back_ok in
+      let p = parted j n l.few in
+      let seg = drop (length j - n) j in
+      let same = length-undo slots seg in
+      let moved : length (redo_of slots seg) ≡ n = length-redo_of slots seg ∙ p.back in
+      let fewer : spare ≤ length marks = omega (arith, k.room.few, length_push marks n) in
+      let total = last_changes-push marks n spare fewer in
+      let redo_within : All (λ c. c.0 < length slots) redo = λ i d lt. omega (arith, k.forward_ok.within i d lt, k.root_fits) in
+      record {
+        rows_ok = k.rows_ok;
+        slots_ok = same ∙ k.slots_ok;
+        back_ok = rw same l.rest;
+        forward_ok = rw same (push_journal (length slots) redo (redo_of slots seg) redo_marks n (record { within = redo_within; divided = k.forward_ok.divided }) (All-redo_of (length slots) slots seg l.last) moved);
+        root_fits = omega arith;
+        room = record {
+          back = omega (arith, k.room.back, p.front, moved, length-append redo (redo_of slots seg), l.few);
+          back_marks = omega (arith, k.room.back_marks, length_push marks n, length_push redo_marks n);
+          few = fewer;
+          forward = omega (arith, k.room.forward, total, moved, length-append redo (redo_of slots seg));
+          forward_marks = omega (arith, k.room.forward_marks, length_push redo_marks n);
+        };
+      }
+
+  pub again_kept : (marks redo_marks : List ℕ) (n spare : ℕ) {jr mr rr rmr : ℕ} (k : IsKept cmp rows slots root j redo marks (redo_marks ++ n ∷ []) spare jr mr rr rmr) →
+      IsKept cmp rows (undo slots (drop (length redo - n) redo)) (undo slots (drop (length redo - n) redo)) (j ++ redo_of slots (drop (length redo - n) redo)) (take (length redo - n) redo) (marks ++ n ∷ []) redo_marks 0 jr mr rr rmr
+  again_kept marks redo_marks n spare k =
+      let l = last_few (length root) redo redo_marks n k.forward_ok in
+      let p = parted redo n l.few in
+      let seg = drop (length redo - n) redo in
+      let same = length-undo slots seg in
+      let moved : length (redo_of slots seg) ≡ n = length-redo_of slots seg ∙ p.back in
+      let seg_within : All (λ c. c.0 < length slots) seg = λ i d lt. omega (arith, l.last i d lt, k.root_fits) in
+      let rest_within : All (λ c. c.0 < length slots) (take (length redo - n) redo) = λ i d lt. omega (arith, l.rest.within i d lt, k.root_fits) in
+      record {
+        rows_ok = k.rows_ok;
+        slots_ok = same ∙ k.slots_ok;
+        back_ok = rw same (push_journal (length slots) j (redo_of slots seg) marks n k.back_ok (All-redo_of (length slots) slots seg seg_within) moved);
+        forward_ok = rw same (record { within = rest_within; divided = l.rest.divided });
+        root_fits = omega arith;
+        room = no_spare _ _ _ _ _ _ _ _ (omega (arith, k.room.back, p.front, moved, length-append j (redo_of slots seg), l.few)) (omega (arith, k.room.back_marks, length_push marks n, length_push redo_marks n)) (omega (arith, k.room.forward, p.front)) (omega (arith, k.room.forward_marks, length_push redo_marks n));
+      }
+
+  -- the maps ahead, from slots at which they begin
+  same_ahead : {marks redo_marks : List ℕ} {spare jr mr rr rmr : ℕ} → IsTotalOrder cmp → IsKept cmp rows slots root j redo marks redo_marks spare jr mr rr rmr → (reverse (states rows root redo redo_marks) ≡ []) ⊎ SameValues cmp (live rows slots) (live rows root) → states rows slots redo redo_marks ≡ states rows root redo redo_marks
+  same_ahead {redo_marks = []} o k begins = refl
+  same_ahead {redo_marks = m ∷ ms} o k (inl none) =
+      let n = length-reverse (states rows root redo (m ∷ ms)) in
+      absurd (omega (arith, n, ap length none, length-states rows root redo (m ∷ ms)))
+  same_ahead {redo_marks = m ∷ ms} o k (inr same) =
+      alike_states rows slots root redo (m ∷ ms) k.forward_ok.within k.root_fits (alike_from_values o rows slots root k.rows_ok same)
+
+  -- what `back` does, where all marks are `marks` and then n
+  pub back_parts : (all marks redo_marks : List ℕ) (n spare : ℕ) {jr mr rr rmr : ℕ} → all ≡ marks ++ n ∷ [] → IsKept cmp rows slots root j redo all redo_marks spare jr mr rr rmr → record {
+    kept : IsKept cmp rows (undo slots (drop (length j - n) j)) root (take (length j - n) j) redo marks redo_marks 0 jr mr rr rmr;
+    past : states rows slots j all ≡ states rows (undo slots (drop (length j - n) j)) (take (length j - n) j) marks ++ (live rows (undo slots (drop (length j - n) j)), n) ∷ [];
+  }
+  back_parts all marks redo_marks n spare split k =
+      let k = rw split at k in
+      record { kept = back_kept marks redo_marks n spare k; past = rw split (last_state rows slots (length slots) j marks n k.back_ok) }
+
+  -- what `unmark` does
+  pub unmark_parts : (all marks redo_marks : List ℕ) (n spare : ℕ) {jr mr rr rmr : ℕ} → all ≡ marks ++ n ∷ [] → last_count (states rows slots j all) ≡ 0 → IsKept cmp rows slots root j redo all redo_marks spare jr mr rr rmr → record {
+    kept : IsKept cmp rows slots root j redo marks redo_marks 0 jr mr rr rmr;
+    past : states rows slots j all ≡ states rows slots j marks ++ (live rows slots, 0) ∷ [];
+  }
+  unmark_parts all marks redo_marks n spare split none k =
+      let k = rw split at k in
+      let zero : n ≡ 0 = sym (last_count-states rows slots j marks n) ∙ ap (λ x. last_count (states rows slots j x)) (sym split) ∙ none in
+      let divided : sum marks ≡ length j = omega (arith, k.back_ok.divided, sum_push marks n, zero) in
+      record {
+        kept = record {
+          rows_ok = k.rows_ok;
+          slots_ok = k.slots_ok;
+          back_ok = record { within = k.back_ok.within; divided = divided };
+          forward_ok = k.forward_ok;
+          root_fits = k.root_fits;
+          room = no_spare _ _ _ _ _ _ _ _ k.room.back (omega (arith, k.room.back_marks, length_push marks n)) (omega (arith, k.room.forward)) (omega (arith, k.room.forward_marks));
+        };
+        past = rw (split, zero) (ap (λ j. states rows slots j (marks ++ 0 ∷ [])) (sym (append-nil j)) ∙ states-append rows slots j [] marks 0 divided);
+      }
+
+  -- what `drop_oldest` does, where all marks are n and then `marks`
+  pub oldest_parts : (all marks redo_marks : List ℕ) (n spare : ℕ) {jr mr rr rmr : ℕ} → all ≡ n ∷ marks → IsKept cmp rows slots root j redo all redo_marks spare jr mr rr rmr → record {
+    few : n ≤ length j;
+    kept : IsKept cmp rows slots root (drop n j) redo marks redo_marks 0 jr mr rr rmr;
+    past : states rows slots (drop n j) marks ≡ drop 1 (states rows slots j all);
+  }
+  oldest_parts all marks redo_marks n spare split k =
+      let k = rw split at k in
+      let total = sum_cons n marks in
+      let few : n ≤ length j = omega (arith, k.back_ok.divided, total) in
+      record {
+        few = few;
+        kept = record {
+          rows_ok = k.rows_ok;
+          slots_ok = k.slots_ok;
+          back_ok = record { within = All-drop (λ c. c.0 < length slots) n j k.back_ok.within; divided = omega (arith, k.back_ok.divided, total, length-drop n j) };
+          forward_ok = k.forward_ok;
+          root_fits = k.root_fits;
+          room = no_spare _ _ _ _ _ _ _ _ (omega (arith, k.room.back, length-drop n j)) (omega (arith, k.room.back_marks)) (omega (arith, k.room.forward)) (omega (arith, k.room.forward_marks));
+        };
+        past = rw split refl;
+      }
+
+  -- what `hold` does
+  pub hold_parts : IsTotalOrder cmp → (all marks redo_marks : List ℕ) (n spare before : ℕ) {jr mr rr rmr : ℕ} → all ≡ marks ++ n ∷ [] → before ≡ spare + 1 → IsKept cmp rows slots root j redo all redo_marks before jr mr rr rmr → (reverse (states rows root redo redo_marks) ≡ []) ⊎ SameValues cmp (live rows slots) (live rows root) → record {
+    few : n ≤ length j;
+    room : length redo + n ≤ rr;
+    marks_room : length redo_marks < rmr;
+    kept : IsKept cmp rows (undo slots (drop (length j - n) j)) (undo slots (drop (length j - n) j)) (take (length j - n) j) (redo ++ redo_of slots (drop (length j - n) j)) marks (redo_marks ++ n ∷ []) spare jr mr rr rmr;
+    past : states rows slots j all ≡ states rows (undo slots (drop (length j - n) j)) (take (length j - n) j) marks ++ (live rows (undo slots (drop (length j - n) j)), n) ∷ [];
+    ahead : reverse (states rows (undo slots (drop (length j - n) j)) (redo ++ redo_of slots (drop (length j - n) j)) (redo_marks ++ n ∷ [])) ≡ (live rows slots, n) ∷ reverse (states rows root redo redo_marks);
+  }
+  hold_parts o all marks redo_marks n spare before split less k begins =
+      let k = rw (split, less) at k in
+      let l = last_few (length slots) j marks n k.back_ok in
+      let total = last_changes-push marks n spare (omega (arith, k.room.few, length_push marks n)) in
+      let turn = turned rows slots (drop (length j - n) j) redo redo_marks n k.forward_ok.divided in
+      let same = same_ahead o k begins in
+      record {
+        few = l.few;
+        room = omega (arith, k.room.forward, total);
+        marks_room = omega (arith, k.room.forward_marks);
+        kept = hold_kept marks redo_marks n spare k;
+        past = rw split (last_state rows slots (length slots) j marks n k.back_ok);
+        ahead = ap reverse turn ∙ reverse-append (states rows slots redo redo_marks) ((live rows slots, n) ∷ []) ∙ ap (λ x. (live rows slots, n) ∷ reverse x) same;
+      }
+
+  -- what `again` does
+  pub again_parts : IsTotalOrder cmp → (all marks redo_marks : List ℕ) (n spare : ℕ) {jr mr rr rmr : ℕ} → all ≡ redo_marks ++ n ∷ [] → IsKept cmp rows slots root j redo marks all spare jr mr rr rmr → SameValues cmp (live rows slots) (live rows root) → record {
+    few : n ≤ length redo;
+    within : All (λ c. c.0 < length slots) redo;
+    room : length j + n ≤ jr;
+    marks_room : length marks < mr;
+    kept : IsKept cmp rows (undo slots (drop (length redo - n) redo)) (undo slots (drop (length redo - n) redo)) (j ++ redo_of slots (drop (length redo - n) redo)) (take (length redo - n) redo) (marks ++ n ∷ []) redo_marks 0 jr mr rr rmr;
+    past : states rows (undo slots (drop (length redo - n) redo)) (j ++ redo_of slots (drop (length redo - n) redo)) (marks ++ n ∷ []) ≡ states rows slots j marks ++ (live rows slots, n) ∷ [];
+    ahead : reverse (states rows root redo all) ≡ (live rows (undo slots (drop (length redo - n) redo)), n) ∷ reverse (states rows (undo slots (drop (length redo - n) redo)) (take (length redo - n) redo) redo_marks);
+  }
+  again_parts o all marks redo_marks n spare split k begins =
+      let k = rw split at k in
+      let l = last_few (length root) redo redo_marks n k.forward_ok in
+      let seg = drop (length redo - n) redo in
+      let alike = alike_from_values o rows slots root k.rows_ok begins in
+      let after = alike_undo rows slots root seg l.last k.root_fits alike in
+      let later = alike_states rows (undo slots seg) (undo root seg) (take (length redo - n) redo) redo_marks (λ i d lt. omega (arith, l.rest.within i d lt, length-undo root seg)) (omega (arith, k.root_fits, length-undo root seg, length-undo slots seg)) after in
+      let was = last_state rows root (length root) redo redo_marks n k.forward_ok in
+      record {
+        few = l.few;
+        within = λ i d lt. omega (arith, k.forward_ok.within i d lt, k.root_fits);
+        room = omega (arith, k.room.back, l.few);
+        marks_room = omega (arith, k.room.back_marks, length_push redo_marks n);
+        kept = again_kept marks redo_marks n spare k;
+        past = turned rows slots seg j marks n k.back_ok.divided;
+        ahead = rw (split, alike_live rows (undo slots seg) (undo root seg) after, later) (ap reverse was ∙ reverse-append (states rows (undo root seg) (take (length redo - n) redo) redo_marks) ((live rows (undo root seg), n) ∷ []));
+      }
+
+-- the last change that is left of j after i of them
+pub last_left : {V : Type 0} (slots : List (Option V)) (j left : List (ℕ × Option V)) (i : ℕ) (c : ℕ × Option V) → i < length j → left ≡ take (length j - i) j → c ≡ get_or left (length left - 1) c → record {
+  from : take (length left - 1) left ≡ take (length j - (i + 1)) j;
+  at : get_or j (length j - (i + 1)) c ≡ c;
+  undone : set (undo slots (drop (length j - i) j)) c.0 c.1 ≡ undo slots (drop (length j - (i + 1)) j);
+  to : redo_of slots (drop (length j - (i + 1)) j) ≡ redo_of slots (drop (length j - i) j) ++ (c.0, get_or (undo slots (drop (length j - i) j)) c.0 None) ∷ [];
+}
+last_left slots j left i c lt is last =
+    let len : length left ≡ length j - i = ap length is ∙ length-take (length j - i) j ∙ omega arith in
+    let place : length left - 1 ≡ length j - (i + 1) = omega arith in
+    let read : get_or left (length left - 1) c ≡ get_or j (length j - (i + 1)) c = rw place (ap (λ x. get_or x (length j - (i + 1)) c) is ∙ get_or-take (length j - i) j (length j - (i + 1)) c (omega arith)) in
+    let here : get_or j (length j - (i + 1)) c ≡ c = sym (last ∙ read) in
+    let next : suc (length j - (i + 1)) ≡ length j - i = omega arith in
+    let rest = ap (λ n. drop n j) next in
+    let split = drop-cons j (length j - (i + 1)) c (omega arith) in
+    let whole : drop (length j - (i + 1)) j ≡ c ∷ drop (length j - i) j = cc in
+    record {
+      from = rw place (ap (take (length j - (i + 1))) is ∙ take-take (length j - (i + 1)) (length j - i) j (omega arith));
+      at = here;
+      undone = sym (ap (undo slots) whole);
+      to = redo_more slots j i c lt here;
+    }

@@ -1,0 +1,33 @@
+//! A table that keeps its earlier states: one ordered map that goes back to them, and forth again, without memory. And many
+//! such tables that move as one.
+//!
+//! Contracts see an `UndoTable` as a `MovingTable`: `past` (the maps that are kept, oldest first), `now`, `ahead` (what
+//! `hold` took off), `root`, `spare`, `room` and the placed keys. Beside each map stands how many keys were set between it
+//! and its neighbour, so that one equation says which map a move gives and how many steps it takes.
+//!
+//! ```text
+//! table.mark()?;                       // `now` is kept
+//! table.set(7, Some(1), &mut steps)?;
+//! table.reserve(1)?;                   // room for one way forward
+//! table.hold(&mut steps);              // as at the mark
+//! table.again(&mut steps);             // 7 has 1 again
+//! table.back(&mut steps);              // as at the mark, for good
+//! ```
+//!
+//! Tables of a chain of blocks are seen by whose maps they have. A `Leaf` is a table with its `Definition`, which says what
+//! it has at each key, for each chain; `Both` is two that move together; the moves of `Tables` are proved once for all.
+#![tactic(auto)]
+
+mod both;
+mod leaf;
+mod moves;
+mod moving;
+mod rows;
+mod table;
+#[cfg(test)]
+mod tests;
+
+pub use both::Both;
+pub use leaf::Leaf;
+pub use moving::{Definition, Tables};
+pub use table::UndoTable;

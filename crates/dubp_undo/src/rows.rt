@@ -1,0 +1,73 @@
+ghost use Rattle.std.specs.Prelude.{◌≡◌, ◌<◌, ◌≤◌, [], length, Option, None, IfOk, IfSome, OnOk, OnErr, slice_get};
+ghost use Rattle.dubp_undo.specs.Rows.{AddsRow, slot_of, rows_from, live};
+
+use dubp_atoms::NoMemory;
+use std::alloc::Global;
+use std::collections::BTreeMap;
+use std::marker::Model;
+use std::ops::Bound;
+
+/// The slot of each placed key. Slots are numbered from 0 on, in the order in which their keys came.
+///
+/// Contracts see it as the list of keys with their slots, in the order of the keys.
+#[derive(Drop)]
+pub(crate) struct Rows<K: Ord> {
+    slots: BTreeMap<K, usize>,
+}
+
+impl<K: Ord> Model for Rows<K> {
+    ghost use Rattle.std.specs.Prelude.{List, ℕ};
+    ghost use Rattle.dubp_undo.specs.Rows.{AreRows};
+
+    ghost Value = { List (K × ℕ) };
+
+    ghost view = { λ r. r.slots.entries };
+
+    ghost invariant = { λ r. AreRows K.cmp r.slots.entries };
+}
+
+impl<K: Ord + Copy> Rows<K> {
+    /// No key. It takes no memory.
+    pub(crate) fn new(alloc: Global) -> Rows<K>
+        ensures { result ≡ [] }
+    {
+        Rows {
+            slots: BTreeMap::new(alloc),
+        }
+    }
+
+    /// The slot of the key, or `None` where it is not placed.
+    pub(crate) fn slot(&self, k: K) -> Option<usize>
+        ensures slot { result ≡ slot_of K.cmp self.now k }
+        ensures within { IfSome result (λ i. i < length self.now) }
+    {
+        self.slots.get(&k).copied()
+    }
+
+    /// Gives a new key the next slot. `NoMemory` where there is no room for it, and then nothing has changed.
+    pub(crate) fn place(&mut self, k: K) -> Result<usize, NoMemory>
+        requires { slot_of K.cmp self.old k ≡ None }
+        ensures slot { IfOk result (λ i. i ≡ length self.old) }
+        ensures added { OnOk result (AddsRow K.cmp self.old self.new k) }
+        ensures err { OnErr result (self.new ≡ self.old) }
+    {
+        let slot = self.slots.len();
+        self.slots.insert(k, slot).map_err(|_| NoMemory)?;
+        Ok(slot)
+    }
+
+    /// The first key from a bound on whose slot has a value, with that value.
+    ///
+    /// It steps over the keys between whose slots have none.
+    pub(crate) fn first_held<V: Copy>(&self, from: Bound<K>, slots: &[Option<V>]) -> Option<(K, V)>
+        requires { length self.now ≤ length slots.now }
+        ensures { result ≡ slice_get (live (rows_from K.cmp from self.now) slots.now) 0 }
+    {
+        for (k, slot) in self.slots.range((from, Bound::Unbounded)) {
+            if let Some(v) = slots[*slot] {
+                return Some((*k, v));
+            }
+        }
+        None
+    }
+}

@@ -1,0 +1,311 @@
+ghost use Rattle.std.specs.Prelude.{◌≡◌, ◌⊎◌, ◌+◌, ◌-◌, ◌<◌, ◌≤◌, [], ◌∷◌, ◌++◌, length, drop, OnOk, OnErr, IsOk, IfSome, IfNone};
+ghost use Rattle.std.specs.BTreeMap.Range.{IsLeBy};
+ghost use Rattle.std.specs.List.Sorted.{IsStrictlySortedBy};
+ghost use Rattle.std.specs.Map.{keys_of};
+ghost use Rattle.dubp_undo.specs.MovingTable.{MovingTable, empty, IsUnchanged, get, Puts, SameValues, one_more, last_count, IsLeast, HasNone, IsPlaced, Places, IsAfter};
+
+use crate::moves::{
+    Change, changes_since, drop_first, make_room, move_last, note, place, undo_last,
+};
+use crate::rows::Rows;
+use dubp_atoms::{NoMemory, Noted, Steps};
+use std::alloc::Global;
+use std::collections::VecDeque;
+use std::marker::Model;
+use std::ops::Bound;
+use std::sync::ledger::Ledger;
+
+/// A map that keeps its earlier states, and those that it was taken back from.
+///
+/// Contracts see it as a `MovingTable`. A key that was set once keeps its place, so no way back or forth needs memory:
+/// only `set`, `ready`, `mark` and `reserve` take any, and answer `NoMemory` where there is none. `mark` copies nothing.
+/// Every call but `reserve` and `hold` may lower `spare`, and every call but `set` and `ready` may lower `room`.
+#[derive(Drop)]
+pub struct UndoTable<K: Ord, V> {
+    rows: Rows<K>,
+    // what stands at each slot now
+    slots: Vec<Option<V>>,
+    // the changes since the first mark, and how many come after each mark
+    journal: VecDeque<Change<V>>,
+    marks: VecDeque<usize>,
+    // the same for the way forward, of which the last is the next
+    redo: VecDeque<Change<V>>,
+    redo_marks: VecDeque<usize>,
+    spare: usize,
+    // the slots where the way forward begins
+    root: Noted<Vec<Option<V>>>,
+}
+
+impl<K: Ord, V> Model for UndoTable<K, V> {
+    ghost use Rattle.std.specs.Prelude.{◌+◌, ◌-◌, length, reverse};
+    ghost use Rattle.std.specs.Map.{keys_of};
+    ghost use Rattle.std.specs.VecDeque.{deque_capacity};
+    ghost use Rattle.dubp_undo.specs.MovingTable.{MovingTable};
+    ghost use Rattle.dubp_undo.specs.Rows.{live};
+    ghost use Rattle.dubp_undo.specs.Journal.{states, IsKept};
+
+    ghost Value = { MovingTable K V };
+
+    ghost view = { λ t. record {
+      past = states t.rows t.slots.items t.journal.items t.marks.items;
+      now = live t.rows t.slots.items;
+      ahead = reverse (states t.rows t.root.value.items t.redo.items t.redo_marks.items);
+      root = live t.rows t.root.value.items;
+      spare = t.spare;
+      room = deque_capacity t.journal - (length t.journal.items + length t.redo.items);
+      placed = keys_of t.rows;
+    } };
+
+    ghost invariant = { λ t. IsKept K.cmp t.rows t.slots.items t.root.value.items t.journal.items t.redo.items t.marks.items t.redo_marks.items t.spare (deque_capacity t.journal) (deque_capacity t.marks) (deque_capacity t.redo) (deque_capacity t.redo_marks) };
+}
+
+impl<K: Ord + Copy, V: Copy + Eq> UndoTable<K, V> {
+    /// The empty table, which keeps no earlier state. It takes no memory.
+    pub fn new(alloc: Global) -> UndoTable<K, V>
+        ensures { result ≡ empty }
+    {
+        let slots = Vec::new(alloc);
+        let root = Noted::of(&slots);
+        UndoTable {
+            rows: Rows::new(alloc),
+            slots,
+            // a capacity of 0 is said by this call alone, and takes no memory
+            journal: VecDeque::with_capacity(alloc, 0).unwrap(),
+            marks: VecDeque::new(alloc),
+            redo: VecDeque::new(alloc),
+            redo_marks: VecDeque::new(alloc),
+            spare: 0,
+            root,
+        }
+    }
+
+    /// The value that `now` has at the key, or `None` where it has none.
+    pub fn get(&self, k: K) -> Option<V>
+        ensures { result ≡ get K.cmp self.now.now k }
+    {
+        let slot = self.rows.slot(k)?;
+        self.slots[slot]
+    }
+
+    /// The least key of `now` that is at least k, with its value, or `None` where there is none.
+    ///
+    /// It steps over placed keys without a value.
+    pub fn next_from(&self, k: K) -> Option<(K, V)>
+        ensures found { IfSome result (IsLeast K.cmp self.now.now (IsLeBy K.cmp k)) }
+        ensures none { IfNone result (HasNone K.cmp self.now.now (IsLeBy K.cmp k)) }
+    {
+        self.rows.first_held(Bound::Included(k), &self.slots)
+    }
+
+    /// The least key of `now` above k, or the least of all where k is `None`, with its value. `None` where there is none.
+    ///
+    /// It steps over placed keys without a value.
+    pub fn next_after(&self, k: Option<K>) -> Option<(K, V)>
+        ensures found { IfSome result (IsLeast K.cmp self.now.now (IsAfter K.cmp k)) }
+        ensures none { IfNone result (HasNone K.cmp self.now.now (IsAfter K.cmp k)) }
+    {
+        match k {
+            Some(k) => self.rows.first_held(Bound::Excluded(k), &self.slots),
+            None => self.rows.first_held(Bound::Unbounded, &self.slots),
+        }
+    }
+
+    /// How many earlier maps are kept.
+    pub fn depth(&self) -> usize
+        ensures depth { result ≡ length self.now.past }
+        ensures sorted { IsStrictlySortedBy K.cmp (keys_of self.now.now) }
+        ensures sorted_root { IsStrictlySortedBy K.cmp (keys_of self.now.root) }
+    {
+        self.marks.len()
+    }
+
+    /// Gives the key the value v, or takes its value away where v is `None`. One step.
+    ///
+    /// `NoMemory` comes only where the key is not placed or `room` is 0; nothing has changed then, `spare` and `room` aside.
+    pub fn set<L: Ledger>(
+        &mut self,
+        k: K,
+        v: Option<V>,
+        steps: &mut Steps<L>,
+    ) -> Result<(), NoMemory>
+        ensures now { OnOk result (Puts K.cmp self.old.now self.new.now k v) }
+        ensures past { OnOk result (self.new.past ≡ one_more self.old.past) }
+        ensures placed { OnOk result (Places K.cmp self.old.placed self.new.placed k) }
+        ensures step { OnOk result (steps.new ≡ steps.old + 1) }
+        ensures ahead { self.new.ahead ≡ self.old.ahead }
+        ensures root { self.new.root ≡ self.old.root }
+        ensures room { self.old.room ≤ self.new.room + 1 }
+
+        ensures refused { OnErr result (IsUnchanged self.old self.new) }
+        ensures no_step { OnErr result (steps.new ≡ steps.old) }
+        ensures succeeds { IsPlaced K.cmp k self.old.placed → 1 ≤ self.old.room → IsOk result }
+    {
+        make_room(&mut self.journal, self.redo.len(), 1)?;
+        let slot = place(&mut self.rows, &mut self.slots, k)?;
+        note(&mut self.journal, &mut self.marks, (slot, self.slots[slot]));
+        self.slots[slot] = v;
+        self.spare = 0;
+        steps.tick();
+        Ok(())
+    }
+
+    /// Places the key, and makes room for n keys that are placed to be set. No step.
+    ///
+    /// `NoMemory` comes only where the key is not placed or `room` is below n; nothing has changed then, `spare` and `room`
+    /// aside.
+    pub fn ready(&mut self, k: K, n: usize) -> Result<(), NoMemory>
+        ensures placed { OnOk result (Places K.cmp self.old.placed self.new.placed k) }
+        ensures room { OnOk result (n ≤ self.new.room) }
+        ensures room_stays { self.old.room ≤ self.new.room }
+        ensures past { self.new.past ≡ self.old.past }
+        ensures now { self.new.now ≡ self.old.now }
+        ensures ahead { self.new.ahead ≡ self.old.ahead }
+        ensures root { self.new.root ≡ self.old.root }
+
+        ensures refused { OnErr result (IsUnchanged self.old self.new) }
+        ensures succeeds { IsPlaced K.cmp k self.old.placed → n ≤ self.old.room → IsOk result }
+    {
+        make_room(&mut self.journal, self.redo.len(), n)?;
+        let _slot = place(&mut self.rows, &mut self.slots, k)?;
+        Ok(())
+    }
+
+    /// Keeps `now`, at the end of `past`. Nothing is copied.
+    ///
+    /// `NoMemory` where there is no room for one more mark; nothing has changed then, `spare` and `room` aside.
+    pub fn mark(&mut self) -> Result<(), NoMemory>
+        ensures past { OnOk result (self.new.past ≡ self.old.past ++ (self.old.now, 0) ∷ []) }
+        ensures now { self.new.now ≡ self.old.now }
+        ensures ahead { self.new.ahead ≡ self.old.ahead }
+        ensures root { self.new.root ≡ self.old.root }
+        ensures placed { self.new.placed ≡ self.old.placed }
+
+        ensures refused { OnErr result (IsUnchanged self.old self.new) }
+    {
+        let extra = self.redo_marks.len() + 1;
+        self.marks.reserve(extra).map_err(|_| NoMemory)?;
+        self.marks.push_back_reserved(0);
+        self.spare = 0;
+        Ok(())
+    }
+
+    /// Takes back a mark after which no key was set. It takes no memory, and no step.
+    pub fn unmark(&mut self)
+        requires past { 0 < length self.old.past }
+        requires fresh { last_count self.old.past ≡ 0 }
+        ensures past { self.old.past ≡ self.new.past ++ (self.old.now, 0) ∷ [] }
+        ensures now { self.new.now ≡ self.old.now }
+        ensures ahead { self.new.ahead ≡ self.old.ahead }
+        ensures root { self.new.root ≡ self.old.root }
+        ensures placed { self.new.placed ≡ self.old.placed }
+    {
+        let _count = self.marks.pop_back().unwrap();
+        self.spare = 0;
+    }
+
+    /// Makes `spare` at least k, with room for the keys set since the last k marks and no more. `spare` never falls.
+    ///
+    /// `NoMemory` comes only where `spare` is below k; nothing has changed then, `spare` and `room` aside.
+    pub fn reserve(&mut self, k: usize) -> Result<(), NoMemory>
+        requires { k ≤ length self.old.past }
+        ensures spare { OnOk result (k ≤ self.new.spare) }
+        ensures spare_stays { self.old.spare ≤ self.new.spare }
+        ensures past { self.new.past ≡ self.old.past }
+        ensures now { self.new.now ≡ self.old.now }
+        ensures ahead { self.new.ahead ≡ self.old.ahead }
+        ensures root { self.new.root ≡ self.old.root }
+        ensures placed { self.new.placed ≡ self.old.placed }
+
+        ensures refused { OnErr result (IsUnchanged self.old self.new) }
+        ensures succeeds { k ≤ self.old.spare → IsOk result }
+    {
+        if k <= self.spare {
+            return Ok(());
+        }
+        let changes = changes_since(&self.marks, k);
+        self.redo.reserve_exact(changes).map_err(|_| NoMemory)?;
+        self.redo_marks.reserve_exact(k).map_err(|_| NoMemory)?;
+        self.spare = k;
+        Ok(())
+    }
+
+    /// Goes back to the last of `past` and keeps the way forward: the old `now` goes to the front of `ahead`. It takes no
+    /// memory. One step for each key that was set between the two.
+    pub fn hold<L: Ledger>(&mut self, steps: &mut Steps<L>)
+        requires past { 0 < length self.old.past }
+        requires spare { 1 ≤ self.old.spare }
+        requires begins { (self.old.ahead ≡ []) ⊎ SameValues K.cmp self.old.now self.old.root }
+        ensures past { self.old.past ≡ self.new.past ++ (self.new.now, steps.new - steps.old) ∷ [] }
+        ensures ahead { self.new.ahead ≡ (self.old.now, steps.new - steps.old) ∷ self.old.ahead }
+        ensures root { self.new.root ≡ self.new.now }
+        ensures spare { self.new.spare + 1 ≡ self.old.spare }
+        ensures placed { self.new.placed ≡ self.old.placed }
+        ensures steps { steps.old ≤ steps.new }
+    {
+        let n = self.marks.pop_back().unwrap();
+        move_last(&mut self.slots, &mut self.journal, &mut self.redo, n, steps);
+        self.redo_marks.push_back_reserved(n);
+        self.root = Noted::of(&self.slots);
+        self.spare -= 1;
+    }
+
+    /// Goes back to the last of `past`, which leaves it. `ahead` and `root` stay as they are. It takes no memory. One step
+    /// for each key that was set between the two.
+    pub fn back<L: Ledger>(&mut self, steps: &mut Steps<L>)
+        requires { 0 < length self.old.past }
+        ensures past { self.old.past ≡ self.new.past ++ (self.new.now, steps.new - steps.old) ∷ [] }
+        ensures ahead { self.new.ahead ≡ self.old.ahead }
+        ensures root { self.new.root ≡ self.old.root }
+        ensures placed { self.new.placed ≡ self.old.placed }
+        ensures steps { steps.old ≤ steps.new }
+    {
+        let n = self.marks.pop_back().unwrap();
+        undo_last(&mut self.slots, &mut self.journal, n, steps);
+        self.spare = 0;
+    }
+
+    /// Goes forward to the first of `ahead`, which leaves it; the old `now` is kept at the end of `past`. It takes no
+    /// memory. One step for each key that was set between the two.
+    pub fn again<L: Ledger>(&mut self, steps: &mut Steps<L>)
+        requires ahead { 0 < length self.old.ahead }
+        requires begins { SameValues K.cmp self.old.now self.old.root }
+        ensures past { self.new.past ≡ self.old.past ++ (self.old.now, steps.new - steps.old) ∷ [] }
+        ensures ahead { self.old.ahead ≡ (self.new.now, steps.new - steps.old) ∷ self.new.ahead }
+        ensures root { self.new.root ≡ self.new.now }
+        ensures placed { self.new.placed ≡ self.old.placed }
+        ensures steps { steps.old ≤ steps.new }
+    {
+        let n = self.redo_marks.pop_back().unwrap();
+        move_last(&mut self.slots, &mut self.redo, &mut self.journal, n, steps);
+        self.marks.push_back_reserved(n);
+        self.root = Noted::of(&self.slots);
+        self.spare = 0;
+    }
+
+    /// Forgets the oldest map that is kept. It takes no memory, and as long as the number of keys that were set after it.
+    pub fn drop_oldest(&mut self)
+        requires { 0 < length self.old.past }
+        ensures past { self.new.past ≡ drop 1 self.old.past }
+        ensures now { self.new.now ≡ self.old.now }
+        ensures ahead { self.new.ahead ≡ self.old.ahead }
+        ensures root { self.new.root ≡ self.old.root }
+        ensures placed { self.new.placed ≡ self.old.placed }
+    {
+        let n = self.marks.pop_front().unwrap();
+        drop_first(&mut self.journal, n);
+        self.spare = 0;
+    }
+
+    /// Forgets what `hold` took off. It takes no memory.
+    pub fn drop_ahead(&mut self)
+        ensures ahead { self.new.ahead ≡ [] }
+        ensures past { self.new.past ≡ self.old.past }
+        ensures now { self.new.now ≡ self.old.now }
+        ensures root { self.new.root ≡ self.old.root }
+        ensures placed { self.new.placed ≡ self.old.placed }
+    {
+        self.redo.clear();
+        self.redo_marks.clear();
+        self.spare = 0;
+    }
+}
