@@ -60,7 +60,7 @@ fn answers_in_small_pieces(rt: HostRuntime) -> Result<(), Fail> {
 #[test]
 fn each_read_fails(rt: HostRuntime) -> Result<(), Fail> {
     let alloc = rt.alloc();
-    for call in 0..196u64 {
+    for call in 0..194u64 {
         let mut source = MemSource::new(input(alloc)?, 7, vec![in alloc; call]?);
         let mut sink = MemSink::new(alloc, 4096, 4096, Vec::new(alloc))?;
         let mut node = Node::new(alloc);
