@@ -3,3 +3,5 @@ pub mod Letters
 pub mod Hashing
 pub mod Reading
 pub mod Spelling
+pub mod Same
+pub mod Walks
