@@ -1,2 +1,4 @@
+pub mod Sections
 pub mod Text
+pub mod Texts
 pub mod Reading

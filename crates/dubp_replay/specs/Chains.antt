@@ -1,9 +1,10 @@
--- A chain of blocks, and the values of its head. Protocol: head values.
-use Rattle.std.specs.Prelude.{ℕ, List, [], ◌∷◌, length, reverse, slice_get, Option, Some, None, pos}
+-- A chain of blocks: its blocks by number, its first block, its parameters and its currency. Protocol: chains.
+use Rattle.std.specs.Prelude.{ℕ, List, [], ◌∷◌, reverse, slice_get, Option, Some, None, unwrap_or, option_and_then}
+use Rattle.std.specs.Option.{option_map_or}
+use Rattle.dubp_atoms.specs.Same.{Text}
+use Rattle.dubp_atoms.specs.declared.dec.Dec.{Dec}
 use Rattle.dubp_block.specs.declared.block.Block.{Block}
-use Rattle.dubp_block.specs.Text.{block_hash_of}
 use Rattle.dubp_params.specs.declared.params.Params.{Params}
-use Rattle.dubp_replay.specs.declared.head.Head.{Head}
 
 -- the blocks, newest first: 'the chain with a block behind it' is the list with the block at its front
 abbrev pub Chain : Type 0
@@ -13,36 +14,42 @@ Chain = List Block
 abbrev pub block_of_number : Chain → ℕ → Option Block
 block_of_number c number = slice_get (reverse c) number
 
--- the head of a chain of one block, which sets the parameters and has no members
-abbrev pub first_head : Params → Block → Head
-first_head p b = record {
-  version = b.version;
-  number = b.number;
-  hash = block_hash_of b;
-  issuer = b.issuer;
-  time = b.time;
-  median_time = b.time;
-  frame = 1;
-  frame_var = pos 0;
-  issuers = 0;
-  pow_min = b.pow_min;
-  diff_number = p.dt_diff_eval;
-  members = 0;
-  dividend = p.ud0;
-  unit_base = 0;
-  mass = 0;
-  mass_reeval = 0;
-  ud_time = p.ud_time0;
-  ud_reeval_time = p.ud_reeval_time0;
-  ud = None;
-  size = 0;
+abbrev pub first_block : Chain → Option Block
+first_block [] = None
+first_block (b ∷ []) = Some b
+first_block (b ∷ a ∷ c) = first_block (a ∷ c)
+
+-- where nothing sets parameters, none are asked for, and these are all 0
+abbrev pub no_dec : Dec
+no_dec = record { mantissa = 0; places = 0 }
+
+abbrev pub no_params : Params
+no_params = record {
+  c = no_dec;
+  dt = 0;
+  ud0 = 0;
+  sig_period = 0;
+  sig_stock = 0;
+  sig_window = 0;
+  sig_validity = 0;
+  sig_qty = 0;
+  idty_window = 0;
+  ms_window = 0;
+  xpercent = no_dec;
+  ms_validity = 0;
+  step_max = 0;
+  median_time_blocks = 0;
+  avg_gen_time = 0;
+  dt_diff_eval = 0;
+  percent_rot = no_dec;
+  ud_time0 = 0;
+  ud_reeval_time0 = 0;
+  dt_reeval = 0;
 }
 
-abbrev pub head_with : Option Params → Block → Option Head
-head_with None b = None
-head_with (Some p) b = Some (first_head p b)
+-- the parameters and the currency are those of the first block
+abbrev pub params : Chain → Params
+params c = unwrap_or (option_and_then (λ b. b.params) (first_block c)) no_params
 
--- The head of a chain. Chains have one block at most so far, since a second one is refused.
-abbrev pub head_of : Chain → Option Head
-head_of [] = None
-head_of (b ∷ c) = head_with b.params b
+abbrev pub currency : Chain → Text
+currency c = option_map_or (λ b. b.currency) (first_block c) []

@@ -6,6 +6,8 @@
 
 mod head;
 mod query;
+mod record;
 
 pub use head::Head;
 pub use query::Query;
+pub use record::Record;
