@@ -14,5 +14,9 @@ pub mod HeadRules
 pub mod PeopleRules
 pub mod MoneyRules
 pub mod Rules
+pub mod RefusedLines
+pub mod Records
+pub mod Tables
+pub mod Reduced
 pub mod Laws
 pub mod Answers

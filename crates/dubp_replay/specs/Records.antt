@@ -1,0 +1,145 @@
+-- What a block writes to the indexes, one record for each change, and the text of a record. Protocol: records.
+use Rattle.std.specs.Prelude.{◌≡◌, ℕ, ◌≤◌, ◌==◌, Bool, true, not, ◌&&◌, List, [], ◌∷◌, ◌++◌, codes, decimal, map, filter, length, unwrap_or, Option, Some, None, if◌then◌else◌}
+use Rattle.std.specs.List.{flat_map, enumerate_from}
+use Rattle.arrayvec.specs.ArrayVec.{ArrayVec}
+use Rattle.dubp_atoms.specs.Same.{Text, same_text}
+use Rattle.dubp_atoms.specs.Letters.{is_key, is_uid}
+use Rattle.dubp_atoms.specs.Spelling.{IsNumber, stamp_text, IsStamp}
+use Rattle.dubp_cond.specs.Conditions.{cond_text, IsCond}
+use Rattle.dubp_cond.specs.Sources.{input_text, IsInput}
+use Rattle.dubp_cond.specs.declared.source.Input.{Input}
+use Rattle.dubp_cond.specs.declared.tx.Tx.{Tx}
+use Rattle.dubp_block.specs.declared.block.Block.{Block}
+use Rattle.dubp_block.specs.declared.block.MemberLine.{MemberLine}
+use Rattle.dubp_replay.specs.declared.record.Record.{Record}
+use Rattle.dubp_replay.specs.declared.record.Record.TheVariants.{Create, Enter, Exit, Join, Active, Leave, Revoke, Expire, ExpireRev, Cert, CertExpire, Spend, Make, Dividend, Clear}
+use Rattle.dubp_replay.specs.Words.{names, in_order}
+use Rattle.dubp_replay.specs.Chains.{Chain}
+use Rattle.dubp_replay.specs.Members.{members}
+use Rattle.dubp_replay.specs.Heads.{time_of, head_of}
+use Rattle.dubp_replay.specs.Made.{made, certification_made}
+use Rattle.dubp_replay.specs.People.{identity_lines, expired, revoked}
+use Rattle.dubp_replay.specs.Live.{live, certified_pairs}
+use Rattle.dubp_replay.specs.Money.{Source, outputs_made, dividends_at, cleared, cleared_by}
+
+-- when a membership of b was made
+abbrev pub membership_time : Chain → Block → MemberLine → ℕ
+membership_time c b line = unwrap_or (made c b line.stamp) 0
+
+-- those of the lines, section by section
+abbrev pub line_records : Chain → Block → List Record
+line_records c b =
+    map (λ line. Create line.key line.uid line.stamp) b.identities
+    ++ (flat_map (λ line. Enter line.key ∷ Join line.key (membership_time c b line) ∷ []) b.joiners
+    ++ (map (λ line. Active line.key (membership_time c b line)) b.actives
+    ++ (map (λ line. Leave line.key (membership_time c b line)) b.leavers
+    ++ (map (λ line. Revoke line.key) b.revoked
+    ++ (map Exit b.excluded
+    ++ map (λ line. Cert line.from line.to (unwrap_or (certification_made c b line) 0)) b.certifications)))))
+
+-- the keys that have an identity, by key
+abbrev pub identity_keys : Chain → List Text
+identity_keys c = in_order (map (λ line. line.key) (identity_lines c))
+
+-- expired with the block and not before it, by key
+abbrev pub expiry_records : Chain → Block → List Record
+expiry_records c b = map Expire (filter (λ k. expired (b ∷ c) k && not (expired c k)) (identity_keys (b ∷ c)))
+
+-- revoked with the block by time alone and not before it, by key
+abbrev pub is_revoked_by_time : Chain → Block → Text → Bool
+is_revoked_by_time c b k = revoked (b ∷ c) k && (not (revoked c k) && not (names (map (λ line. line.key) b.revoked) k))
+
+abbrev pub revocation_records : Chain → Block → List Record
+revocation_records c b = map ExpireRev (filter (is_revoked_by_time c b) (identity_keys (b ∷ c)))
+
+-- the pairs of certifications, each once, by issuer and then by receiver
+abbrev pub receivers_of : List (Text × Text) → Text → List Text
+receivers_of pairs a = in_order (map (λ p. p.1) (filter (λ p. same_text a p.0) pairs))
+
+abbrev pub pairs_in_order : List (Text × Text) → List (Text × Text)
+pairs_in_order pairs = flat_map (λ a. map (λ b. (a, b)) (receivers_of pairs a)) (in_order (map (λ p. p.0) pairs))
+
+-- live before the block and not with it
+abbrev pub ended_records : Chain → Block → List Record
+ended_records c b =
+    map (λ p. CertExpire p.0 p.1) (filter (λ p. live c p.0 p.1 && not (live (b ∷ c) p.0 p.1)) (pairs_in_order (certified_pairs c)))
+
+abbrev pub input_of : Source → Input
+input_of s = record { amount = s.amount; base = s.base; source = s.id }
+
+abbrev pub make_record : Source → Record
+make_record s = Make (input_of s) (record { items = cond_text s.cond })
+
+-- what a transaction spends, and then what it makes
+abbrev pub transaction_records : Chain → Block → Tx → List Record
+transaction_records c b tx = map Spend tx.inputs ++ map make_record (outputs_made (time_of (b ∷ c)) b.currency tx)
+
+abbrev pub dividend_records : Chain → Block → List Record
+dividend_records c b = map (λ s. Dividend (input_of s)) (dividends_at b.number (head_of (b ∷ c)) (members (b ∷ c)))
+
+abbrev pub clearing_records : Chain → Block → List Record
+clearing_records c b = map (λ s. Clear (input_of s)) (cleared_by c b (cleared c))
+
+-- the records of b on c, in order
+abbrev pub records : Chain → Block → List Record
+records c b =
+    line_records c b
+    ++ (expiry_records c b
+    ++ (revocation_records c b
+    ++ (ended_records c b
+    ++ (flat_map (transaction_records c b) b.transactions
+    ++ (dividend_records c b
+    ++ clearing_records c b)))))
+
+-- the chain that ends with the block of this number; the empty one where there is none
+abbrev pub up_to : Chain → ℕ → Chain
+up_to [] number = []
+up_to (b ∷ c) number = if number == length c then b ∷ c else up_to c number
+
+abbrev pub last_records : Chain → Option (List Record)
+last_records [] = None
+last_records (b ∷ c) = Some (records c b)
+
+-- the records of the block of this number
+abbrev pub records_at : Chain → ℕ → Option (List Record)
+records_at c number = last_records (up_to c number)
+
+-- ---- the text of a record: a name and its fields, each behind a space
+
+abbrev pub fields_text : List Text → List ℕ
+fields_text fields = flat_map (λ f. 32 ∷ f) fields
+
+abbrev pub record_text : Record → List ℕ
+record_text (Create key uid stamp) = codes "IIDX CREATE" ++ fields_text (key ∷ uid ∷ stamp_text stamp ∷ [])
+record_text (Enter key) = codes "IIDX IN" ++ fields_text (key ∷ [])
+record_text (Exit key) = codes "IIDX OUT" ++ fields_text (key ∷ [])
+record_text (Join key made) = codes "MIDX JOIN" ++ fields_text (key ∷ decimal made ∷ [])
+record_text (Active key made) = codes "MIDX ACTIVE" ++ fields_text (key ∷ decimal made ∷ [])
+record_text (Leave key made) = codes "MIDX LEAVE" ++ fields_text (key ∷ decimal made ∷ [])
+record_text (Revoke key) = codes "MIDX REVOKE" ++ fields_text (key ∷ [])
+record_text (Expire key) = codes "MIDX EXPIRE" ++ fields_text (key ∷ [])
+record_text (ExpireRev key) = codes "MIDX EXPIREREV" ++ fields_text (key ∷ [])
+record_text (Cert from to made) = codes "CIDX CERT" ++ fields_text (from ∷ to ∷ decimal made ∷ [])
+record_text (CertExpire from to) = codes "CIDX EXPIRE" ++ fields_text (from ∷ to ∷ [])
+record_text (Spend input) = codes "SIDX SPEND" ++ fields_text (input_text input ∷ [])
+record_text (Make input cond) = codes "SIDX MAKE" ++ fields_text (input_text input ∷ cond.items ∷ [])
+record_text (Dividend input) = codes "SIDX DIVIDEND" ++ fields_text (input_text input ∷ [])
+record_text (Clear input) = codes "SIDX CLEAR" ++ fields_text (input_text input ∷ [])
+
+-- which records have a text
+abbrev pub IsRecord : Record → Type 0
+IsRecord (Create key uid stamp) = (is_key key ≡ true) × (is_uid uid ≡ true) × IsStamp stamp
+IsRecord (Enter key) = is_key key ≡ true
+IsRecord (Exit key) = is_key key ≡ true
+IsRecord (Join key made) = (is_key key ≡ true) × IsNumber made
+IsRecord (Active key made) = (is_key key ≡ true) × IsNumber made
+IsRecord (Leave key made) = (is_key key ≡ true) × IsNumber made
+IsRecord (Revoke key) = is_key key ≡ true
+IsRecord (Expire key) = is_key key ≡ true
+IsRecord (ExpireRev key) = is_key key ≡ true
+IsRecord (Cert from to made) = (is_key from ≡ true) × (is_key to ≡ true) × IsNumber made
+IsRecord (CertExpire from to) = (is_key from ≡ true) × (is_key to ≡ true)
+IsRecord (Spend input) = IsInput input
+IsRecord (Make input cond) = IsInput input × (length cond.items ≤ 1000)
+IsRecord (Dividend input) = IsInput input
+IsRecord (Clear input) = IsInput input
