@@ -20,3 +20,4 @@ pub mod Tables
 pub mod Reduced
 pub mod Laws
 pub mod Answers
+pub mod Turns

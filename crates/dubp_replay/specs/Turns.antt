@@ -1,0 +1,238 @@
+-- What each command answers and how it changes the state, and runs of commands. Protocol: commands and answers.
+use Rattle.std.specs.Prelude.{◌≡◌, ◌⊎◌, ℕ, ◌+◌, ◌-◌, ◌<◌, ◌≤◌, min, Bool, not, List, [], ◌∷◌, ◌++◌, length, filter, find, take, drop, reverse, position, Option, Some, None, option_map, is_some, nat_le, nat_lt, ⊤, MatchBool}
+use Rattle.std.specs.Option.{MatchOption}
+use Rattle.std.specs.List.{list_any}
+use Rattle.dubp_atoms.specs.Same.{Text, same_stamp}
+use Rattle.dubp_atoms.specs.declared.stamp.Stamp.{Stamp}
+use Rattle.dubp_block.specs.declared.block.Block.{Block}
+use Rattle.dubp_block.specs.Texts.{stamp_of}
+use Rattle.dubp_rules.specs.declared.rule.Rule.{Rule}
+use Rattle.dubp_rules.specs.declared.rule.Rule.TheVariants.{P01, G51}
+use Rattle.dubp_rules.specs.Table.{table_rules, code_text, place_of}
+use Rattle.dubp_rules.specs.First.{IsFirst}
+use Rattle.dubp_replay.specs.declared.query.Query.{Query}
+use Rattle.dubp_replay.specs.declared.query.Query.TheVariants as query
+use Rattle.dubp_replay.specs.Chains.{Chain}
+use Rattle.dubp_replay.specs.Verdicts.{Verdict, Verdicts}
+use Rattle.dubp_replay.specs.Rules.{FirstBroken, FirstBrokenRaw, HoldsRaw, IsTextOf}
+use Rattle.dubp_replay.specs.RefusedLines.{IsRefusedLine}
+use Rattle.dubp_replay.specs.Answers.{noted_answer, accepted_answer, refused_answer, unread_answer, reverted_answer, too_deep_answer, stored_answer, known_answer, full_answer, switched_answer, unknown_answer, detached_answer, branch_refused_answer, forgotten_answer, bad_answer, no_memory_answer, IsAnswered}
+
+-- what all answers depend on: the verdicts, the chain of accepted and unreversed blocks, how many of them can be reversed, and
+-- the stored blocks of branches in their order
+pub record State : Type 0 where
+  pub verdicts : Verdicts
+  pub chain : Chain
+  pub kept : ℕ
+  pub store : List Block
+
+abbrev pub start : State
+start = record { verdicts = []; chain = []; kept = 0; store = [] }
+
+-- how many blocks can be reversed at most, and how many are stored at most
+abbrev pub most_kept : ℕ
+most_kept = 100
+
+abbrev pub most_stored : ℕ
+most_stored = 1024
+
+-- a command, with the raw bytes of its frame where it has one
+pub data Order : Type 0 where
+  Note : Verdict → Order
+  Submit : List ℕ → Order
+  Revert : ℕ → Order
+  Offer : List ℕ → Order
+  Switch : Stamp → Order
+  Forget : Stamp → Order
+  Ask : Query → Order
+  Unread : Order
+
+-- the answer, where nothing changes
+abbrev pub Only : List ℕ → State → List ℕ → State → Type 0
+Only text old answer new = (answer ≡ text) × (new ≡ old)
+
+-- ---- BLOCK
+
+abbrev pub is_stamped : Stamp → Block → Bool
+is_stamped stamp b = same_stamp stamp (stamp_of b)
+
+abbrev pub without : Stamp → List Block → List Block
+without stamp blocks = filter (λ b. not (is_stamped stamp b)) blocks
+
+-- the block joins the chain and leaves the store
+abbrev pub accepted : State → Block → State
+accepted old b =
+    record old { chain = b ∷ old.chain; kept = min (old.kept + 1) most_kept; store = without (stamp_of b) old.store }
+
+-- the bytes are refused by this rule; where they are no block, with the line that is refused
+abbrev pub RefusedBy : List ℕ → Rule → State → List ℕ → State → Type 0
+RefusedBy bytes P01 old answer new = (line : ℕ) × IsRefusedLine bytes line × Only (unread_answer line) old answer new
+RefusedBy bytes rule old answer new = Only (refused_answer (code_text rule)) old answer new
+
+-- the block of these bytes is accepted
+abbrev pub Accepts : List ℕ → State → List ℕ → State → Type 0
+Accepts bytes old answer new =
+    (b : Block) × IsTextOf bytes b × (answer ≡ accepted_answer (stamp_of b)) × (new ≡ accepted old b)
+
+-- accepted where no rule is broken, else the first that is broken is named
+pub record BlockTurn (old : State) (bytes answer : List ℕ) (new : State) : Type 0 where
+  pub broken : Option Rule
+  pub first : FirstBrokenRaw old.verdicts old.chain bytes broken
+  pub decides : MatchOption broken (Accepts bytes old answer new) (λ rule. RefusedBy bytes rule old answer new)
+
+-- ---- REVERT
+
+abbrev pub RevertTurn : State → ℕ → List ℕ → State → Type 0
+RevertTurn old count answer new =
+    MatchBool (nat_le count old.kept)
+    ((answer ≡ reverted_answer count) × (new ≡ record old { chain = drop count old.chain; kept = old.kept - count }))
+    (Only (too_deep_answer old.kept) old answer new)
+
+-- ---- OFFER
+
+-- the rules that an offered block is read for: those before G51
+abbrev pub offer_rules : List Rule
+offer_rules = filter (λ rule. nat_lt (place_of rule) (place_of G51)) table_rules
+
+abbrev pub is_known : State → Stamp → Bool
+is_known s stamp = list_any (is_stamped stamp) (s.store ++ s.chain)
+
+-- a block that breaks none of them is stored, unless it is known or the store is full
+abbrev pub Stores : List ℕ → State → List ℕ → State → Type 0
+Stores bytes old answer new =
+    (b : Block) × IsTextOf bytes b ×
+    MatchBool (is_known old (stamp_of b))
+    (Only (known_answer (stamp_of b)) old answer new)
+    (MatchBool (nat_le most_stored (length old.store))
+    (Only full_answer old answer new)
+    ((answer ≡ stored_answer (stamp_of b)) × (new ≡ record old { store = old.store ++ b ∷ [] })))
+
+pub record OfferTurn (old : State) (bytes answer : List ℕ) (new : State) : Type 0 where
+  pub broken : Option Rule
+  pub first : IsFirst (HoldsRaw old.verdicts old.chain bytes) offer_rules broken
+  pub decides : MatchOption broken (Stores bytes old answer new) (λ rule. RefusedBy bytes rule old answer new)
+
+-- ---- SWITCH
+
+-- the stamp of the block before; block 0 has none
+abbrev pub previous_stamp : Block → Option Stamp
+previous_stamp b = option_map (λ p. record { number = b.number - 1; hash = p.0 }) b.previous
+
+abbrev pub stored : List Block → Stamp → Option Block
+stored store stamp = find (is_stamped stamp) store
+
+-- The path from a stamp, newest block first: each block is the stored one of the stamp that leads to it. It ends at a stamp that
+-- is not stored, or behind a block of number 0, which has none before it.
+abbrev pub IsPath : List Block → Stamp → List Block → Option Stamp → Type 0
+IsPath store stamp [] end = (stored store stamp ≡ None) × (end ≡ Some stamp)
+IsPath store stamp (b ∷ path) end =
+    (stored store stamp ≡ Some b)
+    × MatchOption (previous_stamp b) ((path ≡ []) × (end ≡ None)) (λ before. IsPath store before path end)
+
+-- how many blocks of the chain stand behind the ancestor at which a path ends: all of them where it ends before block 0
+abbrev pub blocks_behind : Chain → Option Stamp → Option ℕ
+blocks_behind c None = Some (length c)
+blocks_behind c (Some stamp) = position (is_stamped stamp) c
+
+abbrev pub is_on : List Block → Block → Bool
+is_on path b = list_any (is_stamped (stamp_of b)) path
+
+-- the path stands on what is left of the chain, and the blocks that were reversed go to the end of the store, oldest first
+abbrev pub switched : State → List Block → ℕ → State
+switched old path count =
+    record old {
+      chain = path ++ drop count old.chain;
+      kept = min ((old.kept - count) + length path) most_kept;
+      store = filter (λ b. not (is_on path b)) old.store ++ reverse (take count old.chain);
+    }
+
+-- each block of the path breaks no rule on those before it, over this chain
+abbrev pub IsAcceptedOn : Verdicts → Chain → List Block → Type 0
+IsAcceptedOn v c [] = ⊤
+IsAcceptedOn v c (b ∷ path) = FirstBroken v (path ++ c) b None × IsAcceptedOn v c path
+
+-- the lowest block of the path that breaks a rule, and the first that it breaks
+pub record BreaksAt (v : Verdicts) (c : Chain) (path : List Block) (b : Block) (rule : Rule) : Type 0 where
+  pub above : List Block
+  pub below : List Block
+  pub stands : path ≡ above ++ b ∷ below
+  pub passed : IsAcceptedOn v c below
+  pub breaks : FirstBroken v (below ++ c) b (Some rule)
+
+-- the path is accepted whole, or nothing changes
+abbrev pub TriesPath : State → Stamp → List Block → ℕ → List ℕ → State → Type 0
+TriesPath old stamp path count answer new =
+    (IsAcceptedOn old.verdicts (drop count old.chain) path × (answer ≡ switched_answer stamp) × (new ≡ switched old path count))
+    ⊎ ((b : Block) × (rule : Rule) × BreaksAt old.verdicts (drop count old.chain) path b rule
+    × Only (branch_refused_answer (stamp_of b) (code_text rule)) old answer new)
+
+-- so many blocks would be reversed
+abbrev pub SwitchesBy : State → Stamp → List Block → ℕ → List ℕ → State → Type 0
+SwitchesBy old stamp path count answer new =
+    MatchBool (nat_lt old.kept count)
+    (Only (too_deep_answer old.kept) old answer new)
+    (MatchBool (nat_lt most_stored ((length old.store - length path) + count))
+    (Only full_answer old answer new)
+    (TriesPath old stamp path count answer new))
+
+-- a path that ends at a stamp which is in neither store nor chain is detached
+abbrev pub Detaches : State → Option Stamp → List ℕ → State → Type 0
+Detaches old end answer new = MatchOption end ⊥ (λ stamp. Only (detached_answer stamp) old answer new)
+
+pub record SwitchTurn (old : State) (stamp : Stamp) (answer : List ℕ) (new : State) : Type 0 where
+  pub path : List Block
+  pub end : Option Stamp
+  pub is : IsPath old.store stamp path end
+  pub goes : MatchBool (is_some (stored old.store stamp)) (MatchOption (blocks_behind old.chain end) (Detaches old end answer new) (λ count. SwitchesBy old stamp path count answer new)) (Only unknown_answer old answer new)
+
+-- ---- FORGET
+
+abbrev pub ForgetTurn : State → Stamp → List ℕ → State → Type 0
+ForgetTurn old stamp answer new =
+    MatchBool (is_some (stored old.store stamp))
+    ((answer ≡ forgotten_answer) × (new ≡ record old { store = without stamp old.store }))
+    (Only unknown_answer old answer new)
+
+-- ---- turns and runs
+
+-- from this state the command may be answered so, and leads there
+abbrev pub Turn : State → Order → List ℕ → State → Type 0
+Turn old (Note verdict) answer new = (answer ≡ noted_answer) × (new ≡ record old { verdicts = verdict ∷ old.verdicts })
+Turn old (Submit bytes) answer new = BlockTurn old bytes answer new
+Turn old (Revert count) answer new = RevertTurn old count answer new
+Turn old (Offer bytes) answer new = OfferTurn old bytes answer new
+Turn old (Switch stamp) answer new = SwitchTurn old stamp answer new
+Turn old (Forget stamp) answer new = ForgetTurn old stamp answer new
+Turn old (Ask q) answer new = IsAnswered old.chain q answer × (new ≡ old)
+Turn old Unread answer new = Only bad_answer old answer new
+
+-- the queries that take memory
+abbrev pub AskingTakesMemory : Query → Type 0
+AskingTakesMemory query.Head = ⊥
+AskingTakesMemory query.Money = ⊥
+AskingTakesMemory (query.Identity key) = ⊥
+AskingTakesMemory (query.Uid uid) = ⊥
+AskingTakesMemory (query.Balance cond) = ⊥
+AskingTakesMemory q = ⊤
+
+-- the commands that take memory, and may be answered NOMEM
+abbrev pub TakesMemory : Order → Type 0
+TakesMemory (Note verdict) = ⊤
+TakesMemory (Submit bytes) = ⊤
+TakesMemory (Revert count) = ⊥
+TakesMemory (Offer bytes) = ⊤
+TakesMemory (Switch stamp) = ⊤
+TakesMemory (Forget stamp) = ⊥
+TakesMemory (Ask q) = AskingTakesMemory q
+TakesMemory Unread = ⊥
+
+-- the turn of the command, or NOMEM, which changes nothing
+abbrev pub TurnOrLack : State → Order → List ℕ → State → Type 0
+TurnOrLack old order answer new = Turn old order answer new ⊎ (TakesMemory order × Only no_memory_answer old answer new)
+
+-- these commands may be answered so, one after another, and lead there
+abbrev pub Runs : State → List Order → List (List ℕ) → State → Type 0
+Runs state [] [] new = new ≡ state
+Runs state (order ∷ orders) (answer ∷ answers) new = (middle : State) × TurnOrLack state order answer middle × Runs middle orders answers new
+Runs state [] (answer ∷ answers) new = ⊥
+Runs state (order ∷ orders) [] new = ⊥
