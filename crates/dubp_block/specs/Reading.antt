@@ -77,6 +77,19 @@ pub record IsFounding (number : ℕ) (x : Founding) : Type 0 where
   pub params : IsParams x.params
   pub members : IsNumber x.members
 
+-- the headings of empty sections
+abbrev pub headings : List (List ℕ)
+headings =
+    codes "Identities:"
+    ∷ codes "Joiners:"
+    ∷ codes "Actives:"
+    ∷ codes "Leavers:"
+    ∷ codes "Revoked:"
+    ∷ codes "Excluded:"
+    ∷ codes "Certifications:"
+    ∷ codes "Transactions:"
+    ∷ []
+
 unfoldable pub headings_at : Place → Result Place ℕ
 headings_at p = do
   identities ← line_at (just (codes "Identities:")) p
