@@ -6,8 +6,8 @@ use Rattle.dubp_atoms.proofs.Numbers.{number_again}
 use Rattle.dubp_atoms.proofs.Signed.{signed_again}
 use Rattle.dubp_atoms.proofs.Fields.{text_again}
 use Rattle.dubp_params.proofs.ParamsRead.{params_again}
-use Rattle.dubp_block.specs.Text.{opening_lines, issuer_lines, params_lines, headings}
-use Rattle.dubp_block.specs.Reading.{IsOpening, opening_at, IsIssuing, issuing_at, IsFounding, founding_at, headings_at, IsClosing, closing_at}
+use Rattle.dubp_block.specs.Text.{opening_lines, issuer_lines, params_lines}
+use Rattle.dubp_block.specs.Reading.{IsOpening, opening_at, IsIssuing, issuing_at, IsFounding, founding_at, headings, headings_at, IsClosing, closing_at}
 use Rattle.dubp_block.specs.declared.reading.Opening.{Opening}
 use Rattle.dubp_block.specs.declared.reading.Issuing.{Issuing}
 use Rattle.dubp_block.specs.declared.reading.Founding.{Founding}

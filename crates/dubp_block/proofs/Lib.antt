@@ -1,4 +1,5 @@
 pub mod Again
+pub mod Built
 pub mod Closing
 pub mod Lacking
 pub mod Values

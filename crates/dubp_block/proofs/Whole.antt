@@ -1,5 +1,5 @@
 -- The two laws of a block's text: what is read is spelled so, and what is spelled so is read.
-use Rattle.std.proofs.Common.{◌≡◌, ℕ, ℤ, ◌+◌, cond, eqb, List, [], ◌∷◌, ◌++◌, length, Option, Some, None, Result, Ok, Err, refl, sym, ap, subst, ◌∙◌, arith, decimal, append-nil}
+use Rattle.std.proofs.Common.{◌≡◌, ℕ, ℤ, ◌+◌, cond, eqb, List, [], ◌∷◌, ◌++◌, length, Some, None, Result, Ok, Err, refl, sym, ap, subst, ◌∙◌, arith, decimal, append-nil}
 use Rattle.std.specs.Prelude.{codes}
 use Rattle.std.specs.List.{AllByRecursion}
 use Rattle.dubp_atoms.specs.Reading.{Lacks}
@@ -12,8 +12,8 @@ use Rattle.dubp_lines.proofs.Split.{split_unlines}
 use Rattle.dubp_lines.proofs.Taken.{spans_then, text_of_lines, codes_lack, nothing_left}
 use Rattle.dubp_params.specs.declared.params.Params.{Params}
 use Rattle.dubp_params.specs.Spelling.{IsParams}
-use Rattle.dubp_block.specs.Text.{IsBuilt, HasParams, opening_lines, issuer_lines, params_lines, headings, block_lines, block_text}
-use Rattle.dubp_block.specs.Reading.{IsOpening, IsIssuing, IsFounding, IsClosing, issuing_at, founding_at, headings_at, closing_at, made, block_at, block_of}
+use Rattle.dubp_block.specs.Text.{IsBuilt, opening_lines, issuer_lines, params_lines, block_lines, block_text}
+use Rattle.dubp_block.specs.Reading.{IsOpening, IsIssuing, IsFounding, IsClosing, issuing_at, founding_at, headings, headings_at, closing_at, made, block_at, block_of}
 use Rattle.dubp_cond.specs.declared.tx.Tx.{Tx}
 use Rattle.dubp_block.specs.declared.block.Block.{Block}
 use Rattle.dubp_block.specs.declared.block.IdentityLine.{IdentityLine}
@@ -25,6 +25,7 @@ use Rattle.dubp_block.specs.declared.reading.Issuing.{Issuing}
 use Rattle.dubp_block.specs.declared.reading.Founding.{Founding}
 use Rattle.dubp_block.specs.declared.reading.Closing.{Closing}
 use Rattle.dubp_block.proofs.Lacking.{version_small, signed_lacks, params_lacks}
+use Rattle.dubp_block.proofs.Built.{opened, issued, founded, closed, has_params, WithParams, remade}
 use Rattle.dubp_block.proofs.Again.{opening_again, issuing_again, founding_again, headings_again, closing_again}
 
 abbrev opening_of : Opening → List (List ℕ)
@@ -105,7 +106,10 @@ block_read_at o i f e l0 l1 l2 l3 l4 l5 l6 l7 e0 e1 e2 e3 e4 e5 e6 e7 so si sf s
 pub block_read : (o : Opening) (i : Issuing) (f : Founding) (e : Closing) (z : ℤ) (l0 : List IdentityLine) (l1 : List MemberLine) (l2 : List MemberLine) (l3 : List MemberLine) (l4 : List RevokedLine) (l5 : List (List ℕ)) (l6 : List CertLine) (l7 : List Tx) (p0 p5 : Place) → i.frame_var ≡ z → l0 ≡ [] → l1 ≡ [] → l2 ≡ [] → l3 ≡ [] → l4 ≡ [] → l5 ≡ [] → l6 ≡ [] → l7 ≡ [] → IsOpening o → IsIssuing i → IsFounding o.number f → IsClosing e → Spans p0 (block_lines (made o i f e)) p5
     → IsBuilt (put_together o i f e z l0 l1 l2 l3 l4 l5 l6 l7) × Spans p0 (block_lines (put_together o i f e z l0 l1 l2 l3 l4 l5 l6 l7)) p5
 block_read o i f e z l0 l1 l2 l3 l4 l5 l6 l7 p0 p5 same e0 e1 e2 e3 e4 e5 e6 e7 so si sf se spans =
-    subst (λ (y : ℤ). IsBuilt (put_together o i f e y l0 l1 l2 l3 l4 l5 l6 l7) × Spans p0 (block_lines (put_together o i f e y l0 l1 l2 l3 l4 l5 l6 l7)) p5) same (block_read_at o i f e l0 l1 l2 l3 l4 l5 l6 l7 e0 e1 e2 e3 e4 e5 e6 e7 so si sf se, spans)
+    let P : ℤ → Type 0 = λ y. IsBuilt (put_together o i f e y l0 l1 l2 l3 l4 l5 l6 l7) × Spans p0 (block_lines (put_together o i f e y l0 l1 l2 l3 l4 l5 l6 l7)) p5 in
+    let built = block_read_at o i f e l0 l1 l2 l3 l4 l5 l6 l7 e0 e1 e2 e3 e4 e5 e6 e7 so si sf se in
+    let whole : put_together o i f e i.frame_var l0 l1 l2 l3 l4 l5 l6 l7 ≡ made o i f e = remade (put_together o i f e i.frame_var l0 l1 l2 l3 l4 l5 l6 l7) f.params built refl in
+    subst P same (built, subst (λ (b : Block). Spans p0 (block_lines b) p5) (sym whole) spans)
 
 pub block_spans : (o : Opening) (i : Issuing) (f : Founding) (e : Closing) (p0 p1 p2 p3 p4 p5 : Place)
     → Spans p0 (opening_of o) p1 → Spans p1 (issuing_of i) p2 → Spans p2 (founding_of f) p3 → Spans p3 headings p4 → Spans p4 (closing_of e) p5
@@ -121,18 +125,6 @@ unfolding block_text
 text_of_block text b p q = text_of_lines text (block_lines b) p q
 
 -- ---- what is spelled so is read
-
-abbrev opened : Block → Opening
-opened b = record { version = b.version; currency = b.currency; number = b.number; pow_min = b.pow_min; time = b.time; median_time = b.median_time }
-
-abbrev issued : Block → Issuing
-issued b = record { unit_base = b.unit_base; issuer = b.issuer; frame = b.frame; frame_var = b.frame_var; issuers = b.issuers }
-
-abbrev founded : Block → Params → Founding
-founded b p = record { params = p; members = b.members }
-
-abbrev closed : Block → Closing
-closed b = record { inner_hash = b.inner_hash; nonce = b.nonce; sig = b.sig }
 
 abbrev after_headings : Opening → Issuing → Founding → Place → Result (Block × Place) ℕ
 after_headings o i f p = closing_at p >>= (λ e. Ok (made o i f e.0, e.1))
@@ -155,60 +147,6 @@ parts_again o i f e ls t io ii is ie =
     ∙ ap (λ r. r >>= after_founding o i) (founding_again o.number f (headings ++ (closing_of e ++ ls)) t is)
     ∙ ap (λ r. r >>= after_headings o i f) (headings_again (closing_of e ++ ls) t)
     ∙ ap (λ (r : Result (Closing × Place) ℕ). r >>= (λ e. Ok (made o i f e.0, e.1))) (closing_again e ls t ie)
-
-has_params : (o : Option Params) → HasParams o → (p : Params) × (o ≡ Some p) × IsParams p
-has_params None h = absurd h
-has_params (Some p) h = (p, refl, h)
-
--- a block as its parts, where its other fields are those of the one form
-abbrev WithParams : Block → Params → Block
-WithParams b p = made (opened b) (issued b) (founded b p) (closed b)
-
--- the block with these other fields
-abbrev with_others : Block → Option ℕ → Option (List ℕ × List ℕ) → Option Params → List IdentityLine → List MemberLine → List MemberLine → List MemberLine → List RevokedLine → List (List ℕ) → List CertLine → List Tx → Block
-with_others b x0 x1 x2 x3 x4 x5 x6 x7 x8 x9 x10 = record {
-  version = b.version;
-  currency = b.currency;
-  number = b.number;
-  pow_min = b.pow_min;
-  time = b.time;
-  median_time = b.median_time;
-  dividend = x0;
-  unit_base = b.unit_base;
-  issuer = b.issuer;
-  frame = b.frame;
-  frame_var = b.frame_var;
-  issuers = b.issuers;
-  previous = x1;
-  params = x2;
-  members = b.members;
-  identities = x3;
-  joiners = x4;
-  actives = x5;
-  leavers = x6;
-  revoked = x7;
-  excluded = x8;
-  certifications = x9;
-  transactions = x10;
-  inner_hash = b.inner_hash;
-  nonce = b.nonce;
-  sig = b.sig;
-}
-
--- the block of its own parts
-remade : (b : Block) (p : Params) → IsBuilt b → b.params ≡ Some p → b ≡ WithParams b p
-remade b p is e =
-    ap (λ (x : Option ℕ). with_others b x b.previous b.params b.identities b.joiners b.actives b.leavers b.revoked b.excluded b.certifications b.transactions) is.dividend
-    ∙ ap (λ (x : Option (List ℕ × List ℕ)). with_others b None x b.params b.identities b.joiners b.actives b.leavers b.revoked b.excluded b.certifications b.transactions) is.previous
-    ∙ ap (λ (x : Option Params). with_others b None None x b.identities b.joiners b.actives b.leavers b.revoked b.excluded b.certifications b.transactions) e
-    ∙ ap (λ (x : List IdentityLine). with_others b None None (Some p) x b.joiners b.actives b.leavers b.revoked b.excluded b.certifications b.transactions) is.identities
-    ∙ ap (λ (x : List MemberLine). with_others b None None (Some p) [] x b.actives b.leavers b.revoked b.excluded b.certifications b.transactions) is.joiners
-    ∙ ap (λ (x : List MemberLine). with_others b None None (Some p) [] [] x b.leavers b.revoked b.excluded b.certifications b.transactions) is.actives
-    ∙ ap (λ (x : List MemberLine). with_others b None None (Some p) [] [] [] x b.revoked b.excluded b.certifications b.transactions) is.leavers
-    ∙ ap (λ (x : List RevokedLine). with_others b None None (Some p) [] [] [] [] x b.excluded b.certifications b.transactions) is.revoked
-    ∙ ap (λ (x : List (List ℕ)). with_others b None None (Some p) [] [] [] [] [] x b.certifications b.transactions) is.excluded
-    ∙ ap (λ (x : List CertLine). with_others b None None (Some p) [] [] [] [] [] [] x b.transactions) is.certifications
-    ∙ ap (λ (x : List Tx). with_others b None None (Some p) [] [] [] [] [] [] [] x) is.transactions
 
 abbrev all_lines : Block → Params → List (List ℕ)
 all_lines b p = opening_of (opened b) ++ (issuing_of (issued b) ++ (founding_of (founded b p) ++ (headings ++ (closing_of (closed b) ++ []))))

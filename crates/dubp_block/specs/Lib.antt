@@ -1,4 +1,3 @@
 pub mod Sections
 pub mod Text
-pub mod Texts
 pub mod Reading

@@ -1,6 +1,6 @@
 -- How the code reads a block, place after place. An Err has how many lines are left, from the first that is not taken. The
 -- laws that join it to the block's text stand in the contract of `read_block`.
-use Rattle.std.specs.Prelude.{◌≡◌, ℕ, ◌+◌, ◌≤◌, ◌==◌, ◌||◌, Bool, nat_le, true, List, [], length, codes, Option, Some, None, Result, Ok, Err, if◌then◌else◌}
+use Rattle.std.specs.Prelude.{◌≡◌, ℕ, ◌+◌, ◌≤◌, ◌==◌, ◌||◌, Bool, nat_le, true, List, [], ◌∷◌, length, codes, Option, Some, None, Result, Ok, Err, if◌then◌else◌}
 use Rattle.dubp_atoms.specs.Letters.{is_key, is_hash, is_currency, is_sig}
 use Rattle.dubp_atoms.specs.Reading.{number_of, text_if}
 use Rattle.dubp_atoms.specs.Spelling.{IsNumber, IsSigned}
@@ -76,6 +76,19 @@ pub record IsFounding (number : ℕ) (x : Founding) : Type 0 where
   pub first : number ≡ 0
   pub params : IsParams x.params
   pub members : IsNumber x.members
+
+-- the headings of empty sections
+abbrev pub headings : List (List ℕ)
+headings =
+    codes "Identities:"
+    ∷ codes "Joiners:"
+    ∷ codes "Actives:"
+    ∷ codes "Leavers:"
+    ∷ codes "Revoked:"
+    ∷ codes "Excluded:"
+    ∷ codes "Certifications:"
+    ∷ codes "Transactions:"
+    ∷ []
 
 unfoldable pub headings_at : Place → Result Place ℕ
 headings_at p = do

@@ -1,6 +1,6 @@
 -- The lines of a block's sections, the compact form of a transaction among them, and which lines have a text. Protocol: block
 -- text, sections.
-use Rattle.std.specs.Prelude.{◌≡◌, ℕ, true, List, [], ◌∷◌, ◌++◌, codes, decimal, length, map}
+use Rattle.std.specs.Prelude.{◌≡◌, ℕ, List, [], ◌∷◌, ◌++◌, codes, decimal, length, map, true}
 use Rattle.std.specs.List.{flat_map}
 use Rattle.dubp_atoms.specs.Same.{Text}
 use Rattle.dubp_atoms.specs.Letters.{is_key, is_uid, is_sig}

@@ -3,8 +3,8 @@ ghost use Rattle.dubp_lines.specs.Lines.{split};
 ghost use Rattle.dubp_lines.specs.Taking.{Gives, line_at, named};
 ghost use Rattle.dubp_lines.specs.Takes.{Spans};
 ghost use Rattle.dubp_params.specs.Reading.{params_of};
-ghost use Rattle.dubp_block.specs.Text.{IsBuilt, block_lines, block_text, opening_lines, issuer_lines, params_lines, headings, signed_lines, HasParams};
-ghost use Rattle.dubp_block.specs.Reading.{version_of, base_of, IsOpening, opening_at, IsIssuing, issuing_at, IsFounding, founding_at, headings_at, IsClosing, closing_at, block_at, block_of};
+ghost use Rattle.dubp_block.specs.Text.{IsBuilt, block_lines, block_text, opening_lines, issuer_lines, params_lines, signed_lines, HasParams};
+ghost use Rattle.dubp_block.specs.Reading.{version_of, base_of, IsOpening, opening_at, IsIssuing, issuing_at, IsFounding, founding_at, headings, headings_at, IsClosing, closing_at, block_at, block_of};
 ghost use Rattle.dubp_block.specs.declared.block.Block.{Block as BlockValue};
 ghost use Rattle.dubp_block.specs.declared.refusal.ReadRefusal.TheVariants.{NoMemory as Memory};
 

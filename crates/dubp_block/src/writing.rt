@@ -2,7 +2,8 @@ ghost use Rattle.std.specs.Prelude.{◌≡◌, ◌++◌, ◌∷◌, [], IfOk, On
 ghost use Rattle.dubp_atoms.specs.Hashing.{hash_of};
 ghost use Rattle.dubp_atoms.specs.Spelling.{IsSigned};
 ghost use Rattle.dubp_lines.specs.Lines.{unlines};
-ghost use Rattle.dubp_block.specs.Text.{IsBuilt, HasParams, opening_lines, issuer_lines, params_lines, headings, signed_lines, inner_text, block_text, block_hash_of, stamp_of as block_stamp};
+ghost use Rattle.dubp_block.specs.Text.{IsBuilt, HasParams, opening_lines, issuer_lines, params_lines, signed_lines, inner_text, block_text, block_hash_of, stamp_of as block_stamp};
+ghost use Rattle.dubp_block.specs.Reading.{headings};
 
 use crate::block::Block;
 use arrayvec::ArrayVec;

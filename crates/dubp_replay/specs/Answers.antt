@@ -12,7 +12,7 @@ use Rattle.dubp_cond.specs.Sources.{input_text}
 use Rattle.dubp_block.specs.declared.block.Block.{Block}
 use Rattle.dubp_block.specs.declared.block.IdentityLine.{IdentityLine}
 use Rattle.dubp_block.specs.declared.block.CertLine.{CertLine}
-use Rattle.dubp_block.specs.Texts.{block_text}
+use Rattle.dubp_block.specs.Text.{block_text}
 use Rattle.dubp_replay.specs.declared.query.Query.{Query}
 use Rattle.dubp_replay.specs.declared.query.Query.TheVariants as query
 use Rattle.dubp_replay.specs.declared.record.Record.{Record}

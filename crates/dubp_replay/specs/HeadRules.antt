@@ -7,7 +7,7 @@ use Rattle.dubp_atoms.specs.Same.{Text}
 use Rattle.dubp_params.specs.declared.params.Params.{Params}
 use Rattle.dubp_pow.specs.Meeting.{Meets}
 use Rattle.dubp_dividend.specs.Reevaluation.{numerator}
-use Rattle.dubp_block.specs.Texts.{block_hash_of, size_of}
+use Rattle.dubp_block.specs.Text.{block_hash_of, size_of}
 use Rattle.dubp_block.specs.declared.block.Block.{Block}
 use Rattle.dubp_replay.specs.declared.head.Head.{Head}
 use Rattle.dubp_replay.specs.Chains.{Chain, params, currency}

@@ -14,7 +14,7 @@ use Rattle.dubp_cond.specs.declared.tx.Tx.{Tx}
 use Rattle.dubp_docs.specs.Spelling.{signed_text as signed_document, signed_tx}
 use Rattle.dubp_docs.specs.declared.doc.Doc.TheVariants.{Identity, Membership}
 use Rattle.dubp_block.specs.Sections.{compact_lines}
-use Rattle.dubp_block.specs.Texts.{inner_text, signed_text}
+use Rattle.dubp_block.specs.Text.{inner_text, signed_text}
 use Rattle.dubp_block.specs.declared.block.Block.{Block}
 use Rattle.dubp_block.specs.declared.block.IdentityLine.{IdentityLine}
 use Rattle.dubp_block.specs.declared.block.MemberLine.{MemberLine}

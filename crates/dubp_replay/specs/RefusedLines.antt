@@ -2,7 +2,7 @@
 use Rattle.std.specs.Prelude.{◌≡◌, ◌⊎◌, ℕ, ◌+◌, ◌<◌, ◌≤◌, List, ◌++◌, length, take}
 use Rattle.dubp_lines.specs.Lines.{split}
 use Rattle.dubp_block.specs.declared.block.Block.{Block}
-use Rattle.dubp_block.specs.Texts.{IsBlock, block_lines}
+use Rattle.dubp_block.specs.Text.{IsBlock, block_lines}
 
 -- the lines are the first lines of some block's text
 pub record BeginBlock (lines : List (List ℕ)) : Type 0 where

@@ -5,7 +5,7 @@ use Rattle.std.specs.List.{list_any}
 use Rattle.dubp_atoms.specs.Same.{Text, same_stamp}
 use Rattle.dubp_atoms.specs.declared.stamp.Stamp.{Stamp}
 use Rattle.dubp_block.specs.declared.block.Block.{Block}
-use Rattle.dubp_block.specs.Texts.{stamp_of}
+use Rattle.dubp_block.specs.Text.{stamp_of}
 use Rattle.dubp_rules.specs.declared.rule.Rule.{Rule}
 use Rattle.dubp_rules.specs.declared.rule.Rule.TheVariants.{P01, G51}
 use Rattle.dubp_rules.specs.Table.{table_rules, code_text, place_of}
