@@ -4,3 +4,7 @@ pub mod Once
 pub mod InOrder
 pub mod Sources
 pub mod MadeOnce
+pub mod Spending
+pub mod Mass
+pub mod Conserved
+pub mod Sound

@@ -1,7 +1,7 @@
 -- No source of a sound chain is made twice. An output has the hash of its transaction, which is new, and its place in it; a
 -- dividend has its key, each once in a block, and the number of its block, which is new.
-use Rattle.std.proofs.Common.{◌≡◌, ℕ, ◌+◌, ◌<◌, ◌≤◌, Bool, true, false, not, ◌&&◌, List, [], ◌∷◌, ◌++◌, Option, Some, None, map, length, refl, ap, sym, ◌∙◌, subst, true≢false, arith, inl, inr}
-use Rattle.std.specs.List.{AllByRecursion, list_any, flat_map, enumerate_from}
+use Rattle.std.proofs.Common.{◌≡◌, ℕ, ◌+◌, ◌<◌, ◌≤◌, true, false, not, List, [], ◌∷◌, ◌++◌, Option, Some, None, map, length, refl, ap, sym, ◌∙◌, subst, true≢false, arith, inl, inr}
+use Rattle.std.specs.List.{AllByRecursion, flat_map, enumerate_from}
 use Rattle.std.proofs.lemmas.List.Folds.{list_any-append}
 use Rattle.dubp_atoms.specs.Same.{Text, same_text}
 use Rattle.dubp_cond.specs.declared.source.SourceId.{SourceId}
@@ -165,6 +165,7 @@ old_not_new c texts fresh (D k n) (D k' n') old new = and_false (same_text k k')
 old_not_new c texts fresh (T hash n) (D k n') old new = refl
 old_not_new c texts fresh (D k n') (T hash n) old new = refl
 
+-- what a sound chain made is old: it has a hash of the chain, or the number of one of its blocks
 is_old : (c : Chain) → IsSound c → (s : Source) → IsIn s (made_sources c) → IsOld c s.id
 is_old [] sound s there = absurd there
 is_old (b ∷ c) sound s there =
