@@ -1,0 +1,10 @@
+pub mod Sums
+pub mod Elements
+pub mod Once
+pub mod InOrder
+pub mod Sources
+pub mod MadeOnce
+pub mod Spending
+pub mod Mass
+pub mod Conserved
+pub mod Sound

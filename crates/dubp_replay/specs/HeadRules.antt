@@ -1,9 +1,8 @@
 -- The rules on a block's place in the chain and on its header: `c` is the chain and `b` the block on it. The values that the
 -- header has to state are those of the head of the chain with the block. Protocol: rules.
-use Rattle.std.specs.Prelude.{◌≡◌, ◌≢◌, ℕ, ◌+◌, ◌*◌, ◌^◌, ◌<◌, ◌≤◌, max, min, Bool, IsTrue, List, [], ◌∷◌, length, take, sum_by, Option, Some, None, ⊤, nat_le}
+use Rattle.std.specs.Prelude.{◌≡◌, ℕ, ◌*◌, ◌^◌, ◌<◌, ◌≤◌, max, min, IsTrue, List, [], ◌∷◌, length, take, sum_by, ⊤}
 use Rattle.std.specs.Option.{MatchOption, IsSomeAnd}
 use Rattle.std.specs.Int.{div_ceil}
-use Rattle.dubp_atoms.specs.Same.{Text}
 use Rattle.dubp_params.specs.declared.params.Params.{Params}
 use Rattle.dubp_pow.specs.Meeting.{Meets}
 use Rattle.dubp_dividend.specs.Reevaluation.{numerator}

@@ -1,6 +1,6 @@
 -- The values of a chain at each of its blocks, from the values at the blocks before, and the difficulty of a key for the next
 -- block. Protocol: head values.
-use Rattle.std.specs.Prelude.{ℕ, ◌+◌, ◌-◌, ◌*◌, ◌^◌, ◌/◌, max, min, pos, Bool, List, [], ◌∷◌, Option, Some, None, option_map, unwrap_or, find, map, take, length, count_by, sum_by, slice_index_or, nat_le, if◌then◌else◌}
+use Rattle.std.specs.Prelude.{ℕ, ◌+◌, ◌-◌, ◌*◌, ◌^◌, ◌/◌, max, min, pos, Bool, List, [], ◌∷◌, Option, Some, None, unwrap_or, find, map, take, length, count_by, sum_by, slice_index_or, nat_le, if◌then◌else◌}
 use Rattle.std.specs.Option.{option_map_or}
 use Rattle.std.specs.Set.{distinct_count, unique_keys}
 use Rattle.dubp_atoms.specs.Same.{Text, same_text}

@@ -1,10 +1,9 @@
 -- The rules that a block is checked against by itself, with the verdicts and the parameters of the chain. Protocol: rules.
-use Rattle.std.specs.Prelude.{◌≡◌, ◌≢◌, ◌⊎◌, ℕ, ◌+◌, ◌^◌, ◌<◌, ◌≤◌, ◌==◌, Bool, true, false, IsTrue, ◌&&◌, not, List, [], ◌∷◌, ◌++◌, map, length, count_by, sum_by, ⊤}
+use Rattle.std.specs.Prelude.{◌≡◌, ◌⊎◌, ℕ, ◌+◌, ◌^◌, ◌<◌, ◌≤◌, ◌==◌, Bool, true, false, IsTrue, ◌&&◌, not, List, [], ◌∷◌, ◌++◌, map, length, count_by, sum_by, ⊤}
 use Rattle.std.specs.Option.{MatchOption}
 use Rattle.std.specs.List.{AllByRecursion, list_any, zip}
 use Rattle.dubp_atoms.specs.Same.{Text, same_text, same_stamp, empty_stamp}
 use Rattle.dubp_atoms.specs.Hashing.{hash_of}
-use Rattle.dubp_atoms.specs.declared.stamp.Stamp.{Stamp}
 use Rattle.dubp_params.specs.Ranges.{IsInRange, greatest_acceleration}
 use Rattle.dubp_cond.specs.declared.unlock.Unlock.{Unlock}
 use Rattle.dubp_cond.specs.declared.unlock.Unlock.TheVariants.{Sig, Xhx}

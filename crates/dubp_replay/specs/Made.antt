@@ -1,5 +1,5 @@
 -- When what a line of a block names was made. Protocol: the time of a stamp.
-use Rattle.std.specs.Prelude.{ℕ, ◌==◌, List, [], ◌∷◌, Option, Some, None, option_map, find, if◌then◌else◌}
+use Rattle.std.specs.Prelude.{ℕ, ◌==◌, [], ◌∷◌, Option, Some, None, option_map, find, if◌then◌else◌}
 use Rattle.dubp_atoms.specs.Same.{same_stamp, empty_stamp}
 use Rattle.dubp_atoms.specs.declared.stamp.Stamp.{Stamp}
 use Rattle.dubp_block.specs.declared.block.Block.{Block}

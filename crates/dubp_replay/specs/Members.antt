@@ -2,7 +2,6 @@
 use Rattle.std.specs.Prelude.{Bool, true, false, List, [], ◌∷◌, filter, map, if◌then◌else◌}
 use Rattle.std.specs.List.{list_any, flat_map}
 use Rattle.dubp_atoms.specs.Same.{Text, same_text}
-use Rattle.dubp_block.specs.declared.block.Block.{Block}
 use Rattle.dubp_block.specs.declared.block.MemberLine.{MemberLine}
 use Rattle.dubp_replay.specs.Words.{names, in_order}
 use Rattle.dubp_replay.specs.Chains.{Chain}

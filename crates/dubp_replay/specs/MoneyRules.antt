@@ -1,7 +1,7 @@
 -- The rules on transactions and sources: `c` is the chain and `b` the block on it. Protocol: rules.
-use Rattle.std.specs.Prelude.{◌≡◌, ℕ, ◌+◌, ◌≤◌, ◌==◌, Bool, IsTrue, ◌&&◌, not, List, [], ◌∷◌, ◌++◌, map, filter, find, Option, ⊤}
+use Rattle.std.specs.Prelude.{ℕ, ◌+◌, ◌≤◌, ◌==◌, Bool, IsTrue, ◌&&◌, not, List, [], ◌∷◌, ◌++◌, map, filter, find, Option, ⊤}
 use Rattle.std.specs.Option.{MatchOption, IsSomeAnd}
-use Rattle.std.specs.List.{AllByRecursion, list_any, flat_map, enumerate_from}
+use Rattle.std.specs.List.{AllByRecursion, flat_map, enumerate_from}
 use Rattle.dubp_atoms.specs.Same.{Text, same_text}
 use Rattle.dubp_cond.specs.Truth.{Moment, IsTrueAt}
 use Rattle.dubp_cond.specs.declared.unlock.Unlock.{Unlock}

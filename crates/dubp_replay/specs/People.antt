@@ -1,5 +1,5 @@
 -- Identities and memberships, each by the last line of the chain that names a key. Protocol: people.
-use Rattle.std.specs.Prelude.{ℕ, ◌+◌, ◌*◌, Bool, true, false, ◌||◌, List, [], ◌∷◌, ◌++◌, Option, None, option_map, unwrap_or, map, nat_le, if◌then◌else◌}
+use Rattle.std.specs.Prelude.{ℕ, ◌+◌, ◌*◌, Bool, true, false, ◌||◌, List, [], ◌∷◌, ◌++◌, Option, None, option_map, unwrap_or, nat_le, if◌then◌else◌}
 use Rattle.std.specs.Option.{option_or, option_map_or}
 use Rattle.std.specs.List.{list_any, flat_map}
 use Rattle.dubp_atoms.specs.Same.{Text, same_text}

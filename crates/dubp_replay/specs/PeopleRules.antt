@@ -1,6 +1,6 @@
 -- The rules on identities, memberships, certifications and exclusions: `c` is the chain and `b` the block on it, and t, the time
 -- of the chain with the block, is `time_of (b ∷ c)`. Protocol: rules.
-use Rattle.std.specs.Prelude.{◌≡◌, ◌⊎◌, ℕ, ◌+◌, ◌<◌, ◌≤◌, Bool, true, IsTrue, ◌&&◌, not, List, [], ◌∷◌, ◌++◌, map, length, is_some, Option, ⊤}
+use Rattle.std.specs.Prelude.{◌≡◌, ◌⊎◌, ℕ, ◌+◌, ◌<◌, ◌≤◌, Bool, IsTrue, ◌&&◌, not, List, [], ◌∷◌, ◌++◌, map, length, is_some, Option, ⊤}
 use Rattle.std.specs.Option.{MatchOption, IsSomeAnd}
 use Rattle.std.specs.List.{AllByRecursion, list_any}
 use Rattle.dubp_atoms.specs.Same.{Text, same_text, same_stamp}

@@ -1,5 +1,5 @@
 -- The rules of blocks in one table, the first that a block breaks, and which chains are valid. Protocol: rules.
-use Rattle.std.specs.Prelude.{◌≡◌, ℕ, ◌≤◌, Bool, true, false, IsTrue, List, [], ◌∷◌, length, filter, Option, None, ⊤}
+use Rattle.std.specs.Prelude.{◌≡◌, ℕ, ◌≤◌, Bool, true, false, List, [], ◌∷◌, length, Option, None, ⊤}
 use Rattle.dubp_block.specs.declared.block.Block.{Block}
 use Rattle.dubp_block.specs.Text.{IsBlock, block_text}
 use Rattle.dubp_rules.specs.declared.rule.Rule.{Rule}

@@ -1,10 +1,11 @@
 //! Definitions on chains: what all answers of the node are said in.
 //!
 //! A chain is a list of blocks, newest first. `specs/` has its head (`Chains`), the rules that a block keeps on it (`Rules`),
-//! the texts of answers (`Answers`) and what each command answers and changes (`Turns`).
+//! the texts of answers (`Answers`) and what each command answers and changes (`Turns`). What is proved of all chains is in `laws`.
 #![tactic(auto)]
 
 mod head;
+pub mod laws;
 mod query;
 mod record;
 
