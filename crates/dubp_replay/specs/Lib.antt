@@ -21,3 +21,5 @@ pub mod Reduced
 pub mod Laws
 pub mod Answers
 pub mod Turns
+pub mod BuiltRules
+pub mod BuiltTurns

@@ -1,6 +1,6 @@
 -- What a block writes to the indexes, one record for each change, and the text of a record. Protocol: records.
 use Rattle.std.specs.Prelude.{◌≡◌, ℕ, ◌≤◌, ◌==◌, Bool, true, not, ◌&&◌, List, [], ◌∷◌, ◌++◌, codes, decimal, map, filter, length, unwrap_or, Option, Some, None, if◌then◌else◌}
-use Rattle.std.specs.List.{flat_map, enumerate_from}
+use Rattle.std.specs.List.{flat_map}
 use Rattle.arrayvec.specs.ArrayVec.{ArrayVec}
 use Rattle.dubp_atoms.specs.Same.{Text, same_text}
 use Rattle.dubp_atoms.specs.Letters.{is_key, is_uid}
@@ -104,27 +104,24 @@ last_records (b ∷ c) = Some (records c b)
 abbrev pub records_at : Chain → ℕ → Option (List Record)
 records_at c number = last_records (up_to c number)
 
--- ---- the text of a record: a name and its fields, each behind a space
-
-abbrev pub fields_text : List Text → List ℕ
-fields_text fields = flat_map (λ f. 32 ∷ f) fields
+-- ---- the text of a record: a name and its fields, with a space between
 
 abbrev pub record_text : Record → List ℕ
-record_text (Create key uid stamp) = codes "IIDX CREATE" ++ fields_text (key ∷ uid ∷ stamp_text stamp ∷ [])
-record_text (Enter key) = codes "IIDX IN" ++ fields_text (key ∷ [])
-record_text (Exit key) = codes "IIDX OUT" ++ fields_text (key ∷ [])
-record_text (Join key made) = codes "MIDX JOIN" ++ fields_text (key ∷ decimal made ∷ [])
-record_text (Active key made) = codes "MIDX ACTIVE" ++ fields_text (key ∷ decimal made ∷ [])
-record_text (Leave key made) = codes "MIDX LEAVE" ++ fields_text (key ∷ decimal made ∷ [])
-record_text (Revoke key) = codes "MIDX REVOKE" ++ fields_text (key ∷ [])
-record_text (Expire key) = codes "MIDX EXPIRE" ++ fields_text (key ∷ [])
-record_text (ExpireRev key) = codes "MIDX EXPIREREV" ++ fields_text (key ∷ [])
-record_text (Cert from to made) = codes "CIDX CERT" ++ fields_text (from ∷ to ∷ decimal made ∷ [])
-record_text (CertExpire from to) = codes "CIDX EXPIRE" ++ fields_text (from ∷ to ∷ [])
-record_text (Spend input) = codes "SIDX SPEND" ++ fields_text (input_text input ∷ [])
-record_text (Make input cond) = codes "SIDX MAKE" ++ fields_text (input_text input ∷ cond.items ∷ [])
-record_text (Dividend input) = codes "SIDX DIVIDEND" ++ fields_text (input_text input ∷ [])
-record_text (Clear input) = codes "SIDX CLEAR" ++ fields_text (input_text input ∷ [])
+record_text (Create key uid stamp) = codes "IIDX CREATE " ++ (key ++ 32 ∷ (uid ++ 32 ∷ stamp_text stamp))
+record_text (Enter key) = codes "IIDX IN " ++ key
+record_text (Exit key) = codes "IIDX OUT " ++ key
+record_text (Join key made) = codes "MIDX JOIN " ++ (key ++ 32 ∷ decimal made)
+record_text (Active key made) = codes "MIDX ACTIVE " ++ (key ++ 32 ∷ decimal made)
+record_text (Leave key made) = codes "MIDX LEAVE " ++ (key ++ 32 ∷ decimal made)
+record_text (Revoke key) = codes "MIDX REVOKE " ++ key
+record_text (Expire key) = codes "MIDX EXPIRE " ++ key
+record_text (ExpireRev key) = codes "MIDX EXPIREREV " ++ key
+record_text (Cert from to made) = codes "CIDX CERT " ++ (from ++ 32 ∷ (to ++ 32 ∷ decimal made))
+record_text (CertExpire from to) = codes "CIDX EXPIRE " ++ (from ++ 32 ∷ to)
+record_text (Spend input) = codes "SIDX SPEND " ++ input_text input
+record_text (Make input cond) = codes "SIDX MAKE " ++ (input_text input ++ 32 ∷ cond.items)
+record_text (Dividend input) = codes "SIDX DIVIDEND " ++ input_text input
+record_text (Clear input) = codes "SIDX CLEAR " ++ input_text input
 
 -- which records have a text
 abbrev pub IsRecord : Record → Type 0

@@ -11,4 +11,4 @@ mod record;
 
 pub use head::Head;
 pub use query::Query;
-pub use record::Record;
+pub use record::{Record, put_record};

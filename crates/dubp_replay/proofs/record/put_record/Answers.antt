@@ -1,0 +1,10 @@
+use Rattle.std.proofs.Common.{rules, ◌≡◌, ◌++◌, ◌∷◌, codes, decimal, List, ℕ, ap, ◌∙◌, sym}
+use Rattle.dubp_cond.specs.Sources.{input_text}
+use Rattle.dubp_replay.specs.Records.{record_text}
+use Rattle.dubp_replay.proofs.record.put_record.Goals as goal
+
+pub returns-in-Active : goal.returns-in-Active
+returns-in-Active c = record { text = rw c.in-Active.is c.put_timed-in-Active.ensures.text }
+
+pub returns-in-Dividend : goal.returns-in-Dividend
+returns-in-Dividend c = record { text = rw c.in-Dividend.is c.put_moved-in-Dividend.ensures.text }
