@@ -5,6 +5,7 @@
 #![tactic(auto)]
 
 mod head;
+pub mod laws;
 mod query;
 mod record;
 
