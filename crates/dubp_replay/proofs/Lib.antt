@@ -1,2 +1,4 @@
 mod MoreVerdicts
 mod RulesRead
+mod Checks
+mod RuleChecks

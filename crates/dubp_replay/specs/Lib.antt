@@ -16,3 +16,4 @@ pub mod MoneyRules
 pub mod Rules
 pub mod Laws
 pub mod Answers
+pub mod Samples
