@@ -8,3 +8,7 @@ pub mod Spending
 pub mod Mass
 pub mod Conserved
 pub mod Sound
+mod MoreVerdicts
+mod RulesRead
+mod Checks
+mod RuleChecks

@@ -4,7 +4,7 @@ use Rattle.std.proofs.Common.{◌≡◌, ℕ, zero, suc, false, List, [], ◌∷
 use Rattle.std.specs.List.{AllByRecursion, slice_get}
 use Rattle.std.proofs.lemmas.Option.{none-some}
 use Rattle.dubp_block.specs.declared.block.Block.{Block}
-use Rattle.dubp_block.specs.Texts.{IsBlock, block_text}
+use Rattle.dubp_block.specs.Text.{IsBlock, block_text}
 use Rattle.dubp_rules.specs.declared.rule.Rule.{Rule}
 use Rattle.dubp_rules.specs.declared.rule.Rule.TheVariants.{X01, P01, L05, L07, L11, L24, G84, G72}
 use Rattle.dubp_rules.specs.Table.{table_rules, place_of}

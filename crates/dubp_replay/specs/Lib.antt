@@ -23,3 +23,4 @@ pub mod Answers
 pub mod Turns
 pub mod BuiltRules
 pub mod BuiltTurns
+pub mod Samples

@@ -1,5 +1,20 @@
 //! The laws of the definitions. Each function here is a law: it does nothing, and its contract is the law.
-ghost use Rattle.dubp_replay.specs.Laws.{Conserves, ValidIsSound};
+ghost use Rattle.dubp_replay.specs.Laws.{Conserves, Monotone, ReadingChangesNothing, StaysValid, ValidIsSound};
+
+/// A rule that holds with some verdicts holds with more of them.
+pub fn monotone()
+    ensures { Monotone }
+{}
+
+/// A chain that is valid with some verdicts is valid with more of them.
+pub fn stays_valid()
+    ensures { StaysValid }
+{}
+
+/// The first rule that fails is the same whether or not a rule is read where certain earlier ones fail.
+pub fn reading_changes_nothing()
+    ensures { ReadingChangesNothing }
+{}
 
 /// On a sound chain the money that was issued is unspent or cleared, it is the mass, and no source was made twice.
 pub fn conserved()
