@@ -1,7 +1,7 @@
-ghost use Rattle.std.specs.Prelude.{◌≡◌, ◌↔◌, IsTrue, IfOk};
+ghost use Rattle.std.specs.Prelude.{◌≡◌, ◌↔◌, ◌∷◌, [], IsTrue, IfOk};
 ghost use Rattle.dubp_block.specs.Text.{IsBuilt};
-ghost use Rattle.dubp_replay.specs.Rules.{InnerHashIsRight};
-ghost use Rattle.dubp_replay.specs.Chains.{head_with};
+ghost use Rattle.dubp_replay.specs.Heads.{head_of};
+ghost use Rattle.dubp_replay.specs.LocalRules.{InnerHashIsRight};
 
 use dubp_atoms::NoMemory;
 use dubp_block::{Block, inner_hash, stamp_of};
@@ -16,9 +16,10 @@ pub fn inner_hash_is_right(alloc: Global, block: &Block) -> Result<bool, NoMemor
     Ok(block.inner_hash == inner_hash(alloc, block)?)
 }
 
-/// The head of the chain of this one block. None where it sets no parameters. It takes no memory.
+/// The head of the chain of this one block, which has no member. It takes no memory.
 pub fn first_head(block: &Block) -> Option<Head>
-    ensures { result ≡ head_with block.now.params block.now }
+    requires { IsBuilt block.now }
+    ensures { result ≡ head_of (block.now ∷ []) }
 {
     let params = block.params?;
     Some(Head {

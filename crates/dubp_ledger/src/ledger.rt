@@ -1,7 +1,10 @@
 ghost use Rattle.std.specs.Prelude.{◌≡◌, ◌∷◌, [], IfOk, IfErr, MatchOption, Some, None, IsTrue, ◌↔◌};
 ghost use Rattle.dubp_block.specs.Text.{IsBuilt};
-ghost use Rattle.dubp_replay.specs.Chains.{head_of, block_of_number};
-ghost use Rattle.dubp_replay.specs.Rules.{FirstBroken, Holds, NumberIsNext, read_rules};
+ghost use Rattle.dubp_replay.specs.BuiltRules.{FirstRead, read_rules};
+ghost use Rattle.dubp_replay.specs.Chains.{block_of_number};
+ghost use Rattle.dubp_replay.specs.HeadRules.{NumberIsNext};
+ghost use Rattle.dubp_replay.specs.Heads.{head_of};
+ghost use Rattle.dubp_replay.specs.Rules.{Holds};
 ghost use Rattle.dubp_rules.specs.First.{FirstOf};
 ghost use Rattle.dubp_ledger.specs.States.{Accepted, HandedBack};
 
@@ -29,8 +32,8 @@ pub struct Ledger {
 
 impl Model for Ledger {
     ghost use Rattle.std.specs.Prelude.{◌≡◌, reverse};
-    ghost use Rattle.dubp_replay.specs.Chains.{head_of};
-    ghost use Rattle.dubp_replay.specs.Rules.{IsAccepted};
+    ghost use Rattle.dubp_replay.specs.BuiltRules.{IsAccepted};
+    ghost use Rattle.dubp_replay.specs.Heads.{head_of};
     ghost use Rattle.dubp_rules.specs.First.{FirstOf};
     ghost use Rattle.dubp_ledger.specs.States.{LedgerState};
 
@@ -95,7 +98,7 @@ impl Ledger {
     // The first rule that the block breaks on the chain.
     fn first_broken(&self, block: &Block) -> Result<Option<Rule>, NoMemory>
         requires { IsBuilt block.now }
-        ensures { IfOk result (λ answer. FirstBroken self.now.chain block.now answer) }
+        ensures { IfOk result (λ answer. FirstRead self.now.chain block.now answer) }
     {
         self.first_found(block)
     }
@@ -103,7 +106,7 @@ impl Ledger {
     // The same, by going down the rules that are read.
     fn first_found(&self, block: &Block) -> Result<Option<Rule>, NoMemory>
         requires { IsBuilt block.now }
-        ensures { IfOk result (λ answer. FirstOf (Holds self.now.chain block.now) read_rules answer) }
+        ensures { IfOk result (λ answer. FirstOf (Holds [] self.now.chain block.now) read_rules answer) }
     {
         Ok(first_of!(
             Rule::L01 => inner_hash_is_right(self.alloc, block)?,
@@ -121,7 +124,7 @@ impl Ledger {
     // The block, which breaks no rule, joins the chain.
     fn append(&mut self, block: Block) -> Result<Stamp, SubmitRefusal>
         requires built { IsBuilt block }
-        requires keeps { FirstBroken self.old.chain block None }
+        requires keeps { FirstRead self.old.chain block None }
         ensures accepted { IfOk result (λ stamp. Accepted self.old block stamp self.new) }
         ensures refused { IfErr result (λ refusal. HandedBack self.old block refusal self.new) }
     {

@@ -4,18 +4,18 @@ use Rattle.dubp_atoms.specs.declared.stamp.Stamp.{Stamp}
 use Rattle.dubp_block.specs.declared.block.Block.{Block}
 use Rattle.dubp_rules.specs.declared.rule.Rule.{Rule}
 use Rattle.dubp_replay.specs.Answers.{accepted_answer, no_memory_answer, refused_answer}
-use Rattle.dubp_replay.specs.Rules.{FirstBroken}
-use Rattle.dubp_replay.specs.Turns.{State, BlockTurn, Decides}
+use Rattle.dubp_replay.specs.BuiltRules.{FirstRead}
+use Rattle.dubp_replay.specs.BuiltTurns.{BuiltBlockTurn, Decides}
+use Rattle.dubp_replay.specs.Turns.{State, Only}
 use Rattle.dubp_rules.specs.Table.{code_text}
 use Rattle.dubp_ledger.specs.declared.refusal.SubmitRefusal.{SubmitRefusal}
 use Rattle.dubp_ledger.specs.declared.refusal.SubmitRefusal.TheVariants.{Refused, NoMemory}
 use Rattle.dubp_node.specs.Entries.{longest_frame}
-use Rattle.dubp_node.specs.Turns.{Only}
 
 -- the block joins the chain or breaks a rule, or memory ran out
 pub record Decision (old : State) (b : Block) (answer : List ℕ) (new : State) : Type 0 where
   pub broken : Option Rule
-  pub first : FirstBroken old.chain b broken
+  pub first : FirstRead old.chain b broken
   pub decides : Decides old b broken answer new
 
 abbrev pub Decided : State → Block → List ℕ → State → Type 0
@@ -30,5 +30,5 @@ outcome_text (Err (NoMemory block)) = no_memory_answer
 -- the turn of BLOCK, or memory ran out
 abbrev pub BlockActs : State → ℕ → List ℕ → List ℕ → State → Type 0
 BlockActs old len frame answer new =
-    (((longest_frame < len) × Only (refused_answer (codes "X01")) old answer new) ⊎ ((len ≤ longest_frame) × BlockTurn old frame answer new))
+    (((longest_frame < len) × Only (refused_answer (codes "X01")) old answer new) ⊎ ((len ≤ longest_frame) × BuiltBlockTurn old frame answer new))
     ⊎ ((len ≤ longest_frame) × Only no_memory_answer old answer new)

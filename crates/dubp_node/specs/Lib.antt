@@ -1,4 +1,5 @@
 pub mod Entries
+pub mod NodeStates
 pub mod Cut
 pub mod Turns
 pub mod Deciding

@@ -4,26 +4,22 @@ use Rattle.std.specs.List.{flat_map}
 use Rattle.dubp_script.specs.declared.command.Command.{Command}
 use Rattle.dubp_script.specs.declared.command.Command.TheVariants.{Block, Ask}
 use Rattle.dubp_script.specs.Spelling.{Says}
-use Rattle.dubp_replay.specs.declared.query.Query.TheVariants as query
 use Rattle.dubp_replay.specs.Answers.{refused_answer, bad_answer, no_memory_answer}
-use Rattle.dubp_replay.specs.Turns.{State, BlockTurn, HeadTurn}
+use Rattle.dubp_replay.specs.Turns.{State, Only}
+use Rattle.dubp_replay.specs.BuiltTurns.{BuiltBlockTurn, AskedTurn}
 use Rattle.dubp_node.specs.Entries.{Entry, Line, Frame, longest_line, longest_frame, LF}
-
--- the answer, where nothing changes
-abbrev pub Only : List ℕ → State → List ℕ → State → Type 0
-Only text old answer new = (answer ≡ text) × (new ≡ old)
 
 -- A command with the raw bytes of its frame, where it has one, is answered so and leads there.
 abbrev pub CommandTurn : State → Command → List ℕ → List ℕ → State → Type 0
 CommandTurn old (Block len) frame answer new =
     ((longest_frame < len) × Only (refused_answer (codes "X01")) old answer new)
-    ⊎ ((len ≤ longest_frame) × BlockTurn old frame answer new)
-CommandTurn old (Ask query.Head) frame answer new = HeadTurn old answer new
+    ⊎ ((len ≤ longest_frame) × BuiltBlockTurn old frame answer new)
+CommandTurn old (Ask q) frame answer new = AskedTurn old q answer new
 
 -- the commands that take memory, and may be answered NOMEM
 abbrev pub TakesMemory : Command → Type 0
 TakesMemory (Block len) = len ≤ longest_frame
-TakesMemory (Ask query.Head) = ⊥
+TakesMemory (Ask q) = ⊥
 
 -- the turn of the command, or NOMEM, which changes nothing
 abbrev pub Acts : State → Command → List ℕ → List ℕ → State → Type 0

@@ -4,6 +4,7 @@ ghost use Rattle.dubp_query.specs.AnswerBytes.{answer_bytes};
 ghost use Rattle.dubp_replay.specs.Answers.{accepted_answer, bad_answer, no_memory_answer, refused_answer};
 ghost use Rattle.dubp_block.specs.Text.{IsBuilt};
 ghost use Rattle.dubp_node.specs.Deciding.{BlockActs, Decided, outcome_text};
+ghost use Rattle.dubp_replay.specs.Turns.{start};
 ghost use Rattle.dubp_rules.specs.Table.{code_text};
 
 use arrayvec::ArrayVec;
@@ -22,7 +23,8 @@ pub const LONGEST_FRAME: usize = 1_048_576;
 
 /// The node: it answers commands, one after another.
 ///
-/// Contracts see the state that its answers depend on: the chain of accepted blocks.
+/// Contracts see the state that its answers depend on: the chain of accepted blocks, how many of them can be reversed, the
+/// verdicts and the stored blocks. It has no verdicts and stores no block yet.
 #[derive(Drop)]
 pub struct Node {
     alloc: Global,
@@ -39,13 +41,15 @@ impl Model for Node {
 
     ghost coded = { Prim.hlevel (codes, block.the_row.coded) };
 
-    ghost view = { λ n. record { chain = n.ledger.chain } };
+    ghost use Rattle.dubp_node.specs.NodeStates.{node_state};
+
+    ghost view = { λ n. node_state n.ledger };
 }
 
 impl Node {
     /// The node of the empty chain. It takes no memory.
     pub fn new(alloc: Global) -> Node
-        ensures { result.chain ≡ [] }
+        ensures { result ≡ start }
     {
         Node {
             alloc,

@@ -2,8 +2,8 @@ ghost use Rattle.std.specs.Prelude.{◌≡◌, ◌+◌, ◌≤◌, ◌++◌, ◌
 ghost use Rattle.std.specs.Fmt.{signed_decimal};
 ghost use Rattle.arrayvec.specs.ArrayVec.{array_vec_len};
 ghost use Rattle.dubp_atoms.specs.Spelling.{stamp_text};
-ghost use Rattle.dubp_replay.specs.Answers.{head_answer, head_text, spaced};
-ghost use Rattle.dubp_replay.specs.Chains.{head_of};
+ghost use Rattle.dubp_replay.specs.Answers.{bad_answer, head_answer, head_text, spaced};
+ghost use Rattle.dubp_replay.specs.Heads.{head_of};
 ghost use Rattle.dubp_replay.specs.HeadStamp.{head_stamp};
 
 use arrayvec::ArrayVec;
@@ -21,6 +21,15 @@ pub fn head_line(ledger: &Ledger) -> Line
         Some(head) => put_head(&head, &mut line),
     }
     put_bytes(&mut line, b"\n");
+    line
+}
+
+/// The answer to a query that is not built, as to a line that is no command. It takes no memory.
+pub fn bad_line() -> Line
+    ensures { result.items ≡ bad_answer }
+{
+    let mut line: Line = ArrayVec::new();
+    put_bytes(&mut line, b"BAD\n");
     line
 }
 

@@ -31,6 +31,7 @@ pub command_again : (c : Command) → IsCommand c → command_of (command_text c
 unfolding command_of
 command_again (Block len) is = named_again (codes "BLOCK ") framed (decimal len) (Block len) (rw (number_again len is) refl)
 command_again (Ask query.Head) is = refl
+command_again (Ask q) is = absurd is
 
 pub command_is_found : (line : List ℕ) (o : Option Command) → o ≡ command_of line → IfSome o (λ c. IsCommand c × (line ≡ command_text c))
 command_is_found line (Some c) e = command_found line c (sym e)

@@ -1,7 +1,7 @@
 use dubp_replay::Query;
 
 /// A command of the input.
-#[derive(Clone, Copy, Debug, PartialEq, Eq)]
+#[derive(Debug, Drop)]
 pub enum Command {
     /// `BLOCK LEN`: a block to be accepted. LEN raw bytes follow, and one byte more.
     Block { len: u64 },
