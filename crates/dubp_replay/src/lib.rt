@@ -8,6 +8,8 @@ mod head;
 pub mod laws;
 mod query;
 mod record;
+#[cfg(test)]
+mod tests;
 
 pub use head::Head;
 pub use query::Query;
