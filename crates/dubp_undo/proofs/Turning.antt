@@ -1,19 +1,13 @@
 -- What moving the last changes to the other journal does to the maps: back, forth, and without the oldest.
-use Rattle.std.proofs.Common.{◌≡◌, ℕ, suc, ◌+◌, ◌-◌, ◌<◌, ◌≤◌, Bool, true, false, cond, List, [], ◌∷◌, ◌++◌, length, get_or, set, take, drop, reverse, Option, Some, None, refl, sym, ap, ◌∙◌, inl, inr, ◌⊎◌, arith, length-append, append-nil}
-use Rattle.std.specs.Prelude.{⊤}
+use Rattle.std.proofs.Common.{◌≡◌, ℕ, suc, ◌+◌, ◌-◌, ◌<◌, ◌≤◌, List, [], ◌∷◌, ◌++◌, length, get_or, set, take, drop, reverse, Option, None, refl, sym, ap, ◌∙◌, inl, inr, ◌⊎◌, arith, length-append, append-nil}
 use Rattle.std.specs.declared.cmp.Ordering.{Ordering}
-use Rattle.std.specs.Cmp.{IsTotalOrder, IsEquivalence, eq_by_cmp_equiv}
-use Rattle.std.specs.List.{All, sum, IsDistinct}
-use Rattle.std.specs.Map.{keys_of, lookup}
-use Rattle.std.proofs.lemmas.List.{length-reverse, reverse-append, get_or-take, take-take, get_or-set_same, get_or-set_other, length-drop, length-take, length_push}
+use Rattle.std.specs.Cmp.{IsTotalOrder}
+use Rattle.std.specs.List.{All, sum}
+use Rattle.std.proofs.lemmas.List.{length-reverse, reverse-append, get_or-take, take-take, length-drop, length-take, length_push}
 use Rattle.std.proofs.lemmas.List.Elements.{All-head, All-tail, All-push, All-drop}
-use Rattle.std.proofs.lemmas.Map.{lookup-none}
-use Rattle.std.proofs.lemmas.Map.Entries.{none_past_head}
-use Rattle.std.proofs.lemmas.Map.Keys.{IsDistinct-from_sorted, IsDistinct-tail}
-use Rattle.std.proofs.lemmas.Bool.{cases_eq}
 use Rattle.std.proofs.Math.Seq.{drop-cons}
 use Rattle.dubp_undo.specs.MovingTable.{last_count, SameValues}
-use Rattle.dubp_undo.specs.Rows.{live, AreRows}
+use Rattle.dubp_undo.specs.Rows.{live}
 use Rattle.dubp_undo.specs.Journal.{undo, redo_of, states, IsKept}
 use Rattle.dubp_undo.proofs.Alike.{alike_live, alike_undo, alike_states, alike_from_values}
 use Rattle.dubp_undo.proofs.Journals.{length-undo, undo-append, undo-set, sum_push, sum_cons, states-append, length-states, no_spare, last_changes-push, last_count-states, parted, last_few, last_state, push_journal}
@@ -33,6 +27,13 @@ undo-redo_of slots (c ∷ j) =
     undo-append (set (undo slots j) c.0 c.1) (redo_of slots j) ((c.0, get_or (undo slots j) c.0 None) ∷ [])
     ∙ ap (λ x. undo x (redo_of slots j)) (undo-set (undo slots j) c.0 c.1)
     ∙ undo-redo_of slots j
+
+-- the last n changes go to the end of `to`: the two have as many as before
+pub length-moved : {V : Type 0} (slots : List (Option V)) (from to : List (ℕ × Option V)) (n : ℕ) → n ≤ length from → length (take (length from - n) from) + length (to ++ redo_of slots (drop (length from - n) from)) ≡ length from + length to
+length-moved slots from to n few =
+    let seg = drop (length from - n) from in
+    let p = parted from n few in
+    omega (arith, p.front, p.back, length-append to (redo_of slots seg), length-redo_of slots seg)
 
 -- one more change from the end of j
 pub redo_more : {V : Type 0} (slots : List (Option V)) (j : List (ℕ × Option V)) (i : ℕ) (c : ℕ × Option V) → i < length j → get_or j (length j - (i + 1)) c ≡ c → redo_of slots (drop (length j - (i + 1)) j) ≡ redo_of slots (drop (length j - i) j) ++ (c.0, get_or (undo slots (drop (length j - i) j)) c.0 None) ∷ []

@@ -19,7 +19,7 @@ use std::sync::ledger::Ledger;
 ///
 /// Contracts see it as a `MovingTable`. A key that was set once keeps its place, so no way back or forth needs memory:
 /// only `set`, `ready`, `mark` and `reserve` take any, and answer `NoMemory` where there is none. `mark` copies nothing.
-/// Every call but `reserve` and `hold` may lower `spare`, and every call but `set` and `ready` may lower `room`.
+/// Every call but `reserve` and `hold` may lower `spare`; only `set` lowers `room`, by 1 at most.
 #[derive(Drop)]
 pub struct UndoTable<K: Ord, V> {
     rows: Rows<K>,
@@ -179,6 +179,7 @@ impl<K: Ord + Copy, V: Copy + Eq> UndoTable<K, V> {
         ensures ahead { self.new.ahead ≡ self.old.ahead }
         ensures root { self.new.root ≡ self.old.root }
         ensures placed { self.new.placed ≡ self.old.placed }
+        ensures room_stays { self.old.room ≤ self.new.room }
 
         ensures refused { OnErr result (IsUnchanged self.old self.new) }
     {
@@ -198,6 +199,7 @@ impl<K: Ord + Copy, V: Copy + Eq> UndoTable<K, V> {
         ensures ahead { self.new.ahead ≡ self.old.ahead }
         ensures root { self.new.root ≡ self.old.root }
         ensures placed { self.new.placed ≡ self.old.placed }
+        ensures room_stays { self.old.room ≤ self.new.room }
     {
         let _count = self.marks.pop_back().unwrap();
         self.spare = 0;
@@ -215,6 +217,7 @@ impl<K: Ord + Copy, V: Copy + Eq> UndoTable<K, V> {
         ensures ahead { self.new.ahead ≡ self.old.ahead }
         ensures root { self.new.root ≡ self.old.root }
         ensures placed { self.new.placed ≡ self.old.placed }
+        ensures room_stays { self.old.room ≤ self.new.room }
 
         ensures refused { OnErr result (IsUnchanged self.old self.new) }
         ensures succeeds { k ≤ self.old.spare → IsOk result }
@@ -240,6 +243,7 @@ impl<K: Ord + Copy, V: Copy + Eq> UndoTable<K, V> {
         ensures root { self.new.root ≡ self.new.now }
         ensures spare { self.new.spare + 1 ≡ self.old.spare }
         ensures placed { self.new.placed ≡ self.old.placed }
+        ensures room_stays { self.old.room ≤ self.new.room }
         ensures steps { steps.old ≤ steps.new }
     {
         let n = self.marks.pop_back().unwrap();
@@ -257,6 +261,7 @@ impl<K: Ord + Copy, V: Copy + Eq> UndoTable<K, V> {
         ensures ahead { self.new.ahead ≡ self.old.ahead }
         ensures root { self.new.root ≡ self.old.root }
         ensures placed { self.new.placed ≡ self.old.placed }
+        ensures room_stays { self.old.room ≤ self.new.room }
         ensures steps { steps.old ≤ steps.new }
     {
         let n = self.marks.pop_back().unwrap();
@@ -273,6 +278,7 @@ impl<K: Ord + Copy, V: Copy + Eq> UndoTable<K, V> {
         ensures ahead { self.old.ahead ≡ (self.new.now, steps.new - steps.old) ∷ self.new.ahead }
         ensures root { self.new.root ≡ self.new.now }
         ensures placed { self.new.placed ≡ self.old.placed }
+        ensures room_stays { self.old.room ≤ self.new.room }
         ensures steps { steps.old ≤ steps.new }
     {
         let n = self.redo_marks.pop_back().unwrap();
@@ -290,6 +296,7 @@ impl<K: Ord + Copy, V: Copy + Eq> UndoTable<K, V> {
         ensures ahead { self.new.ahead ≡ self.old.ahead }
         ensures root { self.new.root ≡ self.old.root }
         ensures placed { self.new.placed ≡ self.old.placed }
+        ensures room_stays { self.old.room ≤ self.new.room }
     {
         let n = self.marks.pop_front().unwrap();
         drop_first(&mut self.journal, n);
@@ -303,6 +310,7 @@ impl<K: Ord + Copy, V: Copy + Eq> UndoTable<K, V> {
         ensures now { self.new.now ≡ self.old.now }
         ensures root { self.new.root ≡ self.old.root }
         ensures placed { self.new.placed ≡ self.old.placed }
+        ensures room_stays { self.old.room ≤ self.new.room }
     {
         self.redo.clear();
         self.redo_marks.clear();
