@@ -21,7 +21,7 @@ use Rattle.dubp_replay.specs.People.{expiry, revoked, expired}
 use Rattle.dubp_replay.specs.Live.{live, received, stock, certification, end_of, live_pairs, kick}
 use Rattle.dubp_replay.specs.Distance.{sentries, sentry_count, IsReached, Passes}
 use Rattle.dubp_replay.specs.Money.{Source, unspent_units, cleared_units, balance, sources_of}
-use Rattle.dubp_replay.specs.Samples.{key0, key1, key2, key3, paying_params, short_params, one_block, two_blocks, three_blocks, spending, spent_chain, aged, revoking_chain, quiet_chain, dividend_input}
+use Rattle.dubp_replay.specs.Samples.{key0, key1, key2, key3, paying_params, short_params, block0, one_block, two_blocks, three_blocks, spending, spent_chain, aged, revoking_chain, quiet_chain, dividend_input}
 
 -- ---- heads
 
@@ -102,6 +102,10 @@ all_revoked = (refl, refl)
 -- who is revoked by a line is to be excluded at once
 revoked_at_once : (map (revoked revoking_chain) (members one_block) ≡ false ∷ false ∷ true ∷ []) × (kick revoking_chain ≡ key2 ∷ [])
 revoked_at_once = (refl, refl)
+
+-- where one block has a key in Joiners and in Excluded, the later section wins
+joined_and_excluded : members (record block0 { excluded = key2 ∷ [] } ∷ []) ≡ key0 ∷ key1 ∷ []
+joined_and_excluded = refl
 
 -- ---- distance
 
