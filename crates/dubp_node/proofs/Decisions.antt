@@ -1,5 +1,5 @@
 -- What `submit` of the ledger said, as a decision of the node.
-use Rattle.std.proofs.Common.{◌≡◌, ◌+◌, ◌∷◌, min, length, arith, inl, inr, List, Some, None, Result, Ok, Err, ◌∙◌, ap, ℕ}
+use Rattle.std.proofs.Common.{◌≡◌, ◌+◌, suc, ◌∷◌, min, length, arith, inl, inr, List, Some, None, Result, Ok, Err, ◌∙◌, ap, ℕ}
 use Rattle.std.specs.Prelude.{IfOk, IfErr}
 use Rattle.dubp_atoms.specs.declared.stamp.Stamp.{Stamp}
 use Rattle.dubp_block.specs.declared.block.Block.{Block as BlockValue}
@@ -12,7 +12,7 @@ use Rattle.dubp_node.specs.NodeStates.{node_state}
 use Rattle.dubp_node.specs.Deciding.{Decided, outcome_text}
 
 -- one block more can be reversed, up to a hundred
-kept_grows : (n : ℕ) → min (n + 1) most_kept ≡ min (min n most_kept + 1) most_kept
+kept_grows : (n : ℕ) → min (suc n) most_kept ≡ min (min n most_kept + 1) most_kept
 kept_grows n = omega arith
 
 -- the chain that grows gives the state in which the block is accepted

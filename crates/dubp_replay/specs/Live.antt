@@ -1,5 +1,5 @@
 -- Which certifications are live, how many a key has received and issued, and who is to be excluded. Protocol: certifications.
-use Rattle.std.specs.Prelude.{ℕ, ◌+◌, Bool, false, ◌&&◌, ◌||◌, List, Option, unwrap_or, map, filter, nat_lt}
+use Rattle.std.specs.Prelude.{ℕ, ◌+◌, Bool, false, ◌&&◌, ◌||◌, List, Option, option_map, unwrap_or, map, filter, nat_lt}
 use Rattle.std.specs.Option.{option_map_or}
 use Rattle.std.specs.List.{flat_map}
 use Rattle.dubp_atoms.specs.Same.{Text, same_text}
@@ -18,6 +18,10 @@ certification c a b = last_line (λ block. block.certifications) (λ line. same_
 -- the last certification from a
 abbrev pub last_from : Chain → Text → Option (Written CertLine)
 last_from c a = last_line (λ block. block.certifications) (λ line. same_text a line.from) c
+
+-- the number of its block
+abbrev pub wrote : Chain → Text → Option ℕ
+wrote c a = option_map (λ w. w.block.number) (last_from c a)
 
 -- when it was made; a line without a time counts as made at 0, and no answer depends on it
 abbrev pub made_of : Written CertLine → ℕ

@@ -26,6 +26,10 @@ use Rattle.dubp_replay.specs.Verdicts.{Verdicts, HasVerdict}
 abbrev pub IsInWindow : ℕ → ℕ → Option ℕ → Type 0
 IsInWindow t window at = IsSomeAnd at (λ m. t ≤ m + window)
 
+-- so long after the block of an earlier line
+abbrev pub HasWaited : {Line : Type 0} → ℕ → ℕ → Written Line → Type 0
+HasWaited t wait last = written_time last + wait ≤ t
+
 -- X06: The chain and the block have at most 1,000,000 lines of Identities together.
 abbrev pub IdentitiesAreFew : Chain → Block → Type 0
 IdentitiesAreFew c b = length (identity_lines (b ∷ c)) ≤ 1000000
@@ -58,7 +62,7 @@ MembershipsAreNewer c b =
 -- block of the last one.
 abbrev pub MembershipsAreApart : Chain → Block → Type 0
 MembershipsAreApart c b =
-    (b.version ≡ 10) ⊎ AllByRecursion (λ line. MatchOption (membership c line.key) ⊤ (λ last. written_time last + (params (b ∷ c)).ms_window ≤ time_of (b ∷ c))) (membership_lines b)
+    (b.version ≡ 10) ⊎ AllByRecursion (λ line. MatchOption (membership c line.key) ⊤ (HasWaited (time_of (b ∷ c)) (params (b ∷ c)).ms_window)) (membership_lines b)
 
 -- G82: Each membership has a line of Identities, in the chain or in the block, with its key, UID and identity stamp.
 abbrev pub is_identity_of : MemberLine → IdentityLine → Bool
@@ -110,7 +114,7 @@ StocksAreKept c b = AllByRecursion (λ line. stock (b ∷ c) line.from ≤ (para
 -- the median time of the block of the last one.
 abbrev pub IssuersWaited : Chain → Block → Type 0
 IssuersWaited c b =
-    AllByRecursion (λ line. MatchOption (last_from c line.from) ⊤ (λ last. written_time last + (params (b ∷ c)).sig_period ≤ time_of (b ∷ c))) b.certifications
+    AllByRecursion (λ line. MatchOption (last_from c line.from) ⊤ (HasWaited (time_of (b ∷ c)) (params (b ∷ c)).sig_period)) b.certifications
 
 -- G68: Each issuer of a certification is a member of the chain, or of the new chain where the chain is empty.
 abbrev pub may_certify : Chain → Block → Text → Bool
@@ -132,7 +136,7 @@ ReceiversStay c b = AllByRecursion (λ line. IsTrue (not (leaving (b ∷ c) line
 -- median time of the block of the pair's last line, and the time of the certification is above that of the pair's last line.
 pub record IsRenewal (c : Chain) (b : Block) (line : CertLine) (last : Written CertLine) : Type 0 where
   pub version : b.version ≡ 11
-  pub waited : written_time last + (params (b ∷ c)).ms_window ≤ time_of (b ∷ c)
+  pub waited : HasWaited (time_of (b ∷ c)) (params (b ∷ c)).ms_window last
   pub newer : IsSomeAnd (certification_made c b line) (λ m. made_of last < m)
 
 abbrev pub LiveIsRenewed : Chain → Block → CertLine → Type 0

@@ -91,18 +91,10 @@ records c b =
     ++ (dividend_records c b
     ++ clearing_records c b)))))
 
--- the chain that ends with the block of this number; the empty one where there is none
-abbrev pub up_to : Chain → ℕ → Chain
-up_to [] number = []
-up_to (b ∷ c) number = if number == length c then b ∷ c else up_to c number
-
-abbrev pub last_records : Chain → Option (List Record)
-last_records [] = None
-last_records (b ∷ c) = Some (records c b)
-
--- the records of the block of this number
+-- the records of the block of this number, on the blocks before it
 abbrev pub records_at : Chain → ℕ → Option (List Record)
-records_at c number = last_records (up_to c number)
+records_at [] number = None
+records_at (b ∷ c) number = if number == length c then Some (records c b) else records_at c number
 
 -- ---- the text of a record: a name and its fields, with a space between
 
@@ -123,7 +115,7 @@ record_text (Make input cond) = codes "SIDX MAKE " ++ (input_text input ++ 32 �
 record_text (Dividend input) = codes "SIDX DIVIDEND " ++ input_text input
 record_text (Clear input) = codes "SIDX CLEAR " ++ input_text input
 
--- which records have a text
+-- whose values are in range; of the text of a condition the length is looked at
 abbrev pub IsRecord : Record → Type 0
 IsRecord (Create key uid stamp) = (is_key key ≡ true) × (is_uid uid ≡ true) × IsStamp stamp
 IsRecord (Enter key) = is_key key ≡ true

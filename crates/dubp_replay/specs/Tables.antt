@@ -13,7 +13,7 @@ use Rattle.dubp_replay.specs.Members.{member}
 use Rattle.dubp_replay.specs.Heads.{issued}
 use Rattle.dubp_replay.specs.Made.{head_stamped}
 use Rattle.dubp_replay.specs.People.{identity, membership, membership_made, leaving, revoked, expired, expiry, revocation}
-use Rattle.dubp_replay.specs.Live.{certification, made_of, end_of, live, is_kicked}
+use Rattle.dubp_replay.specs.Live.{certification, made_of, end_of, live, kick}
 use Rattle.dubp_replay.specs.Money.{Source, same_source, made_sources, cleared, is_left, unspent_units, cleared_units}
 use Rattle.dubp_replay.specs.MoneyRules.{hashes_of}
 
@@ -82,7 +82,7 @@ is_queued c at (Certification a b) = live c a b && falls_at (option_map (end_of 
 
 -- kicked: the keys that have to be excluded
 abbrev pub is_to_be_excluded : Chain → Text → Bool
-is_to_be_excluded c k = member c k && is_kicked c k
+is_to_be_excluded c k = names (kick c) k
 
 -- transactions: the hashes of those of the chain
 abbrev pub has_transaction : Chain → Text → Bool

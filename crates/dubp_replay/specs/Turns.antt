@@ -13,7 +13,7 @@ use Rattle.dubp_rules.specs.First.{IsFirst}
 use Rattle.dubp_replay.specs.declared.query.Query.{Query}
 use Rattle.dubp_replay.specs.declared.query.Query.TheVariants as query
 use Rattle.dubp_replay.specs.Chains.{Chain}
-use Rattle.dubp_replay.specs.Verdicts.{Verdict, Verdicts}
+use Rattle.dubp_replay.specs.Verdicts.{Verdict, Verdicts, with_verdict}
 use Rattle.dubp_replay.specs.Rules.{FirstBroken, FirstBrokenRaw, HoldsRaw, IsTextOf}
 use Rattle.dubp_replay.specs.RefusedLines.{IsRefusedLine}
 use Rattle.dubp_replay.specs.Answers.{noted_answer, accepted_answer, refused_answer, unread_answer, reverted_answer, too_deep_answer, stored_answer, known_answer, full_answer, switched_answer, unknown_answer, detached_answer, branch_refused_answer, forgotten_answer, bad_answer, no_memory_answer, IsAnswered}
@@ -179,11 +179,16 @@ SwitchesBy old stamp path count answer new =
 abbrev pub Detaches : State → Option Stamp → List ℕ → State → Type 0
 Detaches old end answer new = MatchOption end ⊥ (λ stamp. Only (detached_answer stamp) old answer new)
 
+-- along a path that ends there
+abbrev pub GoesAlong : State → Stamp → List Block → Option Stamp → List ℕ → State → Type 0
+GoesAlong old stamp path end answer new =
+    MatchOption (blocks_behind old.chain end) (Detaches old end answer new) (λ count. SwitchesBy old stamp path count answer new)
+
 pub record SwitchTurn (old : State) (stamp : Stamp) (answer : List ℕ) (new : State) : Type 0 where
   pub path : List Block
   pub end : Option Stamp
   pub is : IsPath old.store stamp path end
-  pub goes : MatchBool (is_some (stored old.store stamp)) (MatchOption (blocks_behind old.chain end) (Detaches old end answer new) (λ count. SwitchesBy old stamp path count answer new)) (Only unknown_answer old answer new)
+  pub goes : MatchBool (is_some (stored old.store stamp)) (GoesAlong old stamp path end answer new) (Only unknown_answer old answer new)
 
 -- ---- FORGET
 
@@ -197,7 +202,7 @@ ForgetTurn old stamp answer new =
 
 -- from this state the command may be answered so, and leads there
 abbrev pub Turn : State → Order → List ℕ → State → Type 0
-Turn old (Note verdict) answer new = (answer ≡ noted_answer) × (new ≡ record old { verdicts = verdict ∷ old.verdicts })
+Turn old (Note verdict) answer new = (answer ≡ noted_answer) × (new ≡ record old { verdicts = with_verdict verdict old.verdicts })
 Turn old (Submit bytes) answer new = BlockTurn old bytes answer new
 Turn old (Revert count) answer new = RevertTurn old count answer new
 Turn old (Offer bytes) answer new = OfferTurn old bytes answer new
@@ -236,3 +241,7 @@ Runs state [] [] new = new ≡ state
 Runs state (order ∷ orders) (answer ∷ answers) new = (middle : State) × TurnOrLack state order answer middle × Runs middle orders answers new
 Runs state [] (answer ∷ answers) new = ⊥
 Runs state (order ∷ orders) [] new = ⊥
+
+-- the same from the start: this is what a session comes to
+abbrev pub Session : List Order → List (List ℕ) → State → Type 0
+Session orders answers new = Runs start orders answers new

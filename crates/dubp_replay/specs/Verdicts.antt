@@ -1,7 +1,7 @@
 -- Which signatures were found right. Protocol: verdicts.
-use Rattle.std.specs.Prelude.{ℕ, List}
-use Rattle.std.specs.List.{Contains}
-use Rattle.dubp_atoms.specs.Same.{Text}
+use Rattle.std.specs.Prelude.{ℕ, Bool, ◌&&◌, List, ◌∷◌, if◌then◌else◌}
+use Rattle.std.specs.List.{Contains, list_any}
+use Rattle.dubp_atoms.specs.Same.{Text, same_text}
 use Rattle.dubp_atoms.specs.Hashing.{hash_of}
 
 -- the signature by this key of a text with this hash is right
@@ -13,6 +13,13 @@ pub record Verdict : Type 0 where
 -- a set: what stands in the list twice counts once
 abbrev pub Verdicts : Type 0
 Verdicts = List Verdict
+
+abbrev pub same_verdict : Verdict → Verdict → Bool
+same_verdict t u = same_text t.key u.key && (same_text t.hash u.hash && same_text t.sig u.sig)
+
+-- the set with one verdict more; a repeat changes nothing
+abbrev pub with_verdict : Verdict → Verdicts → Verdicts
+with_verdict t v = if list_any (same_verdict t) v then v else t ∷ v
 
 -- the key's signature of the message has a verdict
 abbrev pub HasVerdict : Verdicts → Text → List ℕ → Text → Type 0

@@ -108,7 +108,7 @@ pub enum Rule {
     G59,
     /// MembersCount is the number of members of the new chain.
     G60,
-    /// PoWMin is the common difficulty of the new chain.
+    /// PoWMin is the least difficulty of the new chain.
     G61,
     /// The hash of the block meets the difficulty of Issuer.
     G62,
