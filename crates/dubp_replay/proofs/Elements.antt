@@ -1,8 +1,11 @@
 -- Elements of a list, named by recursion, and what tests on lists say of them.
-use Rattle.std.proofs.Common.{◌≡◌, ℕ, ◌<◌, Bool, true, false, cond, not, ◌||◌, ◌&&◌, ◌==◌, List, [], ◌∷◌, ◌++◌, map, filter, refl, ap, sym, ◌∙◌, subst, true≢false, arith, inl, inr, ◌⊎◌}
+use Rattle.std.proofs.Common.{◌≡◌, ℕ, ◌<◌, Bool, true, false, cond, not, ◌||◌, ◌&&◌, ◌==◌, List, [], ◌∷◌, ◌++◌, map, filter, refl, ap, sym, ◌∙◌, subst, true≢false, arith, inl, inr, ◌⊎◌, Some, None, unwrap_or}
 use Rattle.std.specs.List.{AllByRecursion, list_any}
+use Rattle.std.specs.Option.{option_or}
 use Rattle.std.proofs.lemmas.List.Folds.{list_any-append}
 use Rattle.std.proofs.lemmas.Bool.Decides.{Decides-eqb}
+use Rattle.std.proofs.lemmas.Option.{none-some}
+use Rattle.dubp_replay.specs.Words.{last_of}
 
 -- ---- tests
 
@@ -130,3 +133,15 @@ module _ {X : Type 0} where
 pub list_any-map : {X Y : Type 0} (p : Y → Bool) (f : X → Y) (xs : List X) → list_any p (map f xs) ≡ list_any (λ x. p (f x)) xs
 list_any-map p f [] = refl
 list_any-map p f (x ∷ xs) = ap (λ b. p (f x) || b) (list_any-map p f xs)
+
+-- the last element that passes is one of the list
+pub last_in : {X : Type 0} (p : X → Bool) (xs : List X) (x : X) → last_of p xs ≡ Some x → IsIn x xs × (p x ≡ true)
+last_in p [] x e = absurd (none-some x e)
+last_in p (y ∷ ys) x e =
+    elim (last_of p ys) as (λ o. last_of p ys ≡ o → option_or o (cond (p y) (Some y) None) ≡ Some x → IsIn x (y ∷ ys) × (p x ≡ true)) [
+      | None ↦ λ _ e. elim (p y) as (λ b. p y ≡ b → cond b (Some y) None ≡ Some x → IsIn x (y ∷ ys) × (p x ≡ true)) [
+        | true ↦ λ is e. let same : y ≡ x = ap (λ o. unwrap_or o y) e in (inl (sym same), subst (λ z. p z ≡ true) same is)
+        | false ↦ λ _ e. absurd (none-some x e)
+      ] refl e
+      | Some z ↦ λ is e. let h = last_in p ys x (is ∙ e) in (inr h.0, h.1)
+    ] refl e

@@ -8,6 +8,8 @@ pub mod Spending
 pub mod Mass
 pub mod Conserved
 pub mod Sound
+pub mod Folds
+pub mod ReducedIdentities
 mod MoreVerdicts
 mod RulesRead
 mod Checks
