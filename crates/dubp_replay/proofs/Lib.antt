@@ -8,8 +8,10 @@ pub mod Spending
 pub mod Mass
 pub mod Conserved
 pub mod Sound
+pub mod LastLines
 pub mod Folds
 pub mod ReducedIdentities
+pub mod ReducedCertifications
 mod MoreVerdicts
 mod RulesRead
 mod Checks

@@ -1,9 +1,9 @@
 -- The records of a chain leave its identities. Of a block only its lines of Identities, Joiners and Excluded change an identity: the
 -- last line of Identities of a key makes it anew, and a key of Joiners or Excluded becomes a member or ends to be one. Each new
 -- identity joins in its own block, so that it does not matter what the chain says of its key.
-use Rattle.std.proofs.Common.{◌≡◌, ℕ, Bool, true, false, cond, ◌||◌, List, [], ◌∷◌, Option, Some, None, option_map, map, fold, refl, ap, sym, ◌∙◌, subst, true≢false, unwrap_or}
+use Rattle.std.proofs.Common.{◌≡◌, ℕ, Bool, true, false, cond, [], ◌∷◌, Option, Some, None, option_map, refl, ap, sym, ◌∙◌, subst, true≢false, unwrap_or}
 use Rattle.std.specs.Option.{option_or}
-use Rattle.std.specs.List.{list_any, flat_map}
+use Rattle.std.specs.List.{list_any}
 use Rattle.dubp_atoms.specs.Same.{Text, same_text}
 use Rattle.dubp_block.specs.declared.block.Block.{Block}
 use Rattle.dubp_block.specs.declared.block.IdentityLine.{IdentityLine}
@@ -25,7 +25,7 @@ use Rattle.dubp_replay.specs.Reduced.{ReducedIdentity, set_member, identity_chan
 use Rattle.dubp_replay.specs.Rules.{IsSound}
 use Rattle.dubp_replay.proofs.Elements.{and_left, in_all, in_any, any_in, last_in}
 use Rattle.dubp_replay.proofs.InOrder.{same_text_is}
-use Rattle.dubp_replay.proofs.Folds.{Gives, gives_both, left_out, each_left_out}
+use Rattle.dubp_replay.proofs.Folds.{Gives, gives_both, left_out, each_left_out, changed, each_changed, made_anew}
 
 abbrev of_key : Text → IdentityLine → Bool
 of_key k line = same_text k line.key
@@ -34,48 +34,19 @@ of_key k line = same_text k line.key
 abbrev created : ℕ → IdentityLine → ReducedIdentity
 created number line = record { uid = line.uid; stamp = line.stamp; written = number; is_member = false }
 
-module _ (number : ℕ) (k : Text) where
-  -- the last line of Identities makes the row
-  creates : (lines : List IdentityLine) (row : Option ReducedIdentity)
-      → fold (identity_change number k) row (map (λ line. Create line.key line.uid line.stamp) lines)
-      ≡ option_or (option_map (created number) (last_of (of_key k) lines)) row
-  creates [] row = refl
-  creates (line ∷ lines) row =
-      creates lines (identity_change number k row (Create line.key line.uid line.stamp)) ∙ either (same_text k line.key) (last_of (of_key k) lines)
-    where
-      either : (b : Bool) (last : Option IdentityLine)
-          → option_or (option_map (created number) last) (cond b (Some (created number line)) row)
-          ≡ option_or (option_map (created number) (option_or last (cond b (Some line) None))) row
-      either true None = refl
-      either false None = refl
-      either b (Some l) = refl
+-- the key becomes a member, or ends to be one
+abbrev set_if : Bool → Bool → Option ReducedIdentity → Option ReducedIdentity
+set_if b is row = cond b (option_map (set_member is) row) row
 
-  abbrev set_if : Bool → Bool → Option ReducedIdentity → Option ReducedIdentity
-  set_if b is row = cond b (option_map (set_member is) row) row
-
-  -- to be set twice is to be set once
-  set_again : (a b is : Bool) (row : Option ReducedIdentity) → set_if b is (set_if a is row) ≡ set_if (a || b) is row
-  set_again true true is None = refl
-  set_again true true is (Some r) = refl
-  set_again true false is row = refl
-  set_again false b is row = refl
-
-  enters : (time : MemberLine → ℕ) (lines : List MemberLine) (row : Option ReducedIdentity)
-      → fold (identity_change number k) row (flat_map (λ line. Enter line.key ∷ Join line.key (time line) ∷ []) lines) ≡ set_if (list_any (is_of k) lines) true row
-  enters time [] row = refl
-  enters time (line ∷ lines) row =
-      enters time lines (identity_change number k row (Enter line.key)) ∙ set_again (same_text k line.key) (list_any (is_of k) lines) true row
-
-  exits : (keys : List Text) (row : Option ReducedIdentity)
-      → fold (identity_change number k) row (map Exit keys) ≡ set_if (names keys k) false row
-  exits [] row = refl
-  exits (key ∷ keys) row = exits keys (identity_change number k row (Exit key)) ∙ set_again (same_text k key) (names keys k) false row
+set_again : (is : Bool) (row : Option ReducedIdentity) → option_map (set_member is) (option_map (set_member is) row) ≡ option_map (set_member is) row
+set_again is None = refl
+set_again is (Some r) = refl
 
 -- what a block makes of the identity of k
 abbrev after_block : Block → Text → Option ReducedIdentity → Option ReducedIdentity
 after_block b k row =
-    set_if b.number k (names b.excluded k) false
-    (set_if b.number k (list_any (is_of k) b.joiners) true
+    set_if (names b.excluded k) false
+    (set_if (list_any (is_of k) b.joiners) true
     (option_or (option_map (created b.number) (last_of (of_key k) b.identities)) row))
 
 -- all other records leave it
@@ -83,12 +54,12 @@ block_gives : (c : Chain) (b : Block) (k : Text) → Gives (identity_change b.nu
 block_gives c b k =
     let change = identity_change b.number k in
     gives_both change
-    (gives_both change (record { at = creates b.number k b.identities })
-    (gives_both change (record { at = enters b.number k (membership_time c b) b.joiners })
+    (gives_both change (made_anew change (λ (line : IdentityLine). Create line.key line.uid line.stamp) (of_key k) (created b.number) (λ line row. refl) b.identities)
+    (gives_both change (each_changed change (option_map (set_member true)) (set_again true) (λ (line : MemberLine). Enter line.key ∷ Join line.key (membership_time c b line) ∷ []) (is_of k) (λ line row. refl) b.joiners)
     (gives_both change (left_out change (λ (line : MemberLine). Active line.key (membership_time c b line)) (λ line row. refl) b.actives)
     (gives_both change (left_out change (λ (line : MemberLine). Leave line.key (membership_time c b line)) (λ line row. refl) b.leavers)
     (gives_both change (left_out change (λ (line : RevokedLine). Revoke line.key) (λ line row. refl) b.revoked)
-    (gives_both change (record { at = exits b.number k b.excluded })
+    (gives_both change (changed change (option_map (set_member false)) (set_again false) Exit (same_text k) (λ key row. refl) b.excluded)
     (left_out change (λ (line : CertLine). Cert line.from line.to (unwrap_or (certification_made c b line) 0)) (λ line row. refl) b.certifications)))))))
     (gives_both change (left_out change Expire (λ x row. refl) _)
     (gives_both change (left_out change ExpireRev (λ x row. refl) _)
@@ -112,7 +83,7 @@ row_with is w = record { uid = w.line.uid; stamp = w.line.stamp; written = w.blo
 
 after_is : (b : Block) (c : Chain) (k : Text) (out inside m : Bool) (line : Option IdentityLine) (before : Option (Written IdentityLine))
     → ((l : IdentityLine) → line ≡ Some l → inside ≡ true)
-    → set_if b.number k out false (set_if b.number k inside true (option_or (option_map (created b.number) line) (option_map (row_with m) before)))
+    → set_if out false (set_if inside true (option_or (option_map (created b.number) line) (option_map (row_with m) before)))
     ≡ option_map (row_with (cond out false (cond inside true m))) (option_or (option_map (written_in b c) line) before)
 after_is b c k true true m None None enters = refl
 after_is b c k true false m None None enters = refl
