@@ -12,6 +12,7 @@ pub mod LastLines
 pub mod Folds
 pub mod ReducedIdentities
 pub mod ReducedCertifications
+pub mod ReducedSources
 mod MoreVerdicts
 mod RulesRead
 mod Checks
