@@ -13,6 +13,7 @@ pub mod Folds
 pub mod ReducedIdentities
 pub mod ReducedCertifications
 pub mod ReducedSources
+pub mod ReducedMemberships
 mod MoreVerdicts
 mod RulesRead
 mod Checks
