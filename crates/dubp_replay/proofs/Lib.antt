@@ -14,6 +14,7 @@ pub mod ReducedIdentities
 pub mod ReducedCertifications
 pub mod ReducedSources
 pub mod ReducedMemberships
+pub mod Reduced
 mod MoreVerdicts
 mod RulesRead
 mod Checks
