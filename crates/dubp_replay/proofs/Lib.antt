@@ -12,6 +12,8 @@ pub mod LastLines
 pub mod Folds
 pub mod ReducedIdentities
 pub mod ReducedCertifications
+pub mod SourceRows
+pub mod SourceRecords
 pub mod ReducedSources
 pub mod ReducedMemberships
 pub mod Reduced
