@@ -1,8 +1,11 @@
 -- Elements of a list, named by recursion, and what tests on lists say of them.
-use Rattle.std.proofs.Common.{◌≡◌, ℕ, ◌<◌, Bool, true, false, cond, not, ◌||◌, ◌&&◌, ◌==◌, List, [], ◌∷◌, ◌++◌, map, filter, refl, ap, sym, ◌∙◌, subst, true≢false, arith, inl, inr, ◌⊎◌}
-use Rattle.std.specs.List.{AllByRecursion, list_any}
+use Rattle.std.proofs.Common.{◌≡◌, ℕ, ◌<◌, Bool, true, false, cond, not, ◌||◌, ◌&&◌, ◌==◌, List, [], ◌∷◌, ◌++◌, map, filter, refl, ap, sym, ◌∙◌, subst, true≢false, arith, inl, inr, ◌⊎◌, Some, None, unwrap_or}
+use Rattle.std.specs.List.{AllByRecursion, list_any, flat_map}
+use Rattle.std.specs.Option.{option_or}
 use Rattle.std.proofs.lemmas.List.Folds.{list_any-append}
 use Rattle.std.proofs.lemmas.Bool.Decides.{Decides-eqb}
+use Rattle.std.proofs.lemmas.Option.{none-some}
+use Rattle.dubp_replay.specs.Words.{last_of}
 
 -- ---- tests
 
@@ -130,3 +133,40 @@ module _ {X : Type 0} where
 pub list_any-map : {X Y : Type 0} (p : Y → Bool) (f : X → Y) (xs : List X) → list_any p (map f xs) ≡ list_any (λ x. p (f x)) xs
 list_any-map p f [] = refl
 list_any-map p f (x ∷ xs) = ap (λ b. p (f x) || b) (list_any-map p f xs)
+
+-- the last element that passes is one of the list
+pub last_in : {X : Type 0} (p : X → Bool) (xs : List X) (x : X) → last_of p xs ≡ Some x → IsIn x xs × (p x ≡ true)
+last_in p [] x e = absurd (none-some x e)
+last_in p (y ∷ ys) x e =
+    elim (last_of p ys) as (λ o. last_of p ys ≡ o → option_or o (cond (p y) (Some y) None) ≡ Some x → IsIn x (y ∷ ys) × (p x ≡ true)) [
+      | None ↦ λ _ e. elim (p y) as (λ b. p y ≡ b → cond b (Some y) None ≡ Some x → IsIn x (y ∷ ys) × (p x ≡ true)) [
+        | true ↦ λ is e. let same : y ≡ x = ap (λ o. unwrap_or o y) e in (inl (sym same), subst (λ z. p z ≡ true) same is)
+        | false ↦ λ _ e. absurd (none-some x e)
+      ] refl e
+      | Some z ↦ λ is e. let h = last_in p ys x (is ∙ e) in (inr h.0, h.1)
+    ] refl e
+
+pub any_of_flat_map : {X Y : Type 0} (p : Y → Bool) (f : X → List Y) (xs : List X) (x : X) → IsIn x xs → list_any p (f x) ≡ true → list_any p (flat_map f xs) ≡ true
+any_of_flat_map p f [] x there passes = absurd there
+any_of_flat_map p f (y ∷ ys) x (inl e) passes =
+    let here : list_any p (f y) ≡ true = subst (λ z. list_any p (f z) ≡ true) e passes in
+    list_any-append p (f y) (flat_map f ys) ∙ ap (λ b. b || list_any p (flat_map f ys)) here
+any_of_flat_map p f (y ∷ ys) x (inr there) passes =
+    list_any-append p (f y) (flat_map f ys) ∙ ap (λ b. list_any p (f y) || b) (any_of_flat_map p f ys x there passes) ∙ or_last (list_any p (f y))
+  where
+    or_last : (b : Bool) → (b || true) ≡ true
+    or_last true = refl
+    or_last false = refl
+
+pub in_map : {X Y : Type 0} (f : X → Y) (xs : List X) (x : X) → IsIn x xs → IsIn (f x) (map f xs)
+in_map f [] x there = there
+in_map f (y ∷ ys) x (inl e) = inl (ap f e)
+in_map f (y ∷ ys) x (inr there) = inr (in_map f ys x there)
+
+pub kept_in : {X : Type 0} (p : X → Bool) (xs : List X) (x : X) → IsIn x xs → p x ≡ true → IsIn x (filter p xs)
+kept_in p [] x there passes = there
+kept_in p (y ∷ ys) x (inl e) passes =
+    let here : p y ≡ true = subst (λ z. p z ≡ true) e passes in
+    rw here (inl e)
+kept_in p (y ∷ ys) x (inr there) passes =
+    elim (p y) as (λ b. IsIn x (cond b (y ∷ filter p ys) (filter p ys))) [ true ↦ inr (kept_in p ys x there passes) | false ↦ kept_in p ys x there passes ]

@@ -31,7 +31,7 @@ is_there sources input = list_any (is_spent_by input) sources
 
 -- ---- what is spent is at hand
 
-found_any : {X : Type 0} (p : X → Bool) (xs : List X) → IsSomeAnd (find p xs) (λ x. ⊤) → list_any p xs ≡ true
+pub found_any : {X : Type 0} (p : X → Bool) (xs : List X) → IsSomeAnd (find p xs) (λ x. ⊤) → list_any p xs ≡ true
 found_any p [] some = absurd some
 found_any p (x ∷ xs) some =
     elim (p x) as (λ b. IsSomeAnd (cond b (Some x) (find p xs)) (λ x. ⊤) → (b || list_any p xs) ≡ true) [
@@ -39,7 +39,7 @@ found_any p (x ∷ xs) some =
       | false ↦ λ later. found_any p xs later
     ] some
 
-abbrev AreThere : Tx → List Source → Type 0
+abbrev pub AreThere : Tx → List Source → Type 0
 AreThere tx sources = AllByRecursion (λ input. IsSomeAnd (spent sources input) (λ s. ⊤)) tx.inputs
 
 -- what is an output of an earlier transaction is one of all outputs

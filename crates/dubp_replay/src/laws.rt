@@ -1,5 +1,6 @@
 //! The laws of the definitions. Each function here is a law: it does nothing, and its contract is the law.
 ghost use Rattle.dubp_replay.specs.Laws.{Conserves, Monotone, ReadingChangesNothing, StaysValid, ValidIsSound};
+ghost use Rattle.dubp_replay.specs.Reduced.{Reduces};
 
 /// A rule that holds with some verdicts holds with more of them.
 pub fn monotone()
@@ -24,4 +25,10 @@ pub fn conserved()
 /// A valid chain is sound.
 pub fn valid_chains_are_sound()
     ensures { ValidIsSound }
+{}
+
+/// The records of all blocks of a valid chain, each changing the rows in turn, leave its identities, memberships, certifications
+/// and sources.
+pub fn reduced()
+    ensures { Reduces }
 {}
