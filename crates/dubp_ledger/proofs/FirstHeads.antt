@@ -1,6 +1,6 @@
 -- The head of a chain of one block of the built form, which has no line in its sections; and that such a block, where it is the
 -- next, is the first.
-use Rattle.std.proofs.Common.{◌≡◌, ℕ, zero, suc, List, [], ◌∷◌, ◌++◌, length, reverse, Option, Some, None, map, refl, ap, subst, sym, ◌∙◌, unwrap_or, arith}
+use Rattle.std.proofs.Common.{◌≡◌, ℕ, List, [], ◌∷◌, ◌++◌, length, reverse, Option, Some, None, refl, ap, subst, sym, ◌∙◌, unwrap_or, arith}
 use Rattle.std.proofs.lemmas.List.{reverse-append}
 use Rattle.std.specs.Prelude.{pos}
 use Rattle.dubp_atoms.specs.Same.{Text}

@@ -1,5 +1,5 @@
 -- What is found down the rules that are read is the first rule that the block breaks.
-use Rattle.std.proofs.Common.{◌≡◌, [], Option, Some, None, Result, Ok, Err}
+use Rattle.std.proofs.Common.{[], Option, Result, Ok, Err}
 use Rattle.std.specs.Prelude.{IfOk}
 use Rattle.dubp_atoms.specs.declared.no_memory.NoMemory.{NoMemory}
 use Rattle.dubp_block.specs.declared.block.Block.{Block}

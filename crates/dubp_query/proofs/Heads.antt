@@ -1,5 +1,5 @@
 -- The text of a head, as it is put together.
-use Rattle.std.proofs.Common.{◌≡◌, ℕ, List, [], ◌∷◌, ◌++◌, refl, sym, ap, ◌∙◌, append_assoc}
+use Rattle.std.proofs.Common.{◌≡◌, ℕ, List, [], ◌++◌, ap, ◌∙◌, append_assoc}
 
 -- behind a text stands another
 grown : (first more p q x : List ℕ) → p ≡ first ++ more → q ≡ p ++ x → q ≡ first ++ (more ++ x)

@@ -1,11 +1,10 @@
 -- What a block writes to the indexes, one record for each change, and the text of a record. Protocol: records.
 use Rattle.std.specs.Prelude.{◌≡◌, ℕ, ◌≤◌, ◌==◌, Bool, true, not, ◌&&◌, List, [], ◌∷◌, ◌++◌, codes, decimal, map, filter, length, unwrap_or, Option, Some, None, if◌then◌else◌}
 use Rattle.std.specs.List.{flat_map}
-use Rattle.arrayvec.specs.ArrayVec.{ArrayVec}
 use Rattle.dubp_atoms.specs.Same.{Text, same_text}
 use Rattle.dubp_atoms.specs.Letters.{is_key, is_uid}
 use Rattle.dubp_atoms.specs.Spelling.{IsNumber, stamp_text, IsStamp}
-use Rattle.dubp_cond.specs.Conditions.{cond_text, IsCond}
+use Rattle.dubp_cond.specs.Conditions.{cond_text}
 use Rattle.dubp_cond.specs.Sources.{input_text, IsInput}
 use Rattle.dubp_cond.specs.declared.source.Input.{Input}
 use Rattle.dubp_cond.specs.declared.tx.Tx.{Tx}

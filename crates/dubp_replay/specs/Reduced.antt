@@ -1,5 +1,5 @@
 -- The tables that the records of all blocks leave, each changed by every record in turn. Protocol: records.
-use Rattle.std.specs.Prelude.{◌≡◌, ℕ, ◌+◌, Bool, true, false, ◌&&◌, List, [], ◌∷◌, Option, Some, None, option_map, unwrap_or, fold, nat_lt, if◌then◌else◌}
+use Rattle.std.specs.Prelude.{◌≡◌, ℕ, ◌+◌, Bool, true, false, ◌&&◌, [], ◌∷◌, Option, Some, None, option_map, fold, nat_lt, if◌then◌else◌}
 use Rattle.std.specs.Option.{option_map_or}
 use Rattle.dubp_atoms.specs.Same.{Text, same_text}
 use Rattle.dubp_atoms.specs.declared.stamp.Stamp.{Stamp}

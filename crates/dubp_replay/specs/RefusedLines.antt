@@ -1,5 +1,5 @@
 -- Which line of bytes that are no block is refused. Protocol: commands and answers.
-use Rattle.std.specs.Prelude.{◌≡◌, ◌⊎◌, ℕ, ◌+◌, ◌<◌, ◌≤◌, List, ◌++◌, length, take}
+use Rattle.std.specs.Prelude.{◌≡◌, ◌⊎◌, ℕ, ◌+◌, ◌≤◌, List, ◌++◌, length, take}
 use Rattle.dubp_lines.specs.Lines.{split}
 use Rattle.dubp_block.specs.declared.block.Block.{Block}
 use Rattle.dubp_block.specs.Text.{IsBlock, block_lines}

@@ -1,5 +1,5 @@
 -- What stands at each key of the tables of a chain. Protocol: tables.
-use Rattle.std.specs.Prelude.{◌≡◌, ℕ, ◌*◌, ◌+◌, Bool, false, not, ◌&&◌, ◌==◌, List, [], ◌∷◌, Option, Some, None, option_map, is_some, unwrap_or, find, filter, length}
+use Rattle.std.specs.Prelude.{ℕ, Bool, false, not, ◌&&◌, ◌==◌, [], ◌∷◌, Option, Some, None, option_map, is_some, unwrap_or, find, length}
 use Rattle.std.specs.Option.{option_map_or}
 use Rattle.std.specs.List.{enumerate_from}
 use Rattle.dubp_atoms.specs.Same.{Text}

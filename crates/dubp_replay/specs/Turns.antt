@@ -1,8 +1,8 @@
 -- What each command answers and how it changes the state, and runs of commands. Protocol: commands and answers.
-use Rattle.std.specs.Prelude.{◌≡◌, ◌⊎◌, ℕ, ◌+◌, ◌-◌, ◌<◌, ◌≤◌, min, Bool, not, List, [], ◌∷◌, ◌++◌, length, filter, find, take, drop, reverse, position, Option, Some, None, option_map, is_some, nat_le, nat_lt, ⊤, MatchBool}
+use Rattle.std.specs.Prelude.{◌≡◌, ◌⊎◌, ℕ, ◌+◌, ◌-◌, min, Bool, not, List, [], ◌∷◌, ◌++◌, length, filter, find, take, drop, reverse, position, Option, Some, None, option_map, is_some, nat_le, nat_lt, ⊤, MatchBool}
 use Rattle.std.specs.Option.{MatchOption}
 use Rattle.std.specs.List.{list_any}
-use Rattle.dubp_atoms.specs.Same.{Text, same_stamp}
+use Rattle.dubp_atoms.specs.Same.{same_stamp}
 use Rattle.dubp_atoms.specs.declared.stamp.Stamp.{Stamp}
 use Rattle.dubp_block.specs.declared.block.Block.{Block}
 use Rattle.dubp_block.specs.Text.{stamp_of}

@@ -1,11 +1,11 @@
 -- What is read as a command is its one text.
-use Rattle.std.proofs.Common.{◌≡◌, ℕ, ◌+◌, ◌^◌, ◌<◌, Bool, true, false, cond, List, [], ◌∷◌, ◌++◌, length, take, drop, Option, Some, None, refl, sym, ap, subst, ◌∙◌, arith, decimal}
+use Rattle.std.proofs.Common.{◌≡◌, ℕ, Bool, true, false, cond, List, ◌++◌, Option, Some, None, refl, sym, ap, subst, ◌∙◌, decimal}
 use Rattle.std.specs.Prelude.{codes, nat_eq, IfSome}
 use Rattle.std.specs.Cmp.Lexicographic.{pointwise}
 use Rattle.dubp_atoms.specs.Reading.{◌>>=◌, number_of}
 use Rattle.dubp_atoms.proofs.Numbers.{bind_some, some_is, number_found, number_again}
-use Rattle.dubp_lines.specs.Taking.{value_of, named}
-use Rattle.dubp_lines.proofs.Taken.{same_text, text_same, named_found, named_again}
+use Rattle.dubp_lines.specs.Taking.{value_of}
+use Rattle.dubp_lines.proofs.Taken.{same_text, named_found, named_again}
 use Rattle.dubp_replay.specs.declared.query.Query.TheVariants as query
 use Rattle.dubp_script.specs.declared.command.Command.{Command}
 use Rattle.dubp_script.specs.declared.command.Command.TheVariants.{Block, Ask}

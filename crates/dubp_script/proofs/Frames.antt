@@ -1,10 +1,10 @@
 -- Which lines head a frame, and how long they are.
-use Rattle.std.proofs.Common.{◌≡◌, ℕ, ◌+◌, ◌^◌, ◌<◌, ◌≤◌, List, ◌++◌, length, Option, Some, None, refl, sym, ap, ◌∙◌, arith, decimal, length-append}
+use Rattle.std.proofs.Common.{◌≡◌, ℕ, ◌^◌, ◌<◌, ◌≤◌, List, length, Option, Some, None, refl, sym, ap, ◌∙◌, arith, decimal, length-append}
 use Rattle.std.specs.Prelude.{codes, IfSome}
 use Rattle.std.proofs.lemmas.Fmt.{length-decimal-le}
 use Rattle.dubp_script.specs.declared.command.Command.{Command}
 use Rattle.dubp_script.specs.declared.command.Command.TheVariants.{Block, Ask}
-use Rattle.dubp_script.specs.Spelling.{IsCommand, command_text, Says}
+use Rattle.dubp_script.specs.Spelling.{command_text, Says}
 use Rattle.dubp_script.specs.Reading.{command_of, len_of, frame_len}
 use Rattle.dubp_script.proofs.Commands.{command_found, command_again}
 

@@ -1,5 +1,5 @@
 -- How the code reads a command. The laws that join it to the spelling stand in the contract of `read_command`.
-use Rattle.std.specs.Prelude.{ℕ, List, codes, Option, Some, None, Bool, nat_eq, if◌then◌else◌}
+use Rattle.std.specs.Prelude.{ℕ, List, codes, Option, Some, None, nat_eq, if◌then◌else◌}
 use Rattle.std.specs.Cmp.Lexicographic.{pointwise}
 use Rattle.dubp_atoms.specs.Reading.{◌>>=◌, number_of}
 use Rattle.dubp_lines.specs.Taking.{value_of}

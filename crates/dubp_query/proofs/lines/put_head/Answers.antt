@@ -1,4 +1,4 @@
-use Rattle.std.proofs.Common.{◌≡◌, ◌++◌, ap, ◌∙◌, decimal}
+use Rattle.std.proofs.Common.{◌++◌, ap, ◌∙◌, decimal}
 use Rattle.std.specs.Prelude.{codes}
 use Rattle.std.specs.Fmt.{signed_decimal}
 use Rattle.dubp_atoms.specs.Spelling.{stamp_text}

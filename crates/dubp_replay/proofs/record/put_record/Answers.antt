@@ -1,6 +1,3 @@
-use Rattle.std.proofs.Common.{rules, ◌≡◌, ◌++◌, ◌∷◌, codes, decimal, List, ℕ, ap, ◌∙◌, sym}
-use Rattle.dubp_cond.specs.Sources.{input_text}
-use Rattle.dubp_replay.specs.Records.{record_text}
 use Rattle.dubp_replay.proofs.record.put_record.Goals as goal
 
 pub returns-in-Active : goal.returns-in-Active

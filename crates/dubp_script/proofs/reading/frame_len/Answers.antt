@@ -1,4 +1,3 @@
-use Rattle.std.proofs.Common.{◌≡◌}
 use Rattle.dubp_script.proofs.Frames.{heads_some, bound_some, short_some, len_of_read}
 use Rattle.dubp_script.proofs.reading.frame_len.Goals as goal
 

@@ -1,4 +1,4 @@
-use Rattle.std.proofs.Common.{◌≡◌, ap, ◌∙◌}
+use Rattle.std.proofs.Common.{ap, ◌∙◌}
 use Rattle.dubp_script.specs.Reading.{command_of}
 use Rattle.dubp_script.proofs.Commands.{command_is_found, command_again}
 use Rattle.dubp_script.proofs.reading.read_command.Goals as goal
