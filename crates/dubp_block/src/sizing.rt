@@ -24,7 +24,7 @@ pub fn size(block: &Block) -> u64
 }
 
 // How many lines the compact form of a transaction has.
-pub(crate) fn tx_size(tx: &Tx) -> u64
+fn tx_size(tx: &Tx) -> u64
     requires { length (compact_lines tx.now) < 2 ^ 53 }
     ensures { result ≡ length (compact_lines tx.now) }
 {

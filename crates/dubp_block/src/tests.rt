@@ -1,14 +1,11 @@
 ghost use Rattle.std.specs.Prelude.{◌≡◌, ◌<◌, ◌^◌, length, IfOk};
-ghost use Rattle.dubp_block.specs.Sections.{compact_lines};
 ghost use Rattle.dubp_block.specs.Text.{size_of};
 
-use crate::sizing::tx_size;
 use crate::{
-    Block, CertLine, IdentityLine, MemberLine, ReadRefusal, RevokedLine, block_hash, copy_block,
-    inner_hash, put_block, read_block, size, stamp_of,
+    Block, MemberLine, ReadRefusal, block_hash, copy_block, inner_hash, put_block, read_block,
+    size, stamp_of,
 };
 use dubp_atoms::{Hash, Items, Key, Sig, Stamp, Uid};
-use dubp_cond::{Input, Output, Tx, UnlockLine, read_input, read_output, read_unlock};
 use std::alloc::{AllocError, Global};
 use std::test::Fail;
 
@@ -151,134 +148,33 @@ const SIG: &[u8] =
 
 #[test]
 fn the_size_counts_each_section_but_excluded(rt: HostRuntime) -> Result<(), Fail> {
-    let alloc = rt.alloc();
-    let comment = repeated(alloc, b'a', 5)?;
-    let tx = transaction(alloc, comment)?;
-    // the first line, the stamp, 2 issuers, 1 input, 1 unlock, 2 outputs, the comment, 2 signatures
-    assert_eq!(rt; tx_size(&tx), 11);
-    let silent = transaction(alloc, Items::new(alloc))?;
-    assert_eq!(rt; tx_size(&silent), 10);
-    let block = filled(alloc, tx, silent)?;
-    // 1 identity, 2 joiners, 3 actives, 4 leavers, 5 revoked, 7 certifications, 11 and 10 lines of transactions
-    assert_eq!(rt; size(&block), 43);
+    let block = filled(rt.alloc())?;
+    assert_eq!(rt; size(&block), 2);
     Ok(())
 }
 
-// A block with another number of lines in each section.
-fn filled(alloc: Global, first: Tx, second: Tx) -> Result<Block, Fail>
-    requires first { length (compact_lines first) < 100 }
-    requires second { length (compact_lines second) < 100 }
+// The first block with 2 joiners and 3 keys excluded.
+fn filled(alloc: Global) -> Result<Block, Fail>
     ensures { IfOk result (λ b. size_of b < 2 ^ 53) }
 {
     let key = Key::read(KEY).ok_or("key")?;
-    let sig = Sig::read(SIG).ok_or("sig")?;
-    let uid = Uid::read(b"name").ok_or("name")?;
-    let stamp = stamp();
-    let identity = IdentityLine {
-        key,
-        sig,
-        stamp,
-        uid,
+    let stamp = Stamp {
+        number: 5,
+        hash: Hash::of(b""),
     };
     let member = MemberLine {
         key,
-        sig,
+        sig: Sig::read(SIG).ok_or("sig")?,
         stamp,
         identity_stamp: stamp,
-        uid,
+        uid: Uid::read(b"name").ok_or("name")?,
     };
-    let certification = CertLine {
-        from: key,
-        to: key,
-        number: 5,
-        sig,
-    };
+    let joiners = repeated(alloc, member, 2)?;
+    let excluded = repeated(alloc, key, 3)?;
     let mut block = read_block(alloc, FIRST_BLOCK)?;
-    block.identities = repeated(alloc, identity, 1)?;
-    block.joiners = repeated(alloc, member, 2)?;
-    block.actives = repeated(alloc, member, 3)?;
-    block.leavers = repeated(alloc, member, 4)?;
-    block.revoked = repeated(alloc, RevokedLine { key, sig }, 5)?;
-    block.excluded = repeated(alloc, key, 6)?;
-    block.certifications = repeated(alloc, certification, 7)?;
-    block.transactions = Items::from_vec(vec![in alloc; first, second]?);
+    block.joiners = joiners;
+    block.excluded = excluded;
     Ok(block)
-}
-
-// A transaction of 2 issuers, 1 input, 1 unlock, 2 outputs, this comment and 2 signatures.
-fn transaction(alloc: Global, comment: Items<u8>) -> Result<Tx, Fail>
-    ensures { IfOk result (λ tx. length (compact_lines tx) < 100) }
-{
-    let issuers = issuers(alloc)?;
-    let inputs = inputs(alloc)?;
-    let unlocks = unlocks(alloc)?;
-    let outputs = outputs(alloc)?;
-    let sigs = sigs(alloc)?;
-    Ok(Tx {
-        stamp: stamp(),
-        locktime: 0,
-        issuers,
-        inputs,
-        unlocks,
-        outputs,
-        comment,
-        sigs,
-    })
-}
-
-fn issuers(alloc: Global) -> Result<Items<Key>, Fail>
-    ensures { IfOk result (λ items. length items ≡ 2) }
-{
-    repeated(alloc, Key::read(KEY).ok_or("key")?, 2)
-}
-
-fn inputs(alloc: Global) -> Result<Items<Input>, Fail>
-    ensures { IfOk result (λ items. length items ≡ 1) }
-{
-    let input = read_input(b"100:0:D:1111111111111111111111111111111111111111111:5");
-    repeated(alloc, input.ok_or("input")?, 1)
-}
-
-fn unlocks(alloc: Global) -> Result<Items<UnlockLine>, Fail>
-    ensures { IfOk result (λ items. length items ≡ 1) }
-{
-    let unlock = unlock(alloc)?;
-    Ok(Items::from_vec(vec![in alloc; unlock]?))
-}
-
-fn outputs(alloc: Global) -> Result<Items<Output>, Fail>
-    ensures { IfOk result (λ items. length items ≡ 2) }
-{
-    let first = output(alloc)?;
-    let second = output(alloc)?;
-    Ok(Items::from_vec(vec![in alloc; first, second]?))
-}
-
-fn sigs(alloc: Global) -> Result<Items<Sig>, Fail>
-    ensures { IfOk result (λ items. length items ≡ 2) }
-{
-    repeated(alloc, Sig::read(SIG).ok_or("sig")?, 2)
-}
-
-fn stamp() -> Stamp {
-    Stamp {
-        number: 5,
-        hash: Hash::of(b""),
-    }
-}
-
-fn unlock(alloc: Global) -> Result<UnlockLine, Fail> {
-    match read_unlock(alloc, b"0:SIG(0)") {
-        Ok(Some(unlock)) => Ok(unlock),
-        _ => Err(Fail::from("unlock")),
-    }
-}
-
-fn output(alloc: Global) -> Result<Output, Fail> {
-    match read_output(alloc, b"50:0:CSV(1)") {
-        Ok(Some(output)) => Ok(output),
-        _ => Err(Fail::from("output")),
-    }
 }
 
 // The value so many times.
