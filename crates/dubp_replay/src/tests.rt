@@ -1,3 +1,7 @@
+ghost use Rattle.std.specs.Prelude.{IfOk};
+ghost use Rattle.dubp_cond.specs.Sources.{IsInput};
+ghost use Rattle.dubp_replay.specs.Records.{IsRecord};
+
 use super::*;
 use arrayvec::ArrayVec;
 use dubp_atoms::{Key, Line, Stamp, Uid};
@@ -17,16 +21,20 @@ fn key_of(text: &[u8]) -> Result<Key, Fail> {
     }
 }
 
-fn input_of(text: &[u8]) -> Result<Input, Fail> {
+fn input_of(text: &[u8]) -> Result<Input, Fail>
+    ensures { IfOk result IsInput }
+{
     match read_input(text) {
         Some(input) => Ok(input),
         None => Err(Fail::from("no input")),
     }
 }
 
-fn is_written(record: &Record, text: &[u8]) -> Result<(), Fail> {
+fn is_written(item: &Record, text: &[u8]) -> Result<(), Fail>
+    requires { IsRecord item.now }
+{
     let mut line: Line = ArrayVec::new();
-    put_record(record, &mut line);
+    put_record(item, &mut line);
     if line.as_slice() != text {
         return Err(Fail::from("a record is written otherwise"));
     }
@@ -67,15 +75,21 @@ fn records_of_people_are_written_as_they_are_spelled(_rt: HostRuntime) -> Result
 
 #[test]
 fn records_of_sources_are_written_as_they_are_spelled(_rt: HostRuntime) -> Result<(), Fail> {
-    let input = input_of(b"1000:0:D:1111111111111111111111111111111111111111111:2")?;
-    let mut cond: CondText = ArrayVec::new();
-    let _ = cond.try_extend_from_slice(b"CSV(3600)");
+    let dividend = Record::Dividend {
+        input: input_of(b"1000:0:D:1111111111111111111111111111111111111111111:2")?,
+    };
     is_written(
-        &Record::Dividend { input },
+        &dividend,
         b"SIDX DIVIDEND 1000:0:D:1111111111111111111111111111111111111111111:2",
     )?;
+    let mut text: CondText = ArrayVec::new();
+    let _ = text.try_extend_from_slice(b"CSV(3600)");
+    let made = Record::Make {
+        input: input_of(b"9:1:D:1111111111111111111111111111111111111111112:3")?,
+        cond: text,
+    };
     is_written(
-        &Record::Make { input, cond },
-        b"SIDX MAKE 1000:0:D:1111111111111111111111111111111111111111111:2 CSV(3600)",
+        &made,
+        b"SIDX MAKE 9:1:D:1111111111111111111111111111111111111111112:3 CSV(3600)",
     )
 }
