@@ -9,6 +9,8 @@
 mod asking;
 mod bytes;
 mod lines;
+#[cfg(test)]
+mod tests;
 
 pub use asking::answer;
 pub use bytes::Answer;

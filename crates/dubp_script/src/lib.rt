@@ -11,6 +11,8 @@
 
 mod command;
 mod reading;
+#[cfg(test)]
+mod tests;
 
 pub use command::Command;
 pub use reading::{frame_len, read_command};
