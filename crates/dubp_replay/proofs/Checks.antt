@@ -149,7 +149,7 @@ begins (b ∷ path) k walk = walk.0
 begins_at_member : (k : Text) → ReachesFirst k → IsTrue (is_member k)
 begins_at_member k (path, short, walk) = list_any-from_Contains nat_list_eq_equiv k (members one_block) (begins path k walk)
 
-reached_by_two : IsReached one_block key0 2
+pub reached_by_two : IsReached one_block key0 2
 reached_by_two = (is_member, (λ k. (walk_from k, begins_at_member k)), refl)
 
 near_enough : Passes one_block key0
@@ -157,7 +157,7 @@ near_enough = record { reached = 2; counted = reached_by_two; near = omega arith
 
 -- ---- money
 
-abbrev condition_of : Text → Text
+abbrev pub condition_of : Text → Text
 condition_of key = codes "SIG(" ++ (key ++ codes ")")
 
 abbrev input_of : Source → Input
@@ -183,13 +183,13 @@ cleared_account : cleared_units (spent_chain 99 901) ≡ 99
 cleared_account = refl
 
 -- a transaction has its own hash, whatever that is
-abbrev spending_hash : Text
+abbrev pub spending_hash : Text
 spending_hash = tx_hash (codes "test_currency") (spending 99 901)
 
-hash_is_itself : same_text spending_hash spending_hash ≡ true
+pub hash_is_itself : same_text spending_hash spending_hash ≡ true
 hash_is_itself = nat_list_eq_equiv.refl spending_hash
 
-left_after_clearing : unspent_units (spent_chain 99 901) ≡ 2901
+pub left_after_clearing : unspent_units (spent_chain 99 901) ≡ 2901
 left_after_clearing = rw hash_is_itself
 
 balance_after_clearing : balance (spent_chain 99 901) (condition_of key3) ≡ 0

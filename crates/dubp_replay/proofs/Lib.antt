@@ -20,4 +20,9 @@ pub mod Reduced
 mod MoreVerdicts
 mod RulesRead
 mod Checks
+mod MoreSamples
 mod RuleChecks
+mod AnswerChecks
+mod RecordChecks
+mod TableChecks
+mod TurnChecks

@@ -1,16 +1,22 @@
 -- Which rules small blocks keep and break.
 use Rattle.std.specs.Prelude.{◌≡◌, ℕ, ◌==◌, List, [], ◌∷◌, codes, drop, count_by, Some, None, true, false}
 use Rattle.std.proofs.Common.{refl, subst, inl, inr, arith}
+use Rattle.dubp_cond.specs.Tree.{csv, no_items, add_item, no_alls, add_all}
 use Rattle.dubp_cond.specs.declared.source.SourceId.TheVariants.{D}
 use Rattle.dubp_cond.specs.declared.unlock.Unlock.TheVariants.{Sig}
 use Rattle.dubp_cond.specs.declared.unlock.UnlockLine.{UnlockLine}
 use Rattle.dubp_cond.specs.declared.tx.Tx.{Tx}
 use Rattle.dubp_block.specs.declared.block.Block.{Block}
 use Rattle.dubp_block.specs.declared.block.CertLine.{CertLine}
-use Rattle.dubp_rules.specs.declared.rule.Rule.TheVariants.{X01, P01, X02, X07, L02, L08, L09, L12, L14, L15, L16, L20, L21, L22, L23, G51, G49, G57, G58, G60, G79, G85, G86, G87, G90}
+use Rattle.dubp_rules.specs.declared.rule.Rule.TheVariants.{X01, P01, X02, X07, L02, L08, L09, L12, L14, L15, L16, L20, L21, L22, L23, G51, G49, G57, G58, G60, G71, G79, G85, G86, G87, G89, G90, G108}
 use Rattle.dubp_rules.specs.Table.{table_rules}
+use Rattle.dubp_replay.specs.Live.{live_at}
+use Rattle.dubp_replay.specs.Money.{Source}
+use Rattle.dubp_replay.specs.MoneyRules.{IsOpened}
 use Rattle.dubp_replay.specs.Rules.{Holds, FirstBroken}
-use Rattle.dubp_replay.specs.Samples.{key0, key1, key2, key3, identity_line, certifies, empty_block, paying_params, first_of_members, block0, block1, block2, one_block, two_blocks, three_blocks, dividend_input, output_to, spending, spending_block, revoking_chain, quiet_first}
+use Rattle.dubp_replay.specs.Samples.{key0, key1, key2, key3, identity_line, member_line, certifies, empty_block, paying_params, first_of_members, block0, block1, block2, one_block, two_blocks, three_blocks, dividend_input, output_to, spending, spending_block, revoking_chain, aged, quiet_first}
+use Rattle.dubp_replay.proofs.Checks.{hash_is_itself}
+use Rattle.dubp_replay.proofs.MoreSamples.{later_blocks, passing_on}
 
 -- a test that fails
 fails : ¬ (false ≡ true)
@@ -182,6 +188,35 @@ excludes_only_revoked = (refl, tt)
 excludes_another : ¬ Holds [] revoking_chain (excluding (key1 ∷ key2 ∷ [])) G85
 excludes_another h = fails h.0
 
+-- ---- version 11: who comes again waits for msWindow, from 1000 up to 2000
+
+-- block 3 with a certification that is made on block 2, and with a membership
+abbrev certifying_again : ℕ → Block
+certifying_again version = record (empty_block 3 key1 3000 2000) { version = version; certifications = certifies key0 key1 2 ∷ [] }
+
+abbrev staying : ℕ → Block
+staying version = record (empty_block 3 key1 3000 2000) { version = version; actives = member_line key0 (codes "user0") ∷ [] }
+
+-- the pair is still live
+certified_again : (live_at 2000 (aged paying_params 3000) key0 key1 ≡ true) × Holds [] (aged paying_params 3000) (certifying_again 11) G71
+certified_again = (refl, (λ is_live. record { version = refl; waited = omega arith; newer = omega arith }, tt))
+
+certified_too_soon : ¬ Holds [] (aged paying_params 2998) (certifying_again 11) G71
+certified_too_soon h = omega (arith, (h.0 refl).waited)
+
+certified_again_before : ¬ Holds [] (aged paying_params 3000) (certifying_again 10) G71
+certified_again_before h = omega (arith, (h.0 refl).version)
+
+renewed : Holds [] (aged paying_params 3000) (staying 11) G108
+renewed = inr (omega arith, tt)
+
+renewed_too_soon : ¬ Holds [] (aged paying_params 2998) (staying 11) G108
+renewed_too_soon (inl version) = omega (arith, version)
+renewed_too_soon (inr waited) = omega (arith, waited.0)
+
+renewed_before : Holds [] (aged paying_params 2998) (staying 10) G108
+renewed_before = inl refl
+
 -- ---- money
 
 source_there : Holds [] three_blocks (spending_block 99 901) G87
@@ -198,6 +233,40 @@ base_fits = ((omega arith, (omega arith, tt)), tt)
 
 base_too_great : ¬ Holds [] three_blocks (moving (record (spending 99 901) { outputs = record { amount = 100; base = 1; cond = (output_to key3 100).cond } ∷ [] })) G90
 base_too_great h = omega (arith, h.0.0)
+
+-- what a transaction makes is there for those behind it in the block
+abbrev moving_all : List Tx → Block
+moving_all txs = record (empty_block 3 key0 1200 1150) { transactions = txs }
+
+spends_output_before : Holds [] three_blocks (moving_all (spending 99 901 ∷ passing_on ∷ [])) G87
+spends_output_before = ((tt, tt), ((rw hash_is_itself tt, tt), tt))
+
+spends_output_behind : ¬ Holds [] three_blocks (moving_all (passing_on ∷ spending 99 901 ∷ [])) G87
+spends_output_behind h = h.0.0
+
+-- CSV(3600) is true 3600 seconds after the source was made
+abbrev delayed_source : Source
+delayed_source = record { id = D key0 2; amount = 1000; base = 0; cond = add_all (add_item (csv 3600) no_items) no_alls; time = 1150 }
+
+abbrev OpensAt : ℕ → Type 0
+OpensAt t = IsOpened t (spending 99 901) (delayed_source ∷ []) (0, dividend_input)
+
+opens_in_time : OpensAt 4750
+opens_in_time = inl (omega arith, tt)
+
+opens_too_soon : ¬ OpensAt 4749
+opens_too_soon (inl each) = omega (arith, each.0)
+opens_too_soon (inr none) = none
+
+-- the dividend was made at 1150, and the time is 1300
+abbrev locking : ℕ → Block
+locking locktime = moving (record (spending 99 901) { locktime = locktime })
+
+lock_has_ended : Holds [] later_blocks (locking 150) G89
+lock_has_ended = ((omega arith, tt), tt)
+
+locked_too_long : ¬ Holds [] later_blocks (locking 151) G89
+locked_too_long h = omega (arith, h.0.0)
 
 -- ---- first rules
 
