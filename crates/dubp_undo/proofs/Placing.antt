@@ -1,5 +1,5 @@
 -- A key that gets a new slot, with nothing in it: no map changes.
-use Rattle.std.proofs.Common.{◌≡◌, ℕ, suc, ◌+◌, ◌<◌, ◌≤◌, Bool, true, false, cond, List, [], ◌∷◌, ◌++◌, length, get_or, set, drop, Option, Some, None, IsSome, is_some, zero, refl, sym, ap, ◌∙◌, inl, inr, ◌⊎◌, arith}
+use Rattle.std.proofs.Common.{◌≡◌, ℕ, suc, ◌+◌, ◌<◌, ◌≤◌, Bool, true, false, cond, List, [], ◌∷◌, ◌++◌, length, get_or, set, drop, Option, Some, None, IsSome, is_some, zero, refl, sym, ap, subst, ◌∙◌, inl, inr, ◌⊎◌, arith}
 use Rattle.std.specs.declared.cmp.Ordering.{Ordering}
 use Rattle.std.specs.declared.cmp.Ordering.TheVariants.{Less, Equal, Greater}
 use Rattle.std.specs.Ordering.{match_ordering}
@@ -147,6 +147,10 @@ module _ {K : Type 0} {cmp : K → K → Ordering} (o : IsTotalOrder cmp) (k : K
     };
     slots = gets;
   }
+
+  -- the same, of a list that is equal to one with these facts
+  pub placed_row : (n : ℕ) (new mid : List (K × ℕ)) → n ≡ length rows → new ≡ insert_entry cmp rows k n → mid ≡ insert_entry cmp rows k n → ((q : K) → slot_of cmp mid q ≡ cond (is_at (cmp k) q) (Some n) (slot_of cmp rows q)) → IsStrictlySortedBy cmp (keys_of mid) → AddsRow cmp rows new k
+  placed_row n new mid len is mid_is gets ordered = adds_row new (is ∙ ap (insert_entry cmp rows k) len) (λ q. ap (λ r. slot_of cmp r q) (is ∙ sym mid_is) ∙ gets q ∙ ap (λ i. cond (is_at (cmp k) q) (Some i) (slot_of cmp rows q)) len) (subst (λ r. IsStrictlySortedBy cmp (keys_of r)) (mid_is ∙ sym is) ordered)
 
   stay_cases : (b : Bool) (x : Option ℕ) → IsSome x → IsSome (cond b (Some (length rows)) x)
   stay_cases true x some = refl

@@ -34,6 +34,12 @@ module _ {K : Type 0} where
     pub are_rows : AreRows cmp new
     pub slots : (q : K) → slot_of cmp new q ≡ cond (is_at (cmp k) q) (Some (length old)) (slot_of cmp old q)
 
+  -- k had no slot, and has now the slot i, behind all others
+  pub record AddsNewRow (cmp : K → K → Ordering) (old new : List (K × ℕ)) (k : K) (i : ℕ) : Type 0 where
+    pub absent : slot_of cmp old k ≡ None
+    pub is : i ≡ length old
+    pub adds : AddsRow cmp old new k
+
 module _ {K V : Type 0} where
   -- an entry in front of the others, where the slot has a value
   abbrev pub entry : K → Option V → List (K × V) → List (K × V)

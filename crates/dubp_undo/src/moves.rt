@@ -134,11 +134,16 @@ pub(crate) fn place<K: Ord + Copy, V: Copy>(
     ensures err_slots { OnErr result (slots.new.items ≡ slots.old.items) }
     ensures succeeds { IsSome (slot_of K.cmp rows.old k) → IsOk result }
 {
-    if let Some(slot) = rows.slot(k) {
-        return Ok(slot);
+    // full slots: the key is sought first, since a placed one needs no room
+    if slots.len() == slots.capacity() {
+        if let Some(slot) = rows.slot(k) {
+            return Ok(slot);
+        }
+        slots.reserve(1).map_err(|_| NoMemory)?;
     }
-    slots.reserve(1).map_err(|_| NoMemory)?;
     let slot = rows.place(k)?;
-    slots.push_reserved(None);
+    if slot == slots.len() {
+        slots.push_reserved(None);
+    }
     Ok(slot)
 }

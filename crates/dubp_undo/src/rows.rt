@@ -1,9 +1,10 @@
-ghost use Rattle.std.specs.Prelude.{◌≡◌, ◌<◌, ◌≤◌, [], length, Option, None, IfOk, IfSome, OnOk, OnErr, slice_get};
-ghost use Rattle.dubp_undo.specs.Rows.{AddsRow, slot_of, rows_from, live};
+ghost use Rattle.std.specs.Prelude.{◌≡◌, ◌<◌, ◌≤◌, [], length, Some, IfOk, IfSome, IsOk, IsSome, OnErr, slice_get};
+ghost use Rattle.dubp_undo.specs.Rows.{AddsNewRow, slot_of, rows_from, live};
 
 use dubp_atoms::NoMemory;
 use std::alloc::Global;
 use std::collections::BTreeMap;
+use std::collections::btree_map::Entry;
 use std::marker::Model;
 use std::ops::Bound;
 
@@ -44,16 +45,24 @@ impl<K: Ord + Copy> Rows<K> {
         self.slots.get(&k).copied()
     }
 
-    /// Gives a new key the next slot. `NoMemory` where there is no room for it, and then nothing has changed.
+    /// The slot of the key. A key that has none gets the next one; `NoMemory` where there is no room for it, and then nothing
+    /// has changed. The key is sought once.
     pub(crate) fn place(&mut self, k: K) -> Result<usize, NoMemory>
-        requires { slot_of K.cmp self.old k ≡ None }
-        ensures slot { IfOk result (λ i. i ≡ length self.old) }
-        ensures added { OnOk result (AddsRow K.cmp self.old self.new k) }
+        ensures slot { IfOk result (λ i. slot_of K.cmp self.new k ≡ Some i) }
+        ensures kept { IfOk result (λ i. i < length self.old → self.new ≡ self.old) }
+        ensures added { IfOk result (λ i. length self.old ≤ i → AddsNewRow K.cmp self.old self.new k i) }
         ensures err { OnErr result (self.new ≡ self.old) }
+        ensures succeeds { IsSome (slot_of K.cmp self.old k) → IsOk result }
     {
-        let slot = self.slots.len();
-        self.slots.insert(k, slot).map_err(|_| NoMemory)?;
-        Ok(slot)
+        let next = self.slots.len();
+        match self.slots.entry(k) {
+            Ok(Entry::Occupied(entry)) => Ok(*entry.get()),
+            Ok(Entry::Vacant(entry)) => {
+                entry.insert(next);
+                Ok(next)
+            }
+            Err(_) => Err(NoMemory),
+        }
     }
 
     /// The first key from a bound on whose slot has a value, with that value.

@@ -1,23 +1,40 @@
-use Rattle.std.proofs.Common.{◌≡◌, ◌∙◌, length, subst, ap, Some, cond}
+use Rattle.std.proofs.Common.{rules, ◌≡◌, length, Some, None, ap, subst, arith}
 use Rattle.std.specs.BTreeMap.{is_at, insert_entry}
-use Rattle.dubp_undo.specs.Rows.{AddsRow, slot_of}
-use Rattle.dubp_undo.proofs.Placing.{adds_row}
-use Rattle.dubp_undo.proofs.Results.{on_ok}
-use Rattle.dubp_undo.proofs.rows.Rows.place.Given.{Over}
+use Rattle.dubp_undo.specs.Rows.{AddsNewRow, slot_of}
+use Rattle.dubp_undo.proofs.Live.{slot_within}
+use Rattle.dubp_undo.proofs.Placing.{placed_row}
 use Rattle.dubp_undo.proofs.rows.Rows.place.Goals as goal
-use Rattle.dubp_undo.proofs.rows.Rows.place.Goals.{In_ok-map_err}
+use Rattle.dubp_undo.proofs.rows.Rows.place.Goals.{in-Ok-Occupied, in-Ok-Vacant, in-Err}
 
-added : (g : Over) (c : In_ok-map_err g) → AddsRow g.K.Ord.cmp c.self.inside.slots.entries c.insert.new.self.entries c.args.k
-added g c =
+pub invariant_of-self : goal.invariant_of-self
+invariant_of-self g c =
     let rows = c.self.inside.slots.entries in
-    let n : c.len-slot.result ≡ length rows = c.len-slot.ensures.len in
-    let is = on_ok c.insert.result c.map_err.ensures.variant c.in_ok-map_err.was c.insert.ensures.entries in
-    let gets = on_ok c.insert.result c.map_err.ensures.variant c.in_ok-map_err.was c.insert.ensures.updates in
-    let absent = ap (λ r. slot_of g.K.Ord.cmp r c.args.k) c.self.view_is ∙ c.requires in
-    adds_row g.met.K.Ord.total c.args.k rows c.self.invariant absent c.insert.new.self.entries (is ∙ ap (insert_entry g.K.Ord.cmp rows c.args.k) n) (λ q. gets.0 q ∙ ap (λ i. cond (is_at (g.K.Ord.cmp c.args.k) q) (Some i) (slot_of g.K.Ord.cmp rows q)) n) c.insert.ensures.ordered
-
-pub invariant_of-self-2 : goal.invariant_of-self-2
-invariant_of-self-2 g c = (added g c).are_rows
+    let new = c.match-entry.self-inside.slots.entries in
+    let n = c.len-next.result in
+    elim c.match-entry.branch [
+      | in-Ok-Occupied w ↦ (let same : new ≡ rows = search rules in rw same c.self.invariant)
+      | in-Ok-Vacant w ↦ (
+          let is : new ≡ insert_entry g.K.Ord.cmp rows c.args.k n = search rules in
+          let absent : slot_of g.K.Ord.cmp rows c.args.k ≡ None = rw w.in-Ok-Vacant.field-0-is at w.in-Ok-Vacant.ensures.found in
+          let u = w.in-Ok-Vacant.ensures.update in
+          (placed_row g.met.K.Ord.total c.args.k rows c.self.invariant absent n new _ c.len-next.ensures.len is (u.1 n) (u.0 n).0 (u.2 n)).are_rows)
+      | in-Err w ↦ (let same : new ≡ rows = search rules in rw same c.self.invariant)
+    ]
 
 pub returns-clause-added : goal.returns-clause-added
-returns-clause-added g c = subst (λ r. AddsRow g.K.Ord.cmp r c.insert.new.self.entries c.args.k) c.self.view_is (added g c)
+returns-clause-added g c =
+    let rows = c.self.inside.slots.entries in
+    let new = c.match-entry.self-inside.slots.entries in
+    let n = c.len-next.result in
+    elim c.match-entry.branch [
+      | in-Ok-Occupied w ↦ (
+          let found : slot_of g.K.Ord.cmp rows c.args.k ≡ Some w.get.result.now = search rules in
+          rw w.result-is (λ le. absurd (omega (arith, le, slot_within (is_at (g.K.Ord.cmp c.args.k)) (length rows) rows w.get.result.now c.self.invariant.within found, ap length c.self.view_is))))
+      | in-Ok-Vacant w ↦ (
+          let is : new ≡ insert_entry g.K.Ord.cmp rows c.args.k n = search rules in
+          let absent : slot_of g.K.Ord.cmp rows c.args.k ≡ None = search rules in
+          let u = w.in-Ok-Vacant.ensures.update in
+          let adds = placed_row g.met.K.Ord.total c.args.k rows c.self.invariant absent n new _ c.len-next.ensures.len is (u.1 n) (u.0 n).0 (u.2 n) in
+          rw w.result-is (λ le. subst (λ r. AddsNewRow g.K.Ord.cmp r new c.args.k n) c.self.view_is (record { absent = absent; is = c.len-next.ensures.len; adds = adds })))
+      | in-Err w ↦ rw w.result-is tt
+    ]
