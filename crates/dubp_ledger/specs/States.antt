@@ -1,4 +1,4 @@
--- What contracts see of a ledger, and what a call of `submit` says. Protocol: the ledger.
+-- What contracts see of a ledger, and what a call of `submit` says. Protocol: chains; rules.
 use Rattle.std.specs.Prelude.{◌≡◌, ◌∷◌, Some, None}
 use Rattle.dubp_atoms.specs.declared.stamp.Stamp.{Stamp}
 use Rattle.dubp_block.specs.declared.block.Block.{Block}

@@ -54,7 +54,7 @@ none_answer = answer_line (codes "NONE")
 
 -- the answer to HEAD
 abbrev pub head_answer : Option Head → List ℕ
-head_answer None = answer_line (codes "NONE")
+head_answer None = none_answer
 head_answer (Some h) = answer_line (head_text h)
 
 -- ---- what changes the state

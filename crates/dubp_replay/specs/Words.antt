@@ -1,4 +1,4 @@
--- Words on lists that the definitions share.
+-- Words on lists that the definitions share: the last that passes, whether a key is named, texts in order. Protocol: chains.
 use Rattle.std.specs.Prelude.{Bool, true, not, ◌&&◌, List, [], ◌∷◌, Option, Some, None, map, if◌then◌else◌}
 use Rattle.std.specs.List.{list_any}
 use Rattle.std.specs.Option.{option_or}

@@ -45,13 +45,14 @@ pub enum Record {
     Clear { input: Input },
 }
 
-/// Appends the text of a record, without LF. It takes no memory.
+/// Appends the text of a record, at most 1,200 bytes, without LF. It takes no memory.
 ///
 /// The record's values are in the ranges of their spellings, and the line has 1,500 free places.
 pub fn put_record(item: &Record, out: &mut Line)
     requires valid { IsRecord item.now }
     requires room { array_vec_len out.old + 1500 ≤ 2048 }
     ensures text { out.new.items ≡ out.old.items ++ record_text item.now }
+    ensures room { array_vec_len out.new ≤ array_vec_len out.old + 1200 }
 {
     match item {
         Record::Create { key, uid, stamp } => put_create(key, uid, stamp, out),
@@ -88,6 +89,7 @@ fn put_timed(name: &[u8], key: &Key, made: u64, out: &mut Line)
     requires short { length name.now ≤ 16 }
     requires room { array_vec_len out.old + 300 ≤ 2048 }
     ensures text { out.new.items ≡ out.old.items ++ (name.now ++ (key.now ++ 32 ∷ decimal made)) }
+    ensures room { array_vec_len out.new ≤ array_vec_len out.old + 110 }
 {
     put_keyed(name, key, out);
     put_bytes(out, b" ");
@@ -108,7 +110,8 @@ fn put_pair(name: &[u8], from: &Key, to: &Key, out: &mut Line)
 
 fn put_cert(from: &Key, to: &Key, made: u64, out: &mut Line)
     requires { array_vec_len out.old + 500 ≤ 2048 }
-    ensures { out.new.items ≡ out.old.items ++ (codes "CIDX CERT " ++ (from.now ++ 32 ∷ (to.now ++ 32 ∷ decimal made))) }
+    ensures text { out.new.items ≡ out.old.items ++ (codes "CIDX CERT " ++ (from.now ++ 32 ∷ (to.now ++ 32 ∷ decimal made))) }
+    ensures room { array_vec_len out.new ≤ array_vec_len out.old + 170 }
 {
     put_pair(b"CIDX CERT ", from, to, out);
     put_bytes(out, b" ");
@@ -117,7 +120,8 @@ fn put_cert(from: &Key, to: &Key, made: u64, out: &mut Line)
 
 fn put_create(key: &Key, uid: &Uid, stamp: &Stamp, out: &mut Line)
     requires { array_vec_len out.old + 700 ≤ 2048 }
-    ensures { out.new.items ≡ out.old.items ++ (codes "IIDX CREATE " ++ (key.now ++ 32 ∷ (uid.now ++ 32 ∷ stamp_text stamp.now))) }
+    ensures text { out.new.items ≡ out.old.items ++ (codes "IIDX CREATE " ++ (key.now ++ 32 ∷ (uid.now ++ 32 ∷ stamp_text stamp.now))) }
+    ensures room { array_vec_len out.new ≤ array_vec_len out.old + 280 }
 {
     put_keyed(b"IIDX CREATE ", key, out);
     put_bytes(out, b" ");
@@ -143,6 +147,7 @@ fn put_make(input: &Input, cond: &CondText, out: &mut Line)
     requires short { length cond.now.items ≤ 1000 }
     requires room { array_vec_len out.old + 1500 ≤ 2048 }
     ensures text { out.new.items ≡ out.old.items ++ (codes "SIDX MAKE " ++ (input_text input.now ++ 32 ∷ cond.now.items)) }
+    ensures room { array_vec_len out.new ≤ array_vec_len out.old + 1200 }
 {
     put_moved(b"SIDX MAKE ", input, out);
     put_bytes(out, b" ");
