@@ -5,3 +5,4 @@ pub mod Stamps
 pub mod Digests
 pub mod Signed
 pub mod Decs
+pub mod Adding

@@ -1,6 +1,16 @@
--- Which texts are keys, hashes, signatures and names. Protocol: spellings.
+-- The bytes that part texts, and which texts are keys, hashes, signatures and names. Protocol: spellings.
 use Rattle.std.specs.Prelude.{ℕ, Bool, ◌&&◌, ◌||◌, ◌==◌, List, length, take, slice_index, nat_le}
 use Rattle.std.specs.List.{list_all}
+
+-- the byte behind a line, the byte between the fields of a line, and the byte between words
+abbrev pub LF : ℕ
+LF = 10
+
+abbrev pub COLON : ℕ
+COLON = 58
+
+abbrev pub SPACE : ℕ
+SPACE = 32
 
 abbrev pub is_between : ℕ → ℕ → ℕ → Bool
 is_between low high c = nat_le low c && nat_le c high

@@ -5,3 +5,4 @@ pub mod Reading
 pub mod Spelling
 pub mod Same
 pub mod Walks
+pub mod Adding

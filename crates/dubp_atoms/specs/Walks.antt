@@ -1,6 +1,6 @@
 -- Walks of certifications among members: from whom a key is reached, and who is a sentry. A web is a list of members and a list
 -- of pairs (who certifies, who is certified); a pair that stands in the list twice counts once. Protocol: distance.
-use Rattle.std.specs.Prelude.{◌≡◌, ℕ, ◌+◌, ◌*◌, ◌^◌, ◌≤◌, ◌<◌, ◌↔◌, Bool, IsTrue, ◌&&◌, not, List, [], ◌∷◌, length, filter, map, count_by, nat_le, find, unwrap_or}
+use Rattle.std.specs.Prelude.{◌≡◌, ℕ, ◌+◌, ◌^◌, ◌≤◌, ◌↔◌, Bool, IsTrue, ◌&&◌, not, List, [], ◌∷◌, length, filter, map, count_by, nat_le, find, unwrap_or}
 use Rattle.std.specs.List.{Contains, range_with_len}
 use Rattle.std.specs.Set.{distinct_count}
 use Rattle.dubp_atoms.specs.Same.{Text, same_text}
@@ -22,8 +22,8 @@ IsCountOf {X} P xs n = (test : X → Bool) × ((x : X) → IsTrue (test x) ↔ P
 abbrev pub received_of : List (Text × Text) → Text → ℕ
 received_of pairs k = distinct_count same_text (map (λ p. p.0) (filter (λ p. same_text k p.1) pairs))
 
-abbrev pub issued_of : List (Text × Text) → Text → ℕ
-issued_of pairs k = distinct_count same_text (map (λ p. p.1) (filter (λ p. same_text k p.0) pairs))
+abbrev pub stock_of : List (Text × Text) → Text → ℕ
+stock_of pairs k = distinct_count same_text (map (λ p. p.1) (filter (λ p. same_text k p.0) pairs))
 
 -- the least d with d ^ steps ≥ members: what a sentry of so many members has issued and received
 abbrev pub d_sen_of : ℕ → ℕ → ℕ
@@ -31,7 +31,7 @@ d_sen_of members steps = unwrap_or (find (λ d. nat_le members (d ^ steps)) (ran
 
 -- at least d certifications issued and at least d received
 abbrev pub has_issued_and_received : List (Text × Text) → ℕ → Text → Bool
-has_issued_and_received pairs d k = nat_le d (issued_of pairs k) && nat_le d (received_of pairs k)
+has_issued_and_received pairs d k = nat_le d (stock_of pairs k) && nat_le d (received_of pairs k)
 
 -- the members who are sentries
 abbrev pub sentries_of : List Text → List (Text × Text) → ℕ → List Text

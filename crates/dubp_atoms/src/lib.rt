@@ -16,6 +16,7 @@ mod currency;
 mod cutting;
 mod dec;
 mod hash;
+mod hashing;
 mod items;
 mod key;
 pub mod laws;
@@ -29,12 +30,14 @@ mod steps;
 #[cfg(test)]
 mod tests;
 mod text;
+mod text_sink;
 mod uid;
 
 pub use currency::Currency;
 pub use cutting::cut;
 pub use dec::Dec;
 pub use hash::Hash;
+pub use hashing::Hashing;
 pub use items::Items;
 pub use key::Key;
 pub use line::{Line, put_bytes};
@@ -44,4 +47,5 @@ pub use number::{put_number, put_signed, read_number, read_signed};
 pub use sig::Sig;
 pub use stamp::Stamp;
 pub use steps::Steps;
+pub use text_sink::TextSink;
 pub use uid::Uid;

@@ -1,6 +1,6 @@
 use crate::{
-    Currency, Dec, Hash, Items, Key, Line, Sig, Stamp, Uid, put_number, put_signed, read_number,
-    read_signed,
+    Currency, Dec, Hash, Hashing, Items, Key, Line, Sig, Stamp, TextSink, Uid, put_number,
+    put_signed, read_number, read_signed,
 };
 use arrayvec::ArrayVec;
 use std::test::Fail;
@@ -104,6 +104,20 @@ fn hashes(rt: HostRuntime) {
         Hash::read(b"e3b0c44298fc1c149afbf4c8996fb92427ae41e4649b934ca495991b7852b855").is_none()
     );
     assert!(rt; Hash::read(&EMPTY_HASH[..63]).is_none());
+}
+
+#[test]
+fn a_text_is_hashed_in_pieces(rt: HostRuntime) {
+    let mut hashing = Hashing::new();
+    let Ok(()) = hashing.put(b"a");
+    let mut copied = hashing.copy();
+    let Ok(()) = hashing.put(b"bc");
+    let Ok(()) = copied.put(b"");
+    assert_eq!(rt;
+        hashing.hash().as_bytes(),
+        b"BA7816BF8F01CFEA414140DE5DAE2223B00361A396177A9CB410FF61F20015AD".as_slice()
+    );
+    assert_eq!(rt; copied.hash(), Hash::of(b"a"));
 }
 
 #[test]

@@ -3,7 +3,7 @@ use Rattle.std.specs.Prelude.{ℕ, ◌+◌, Bool, false, ◌&&◌, ◌||◌, Lis
 use Rattle.std.specs.Option.{option_map_or}
 use Rattle.std.specs.List.{flat_map}
 use Rattle.dubp_atoms.specs.Same.{Text, same_text}
-use Rattle.dubp_atoms.specs.Walks.{received_of, issued_of}
+use Rattle.dubp_atoms.specs.Walks.{received_of, stock_of}
 use Rattle.dubp_block.specs.declared.block.CertLine.{CertLine}
 use Rattle.dubp_replay.specs.Chains.{Chain, params}
 use Rattle.dubp_replay.specs.Members.{members}
@@ -50,7 +50,7 @@ abbrev pub received : Chain → Text → ℕ
 received c k = received_of (live_pairs c) k
 
 abbrev pub stock : Chain → Text → ℕ
-stock c k = issued_of (live_pairs c) k
+stock c k = stock_of (live_pairs c) k
 
 -- a member who is revoked or expired, or has received less than sigQty
 abbrev pub is_kicked : Chain → Text → Bool
