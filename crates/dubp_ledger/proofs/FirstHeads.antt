@@ -7,10 +7,10 @@ use Rattle.dubp_atoms.specs.Same.{Text}
 use Rattle.dubp_block.specs.declared.block.Block.{Block}
 use Rattle.dubp_block.specs.Text.{IsBuilt, block_hash_of, size_of}
 use Rattle.dubp_params.specs.declared.params.Params.{Params}
-use Rattle.dubp_replay.specs.declared.head.Head.{Head}
-use Rattle.dubp_replay.specs.Chains.{Chain, no_params}
-use Rattle.dubp_replay.specs.Members.{members}
-use Rattle.dubp_replay.specs.Heads.{head_of, first_head}
+use Rattle.dubp_chain.specs.declared.head.Head.{Head}
+use Rattle.dubp_chain.specs.Chains.{Chain, no_params}
+use Rattle.dubp_chain.specs.Members.{members}
+use Rattle.dubp_chain.specs.Heads.{head_of, first_head}
 use Rattle.dubp_replay.specs.BuiltRules.{FirstRead, IsAccepted}
 
 -- nobody joins

@@ -3,7 +3,7 @@ use Rattle.std.specs.Prelude.{◌≡◌, ◌∷◌, Some, None}
 use Rattle.dubp_atoms.specs.declared.stamp.Stamp.{Stamp}
 use Rattle.dubp_block.specs.declared.block.Block.{Block}
 use Rattle.dubp_block.specs.Text.{stamp_of}
-use Rattle.dubp_replay.specs.Chains.{Chain}
+use Rattle.dubp_chain.specs.Chains.{Chain}
 use Rattle.dubp_replay.specs.BuiltRules.{FirstRead}
 use Rattle.dubp_ledger.specs.declared.refusal.SubmitRefusal.{SubmitRefusal}
 use Rattle.dubp_ledger.specs.declared.refusal.SubmitRefusal.TheVariants.{Refused, NoMemory}

@@ -1,7 +1,7 @@
 ghost use Rattle.std.specs.Prelude.{◌≡◌, ◌↔◌, ◌∷◌, [], IsTrue, IfOk};
 ghost use Rattle.dubp_block.specs.Text.{IsBuilt};
-ghost use Rattle.dubp_replay.specs.Heads.{head_of};
-ghost use Rattle.dubp_replay.specs.LocalRules.{InnerHashIsRight};
+ghost use Rattle.dubp_chain.specs.Heads.{head_of};
+ghost use Rattle.dubp_validity.specs.LocalRules.{InnerHashIsRight};
 
 use dubp_atoms::NoMemory;
 use dubp_block::{Block, inner_hash, stamp_of};

@@ -1,10 +1,10 @@
 ghost use Rattle.std.specs.Prelude.{◌≡◌, ◌∷◌, [], IfOk, IfErr, MatchOption, Some, None, IsTrue, ◌↔◌};
 ghost use Rattle.dubp_block.specs.Text.{IsBuilt};
 ghost use Rattle.dubp_replay.specs.BuiltRules.{FirstRead, read_rules};
-ghost use Rattle.dubp_replay.specs.Chains.{block_of_number};
-ghost use Rattle.dubp_replay.specs.HeadRules.{NumberIsNext};
-ghost use Rattle.dubp_replay.specs.Heads.{head_of};
-ghost use Rattle.dubp_replay.specs.Rules.{Holds};
+ghost use Rattle.dubp_chain.specs.Chains.{block_of_number};
+ghost use Rattle.dubp_validity.specs.HeadRules.{NumberIsNext};
+ghost use Rattle.dubp_chain.specs.Heads.{head_of};
+ghost use Rattle.dubp_validity.specs.Rules.{Holds};
 ghost use Rattle.dubp_rules.specs.First.{FirstOf};
 ghost use Rattle.dubp_ledger.specs.States.{Accepted, HandedBack};
 
@@ -33,7 +33,7 @@ pub struct Ledger {
 impl Model for Ledger {
     ghost use Rattle.std.specs.Prelude.{◌≡◌, reverse};
     ghost use Rattle.dubp_replay.specs.BuiltRules.{IsAccepted};
-    ghost use Rattle.dubp_replay.specs.Heads.{head_of};
+    ghost use Rattle.dubp_chain.specs.Heads.{head_of};
     ghost use Rattle.dubp_rules.specs.First.{FirstOf};
     ghost use Rattle.dubp_ledger.specs.States.{LedgerState};
 

@@ -7,7 +7,7 @@ use Rattle.dubp_ledger.specs.States.{LedgerState, Accepted, HandedBack}
 use Rattle.dubp_ledger.specs.declared.refusal.SubmitRefusal.{SubmitRefusal}
 use Rattle.dubp_ledger.specs.declared.refusal.SubmitRefusal.TheVariants as refusal
 use Rattle.dubp_replay.specs.Answers.{accepted_answer}
-use Rattle.dubp_replay.specs.Turns.{State, accepted, most_kept}
+use Rattle.dubp_replay.specs.Turns.{accepted, most_kept}
 use Rattle.dubp_node.specs.NodeStates.{node_state}
 use Rattle.dubp_node.specs.Deciding.{Decided, outcome_text}
 

@@ -1,8 +1,8 @@
 -- What a query is answered. Protocol: commands and answers.
 use Rattle.std.specs.Prelude.{◌≡◌, IsOkAnd, Result}
 use Rattle.dubp_atoms.specs.declared.no_memory.NoMemory.{NoMemory}
-use Rattle.dubp_replay.specs.Chains.{Chain}
-use Rattle.dubp_replay.specs.Heads.{head_of}
+use Rattle.dubp_chain.specs.Chains.{Chain}
+use Rattle.dubp_chain.specs.Heads.{head_of}
 use Rattle.dubp_replay.specs.Answers.{head_answer, bad_answer}
 use Rattle.dubp_replay.specs.declared.query.Query.{Query}
 use Rattle.dubp_replay.specs.declared.query.Query.TheVariants.{Head}

@@ -3,8 +3,8 @@ ghost use Rattle.std.specs.Fmt.{signed_decimal};
 ghost use Rattle.arrayvec.specs.ArrayVec.{array_vec_len};
 ghost use Rattle.dubp_atoms.specs.Spelling.{stamp_text};
 ghost use Rattle.dubp_replay.specs.Answers.{bad_answer, head_answer, head_text, spaced};
-ghost use Rattle.dubp_replay.specs.Heads.{head_of};
-ghost use Rattle.dubp_replay.specs.HeadStamp.{head_stamp};
+ghost use Rattle.dubp_chain.specs.Heads.{head_of};
+ghost use Rattle.dubp_chain.specs.HeadStamp.{head_stamp};
 
 use arrayvec::ArrayVec;
 use dubp_atoms::{Line, Stamp, put_bytes, put_number, put_signed};

@@ -5,8 +5,8 @@ use Rattle.std.specs.Option.{MatchOption, option_map_or}
 use Rattle.std.specs.Fmt.{decimal, signed_decimal}
 use Rattle.dubp_atoms.specs.Spelling.{stamp_text}
 use Rattle.dubp_atoms.specs.declared.stamp.Stamp.{Stamp}
-use Rattle.dubp_replay.specs.HeadStamp.{head_stamp}
-use Rattle.dubp_replay.specs.declared.head.Head.{Head}
+use Rattle.dubp_chain.specs.HeadStamp.{head_stamp}
+use Rattle.dubp_chain.specs.declared.head.Head.{Head}
 use Rattle.dubp_atoms.specs.Same.{Text, same_text}
 use Rattle.dubp_cond.specs.Sources.{input_text}
 use Rattle.dubp_block.specs.declared.block.Block.{Block}
@@ -15,16 +15,16 @@ use Rattle.dubp_block.specs.declared.block.CertLine.{CertLine}
 use Rattle.dubp_block.specs.Text.{block_text}
 use Rattle.dubp_replay.specs.declared.query.Query.{Query}
 use Rattle.dubp_replay.specs.declared.query.Query.TheVariants as query
-use Rattle.dubp_replay.specs.declared.record.Record.{Record}
-use Rattle.dubp_replay.specs.Words.{in_order}
-use Rattle.dubp_replay.specs.Chains.{Chain, block_of_number}
-use Rattle.dubp_replay.specs.Members.{member}
-use Rattle.dubp_replay.specs.Heads.{head_of, issued, difficulty}
-use Rattle.dubp_replay.specs.People.{Written, identity, identity_lines, expiry, leaving, revoked}
-use Rattle.dubp_replay.specs.Live.{certification, made_of, end_of, received, stock, live_pairs}
-use Rattle.dubp_replay.specs.Distance.{IsReached, IsNear, sentry_count}
-use Rattle.dubp_replay.specs.Money.{Source, unspent_units, cleared_units, balance, sources_of}
-use Rattle.dubp_replay.specs.Records.{records_at, record_text, input_of}
+use Rattle.dubp_validity.specs.declared.record.Record.{Record}
+use Rattle.dubp_chain.specs.Words.{in_order}
+use Rattle.dubp_chain.specs.Chains.{Chain, block_of_number}
+use Rattle.dubp_chain.specs.Members.{member}
+use Rattle.dubp_chain.specs.Heads.{head_of, issued, difficulty}
+use Rattle.dubp_chain.specs.People.{Written, identity, identity_lines, expiry, leaving, revoked}
+use Rattle.dubp_chain.specs.Live.{certification, made_of, end_of, received, stock, live_pairs}
+use Rattle.dubp_chain.specs.Distance.{IsReached, IsNear, sentry_count}
+use Rattle.dubp_chain.specs.Money.{Source, unspent_units, cleared_units, balance, sources_of}
+use Rattle.dubp_validity.specs.Records.{records_at, record_text, input_of}
 
 -- a line of an answer
 abbrev pub answer_line : List ℕ → List ℕ

@@ -6,8 +6,8 @@ use Rattle.dubp_rules.specs.declared.rule.Rule.{Rule}
 use Rattle.dubp_rules.specs.declared.rule.Rule.TheVariants.{L01, G51}
 use Rattle.dubp_rules.specs.Table.{table_rules}
 use Rattle.dubp_rules.specs.First.{IsFirst}
-use Rattle.dubp_replay.specs.Chains.{Chain}
-use Rattle.dubp_replay.specs.Rules.{Holds}
+use Rattle.dubp_chain.specs.Chains.{Chain}
+use Rattle.dubp_validity.specs.Rules.{Holds}
 
 -- the rules of blocks that are read so far, none of which reads a verdict
 abbrev pub is_read : Rule → Bool

@@ -1,5 +1,5 @@
 -- What each command answers and how it changes the state, and runs of commands. Protocol: commands and answers.
-use Rattle.std.specs.Prelude.{◌≡◌, ◌⊎◌, ℕ, ◌+◌, ◌-◌, min, Bool, not, List, [], ◌∷◌, ◌++◌, length, filter, find, take, drop, reverse, position, Option, Some, None, option_map, is_some, nat_le, nat_lt, ⊤, MatchBool}
+use Rattle.std.specs.Prelude.{◌≡◌, ◌⊎◌, ◌≤◌, ℕ, ◌+◌, ◌-◌, min, Bool, not, List, [], ◌∷◌, ◌++◌, length, filter, find, take, drop, reverse, position, Option, Some, None, option_map, is_some, nat_le, nat_lt, ⊤, MatchBool}
 use Rattle.std.specs.Option.{MatchOption}
 use Rattle.std.specs.List.{list_any}
 use Rattle.dubp_atoms.specs.Same.{same_stamp}
@@ -10,11 +10,13 @@ use Rattle.dubp_rules.specs.declared.rule.Rule.{Rule}
 use Rattle.dubp_rules.specs.declared.rule.Rule.TheVariants.{P01, G51}
 use Rattle.dubp_rules.specs.Table.{table_rules, code_text, place_of}
 use Rattle.dubp_rules.specs.First.{IsFirst}
+use Rattle.dubp_replay.specs.declared.command.Command.{Command}
+use Rattle.dubp_replay.specs.declared.command.Command.TheVariants as command
 use Rattle.dubp_replay.specs.declared.query.Query.{Query}
 use Rattle.dubp_replay.specs.declared.query.Query.TheVariants as query
-use Rattle.dubp_replay.specs.Chains.{Chain}
-use Rattle.dubp_replay.specs.Verdicts.{Verdict, Verdicts, with_verdict}
-use Rattle.dubp_replay.specs.Rules.{FirstBroken, FirstBrokenRaw, HoldsRaw, IsTextOf}
+use Rattle.dubp_chain.specs.Chains.{Chain}
+use Rattle.dubp_validity.specs.Verdicts.{Verdicts, with_verdict}
+use Rattle.dubp_validity.specs.Rules.{FirstBroken, FirstBrokenRaw, HoldsRaw, IsTextOf, longest_block}
 use Rattle.dubp_replay.specs.RefusedLines.{IsRefusedLine}
 use Rattle.dubp_replay.specs.Answers.{noted_answer, accepted_answer, refused_answer, unread_answer, reverted_answer, too_deep_answer, stored_answer, known_answer, full_answer, switched_answer, unknown_answer, detached_answer, branch_refused_answer, forgotten_answer, bad_answer, no_memory_answer, IsAnswered}
 
@@ -35,17 +37,6 @@ most_kept = 100
 
 abbrev pub most_stored : ℕ
 most_stored = 1024
-
--- a command, with the raw bytes of its frame where it has one
-pub data Order : Type 0 where
-  Note : Verdict → Order
-  Submit : List ℕ → Order
-  Revert : ℕ → Order
-  Offer : List ℕ → Order
-  Switch : Stamp → Order
-  Forget : Stamp → Order
-  Ask : Query → Order
-  Unread : Order
 
 -- the answer, where nothing changes
 abbrev pub Only : List ℕ → State → List ℕ → State → Type 0
@@ -200,16 +191,23 @@ ForgetTurn old stamp answer new =
 
 -- ---- turns and runs
 
--- from this state the command may be answered so, and leads there
-abbrev pub Turn : State → Order → List ℕ → State → Type 0
-Turn old (Note verdict) answer new = (answer ≡ noted_answer) × (new ≡ record old { verdicts = with_verdict verdict old.verdicts })
-Turn old (Submit bytes) answer new = BlockTurn old bytes answer new
-Turn old (Revert count) answer new = RevertTurn old count answer new
-Turn old (Offer bytes) answer new = OfferTurn old bytes answer new
-Turn old (Switch stamp) answer new = SwitchTurn old stamp answer new
-Turn old (Forget stamp) answer new = ForgetTurn old stamp answer new
-Turn old (Ask q) answer new = IsAnswered old.chain q answer × (new ≡ old)
-Turn old Unread answer new = Only bad_answer old answer new
+-- how many raw bytes follow the line of a command that heads a frame
+abbrev pub frame_of : Command → Option ℕ
+frame_of (command.Block len) = Some len
+frame_of (command.Offer len) = Some len
+frame_of other = None
+
+-- from this state the command, with these raw bytes of its frame, may be answered so, and leads there
+abbrev pub Turn : State → Command → List ℕ → List ℕ → State → Type 0
+Turn old (command.Verdict key hash sig) frame answer new =
+    (answer ≡ noted_answer)
+    × (new ≡ record old { verdicts = with_verdict (record { key = key; hash = hash; sig = sig }) old.verdicts })
+Turn old (command.Block len) frame answer new = BlockTurn old frame answer new
+Turn old (command.Revert count) frame answer new = RevertTurn old count answer new
+Turn old (command.Offer len) frame answer new = OfferTurn old frame answer new
+Turn old (command.Switch stamp) frame answer new = SwitchTurn old stamp answer new
+Turn old (command.Forget stamp) frame answer new = ForgetTurn old stamp answer new
+Turn old (command.Ask q) frame answer new = IsAnswered old.chain q answer × (new ≡ old)
 
 -- the queries that take memory
 abbrev pub AskingTakesMemory : Query → Type 0
@@ -220,28 +218,33 @@ AskingTakesMemory (query.Uid uid) = ⊥
 AskingTakesMemory (query.Balance cond) = ⊥
 AskingTakesMemory q = ⊤
 
--- the commands that take memory, and may be answered NOMEM
-abbrev pub TakesMemory : Order → Type 0
-TakesMemory (Note verdict) = ⊤
-TakesMemory (Submit bytes) = ⊤
-TakesMemory (Revert count) = ⊥
-TakesMemory (Offer bytes) = ⊤
-TakesMemory (Switch stamp) = ⊤
-TakesMemory (Forget stamp) = ⊥
-TakesMemory (Ask q) = AskingTakesMemory q
-TakesMemory Unread = ⊥
+-- The commands that take memory, and may be answered NOMEM. A frame that is longer than frames are read takes none.
+abbrev pub TakesMemory : Command → Type 0
+TakesMemory (command.Verdict key hash sig) = ⊤
+TakesMemory (command.Block len) = len ≤ longest_block
+TakesMemory (command.Revert count) = ⊥
+TakesMemory (command.Offer len) = len ≤ longest_block
+TakesMemory (command.Switch stamp) = ⊤
+TakesMemory (command.Forget stamp) = ⊥
+TakesMemory (command.Ask q) = AskingTakesMemory q
 
 -- the turn of the command, or NOMEM, which changes nothing
-abbrev pub TurnOrLack : State → Order → List ℕ → State → Type 0
-TurnOrLack old order answer new = Turn old order answer new ⊎ (TakesMemory order × Only no_memory_answer old answer new)
+abbrev pub TurnOrLack : State → Command → List ℕ → List ℕ → State → Type 0
+TurnOrLack old command frame answer new =
+    Turn old command frame answer new ⊎ (TakesMemory command × Only no_memory_answer old answer new)
 
--- these commands may be answered so, one after another, and lead there
-abbrev pub Runs : State → List Order → List (List ℕ) → State → Type 0
-Runs state [] [] new = new ≡ state
-Runs state (order ∷ orders) (answer ∷ answers) new = (middle : State) × TurnOrLack state order answer middle × Runs middle orders answers new
-Runs state [] (answer ∷ answers) new = ⊥
-Runs state (order ∷ orders) [] new = ⊥
+-- what stands in the input: a command with the raw bytes of its frame, or None, where it is no command
+abbrev pub Asked : Type 0
+Asked = Option (Command × List ℕ)
 
--- the same from the start: this is what a session comes to
-abbrev pub Session : List Order → List (List ℕ) → State → Type 0
-Session orders answers new = Runs start orders answers new
+-- what is no command is answered BAD, and changes nothing
+abbrev pub IsServed : State → Asked → List ℕ → State → Type 0
+IsServed old None answer new = Only bad_answer old answer new
+IsServed old (Some (command, frame)) answer new = TurnOrLack old command frame answer new
+
+-- One after another: each may be answered so from the state that the one before left.
+abbrev pub Runs : {X : Type 0} → (State → X → List ℕ → State → Type 0) → State → List X → List (List ℕ) → State → Type 0
+Runs Serves state [] [] new = new ≡ state
+Runs Serves state (x ∷ xs) (answer ∷ answers) new = (middle : State) × Serves state x answer middle × Runs Serves middle xs answers new
+Runs Serves state [] (answer ∷ answers) new = ⊥
+Runs Serves state (x ∷ xs) [] new = ⊥

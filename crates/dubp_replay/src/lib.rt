@@ -1,22 +1,19 @@
-//! Definitions on chains: what all answers of the node are said in.
+//! What the node answers, as definitions: the text of each answer, and what each command changes.
 //!
-//! A chain is a list of blocks, newest first. `specs/` has its heads (`Heads`), its people and its money, the rules that a
-//! block keeps on it (`Rules`), what a block writes to the indexes (`Records`), the texts of answers (`Answers`) and what each command
-//! answers and changes (`Turns`). What is proved of all chains is in `laws`.
+//! `specs/Answers` has the texts, `Turns` what each command answers and how it changes the state, and runs of commands. They are said
+//! in the values of a chain (`dubp_chain`) and its rules and records (`dubp_validity`), whose types are given again here; what is proved of all
+//! chains is in `laws`.
 //!
 //! ```text
-//! let mut line: Line = ArrayVec::new();
-//! put_record(&Record::Join { key, made }, &mut line);
+//! let query = Query::Identity { key };
 //! ```
 #![tactic(auto)]
 
-mod head;
-pub mod laws;
+mod command;
 mod query;
-mod record;
-#[cfg(test)]
-mod tests;
 
-pub use head::Head;
+pub use command::Command;
+pub use dubp_chain::Head;
+pub use dubp_laws as laws;
+pub use dubp_validity::{Record, put_record};
 pub use query::Query;
-pub use record::{Record, put_record};

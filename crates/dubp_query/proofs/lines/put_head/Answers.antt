@@ -3,7 +3,7 @@ use Rattle.std.specs.Prelude.{codes}
 use Rattle.std.specs.Fmt.{signed_decimal}
 use Rattle.dubp_atoms.specs.Spelling.{stamp_text}
 use Rattle.dubp_replay.specs.Answers.{spaced}
-use Rattle.dubp_replay.specs.HeadStamp.{head_stamp}
+use Rattle.dubp_chain.specs.HeadStamp.{head_stamp}
 use Rattle.dubp_query.proofs.Heads.{eleven}
 use Rattle.dubp_query.proofs.lines.put_head.Goals as goal
 

@@ -1,0 +1,11 @@
+pub mod Words
+pub mod Chains
+pub mod Members
+pub mod HeadStamp
+pub mod Heads
+pub mod Made
+pub mod People
+pub mod Live
+pub mod Distance
+pub mod Money
+pub mod Tables

@@ -1,6 +1,0 @@
--- A valid chain stays valid with more verdicts.
-use Rattle.dubp_replay.proofs.MoreVerdicts.{valid_more}
-use Rattle.dubp_replay.proofs.laws.stays_valid.Goals as goal
-
-pub returns : goal.returns
-returns c = λ v w within chain valid. valid_more v w within chain valid

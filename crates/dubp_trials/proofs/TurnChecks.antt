@@ -1,0 +1,118 @@
+-- What small commands answer, how they change the state, and which of them take memory.
+use Rattle.std.specs.Prelude.{◌≡◌, ℕ, List, [], ◌∷◌, codes, ◌++◌, Bool, true, false, Some, None, if◌then◌else◌}
+use Rattle.std.specs.Fmt.{digits}
+use Rattle.std.specs.List.{list_any}
+use Rattle.std.proofs.Common.{refl, arith}
+use Rattle.std.proofs.lemmas.Cmp.{nat_list_eq_equiv}
+use Rattle.dubp_atoms.specs.Same.{Text}
+use Rattle.dubp_atoms.specs.declared.stamp.Stamp.{Stamp}
+use Rattle.dubp_lines.specs.Lines.{unlines}
+use Rattle.dubp_replay.specs.declared.query.Query.TheVariants as query
+use Rattle.dubp_chain.specs.Chains.{Chain}
+use Rattle.dubp_validity.specs.Verdicts.{Verdict, Verdicts, same_verdict, with_verdict}
+use Rattle.dubp_replay.specs.declared.command.Command.{Command}
+use Rattle.dubp_replay.specs.declared.command.Command.TheVariants.{Verdict as Note, Block, Offer, Revert, Switch, Forget, Ask}
+use Rattle.dubp_replay.specs.Turns.{State, start, IsServed, Turn, TakesMemory}
+use Rattle.dubp_trials.specs.Samples.{key0, unread, two_blocks, three_blocks}
+
+-- the command is answered by this line and leads there, and in no other way
+record Gives (old : State) (command : Command) (line : List ℕ) (after : State) : Type 0 where
+  is : Turn old command [] (unlines (line ∷ [])) after
+  only : (answer : List ℕ) (new : State) → Turn old command [] answer new → (answer ≡ unlines (line ∷ [])) × (new ≡ after)
+
+-- all blocks of the chain can be reversed
+abbrev keeping : Chain → ℕ → State
+keeping c kept = record { verdicts = []; chain = c; kept = kept; store = [] }
+
+-- ---- REVERT
+
+reverts_too_many : Gives (keeping three_blocks 3) (Revert 4) (codes "REFUSED W01 3") (keeping three_blocks 3)
+unfolding digits
+reverts_too_many = record { is = (refl, refl); only = λ answer new turn. turn }
+
+reverts_one : Gives (keeping three_blocks 3) (Revert 1) (codes "REVERTED 1") (keeping two_blocks 2)
+unfolding digits
+reverts_one = record { is = (refl, refl); only = λ answer new turn. turn }
+
+reverts_none : Gives start (Revert 0) (codes "REVERTED 0") start
+unfolding digits
+reverts_none = record { is = (refl, refl); only = λ answer new turn. turn }
+
+-- ---- VERDICT
+
+abbrev a_verdict : Verdict
+a_verdict = record { key = key0; hash = unread; sig = unread }
+
+abbrev noted : State
+noted = record start { verdicts = a_verdict ∷ [] }
+
+notes_once : Gives start (Note key0 unread unread) (codes "NOTED") noted
+notes_once = record { is = (refl, refl); only = λ answer new turn. turn }
+
+notes_again : Gives noted (Note key0 unread unread) (codes "NOTED") noted
+notes_again = record { is = (refl, refl); only = λ answer new turn. turn }
+
+-- whatever is noted twice leaves the set that it left the first time
+same_as_itself : (t : Verdict) → same_verdict t t ≡ true
+same_as_itself t = rw (nat_list_eq_equiv.refl t.key, nat_list_eq_equiv.refl t.hash, nat_list_eq_equiv.refl t.sig)
+
+abbrev with_one : Verdict → Verdicts → Bool → Verdicts
+with_one t v has = if has then v else t ∷ v
+
+noted_twice : (t : Verdict) (v : Verdicts) → with_verdict t (with_verdict t v) ≡ with_verdict t v
+noted_twice t v =
+    elim (list_any (same_verdict t) v) as (λ has. list_any (same_verdict t) v ≡ has → with_verdict t (with_one t v has) ≡ with_one t v has) [
+      | true ↦ λ has. rw has
+      | false ↦ λ has. rw (same_as_itself t)
+    ] refl
+
+-- ---- SWITCH and FORGET, where nothing is stored
+
+abbrev a_stamp : Stamp
+a_stamp = record { number = 1; hash = unread }
+
+forgets_unknown : Gives start (Forget a_stamp) (codes "UNKNOWN") start
+forgets_unknown = record { is = (refl, refl); only = λ answer new turn. turn }
+
+switches_to_unknown : Gives start (Switch a_stamp) (codes "UNKNOWN") start
+switches_to_unknown = record {
+  is = record { path = []; end = Some a_stamp; is = (refl, refl); goes = (refl, refl) };
+  only = λ answer new turn. turn.goes;
+}
+
+-- ---- a line that is no command
+
+what_is_no_command_is_bad : IsServed start None (codes "BAD" ++ 10 ∷ []) start
+what_is_no_command_is_bad = (refl, refl)
+
+-- ---- memory
+
+reverts_in_place : (count : ℕ) → ¬ TakesMemory (Revert count)
+reverts_in_place count takes = takes
+
+forgets_in_place : (stamp : Stamp) → ¬ TakesMemory (Forget stamp)
+forgets_in_place stamp takes = takes
+
+long_frame_in_place : ¬ TakesMemory (Block 1048577)
+long_frame_in_place takes = absurd (omega (arith, takes))
+
+long_offer_in_place : ¬ TakesMemory (Offer 1048577)
+long_offer_in_place takes = absurd (omega (arith, takes))
+
+head_in_place : ¬ TakesMemory (Ask query.Head)
+head_in_place takes = takes
+
+money_in_place : ¬ TakesMemory (Ask query.Money)
+money_in_place takes = takes
+
+identity_in_place : (key : Text) → ¬ TakesMemory (Ask (query.Identity key))
+identity_in_place key takes = takes
+
+name_in_place : (uid : Text) → ¬ TakesMemory (Ask (query.Uid uid))
+name_in_place uid takes = takes
+
+balance_in_place : (cond : Text) → ¬ TakesMemory (Ask (query.Balance (record { items = cond })))
+balance_in_place cond takes = takes
+
+certs_need_room : (key : Text) → TakesMemory (Ask (query.Certs key))
+certs_need_room key = tt
