@@ -1,2 +1,2 @@
+pub mod Tried
 pub mod Commands
-pub mod Frames

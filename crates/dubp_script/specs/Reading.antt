@@ -1,23 +1,62 @@
--- How the code reads a command. The laws that join it to the spelling stand in the contract of `read_command`.
-use Rattle.std.specs.Prelude.{ℕ, List, codes, Option, Some, None, nat_eq, if◌then◌else◌}
+-- How the code reads a command: one word after another is tried at the front of the line. The laws that join it to the spelling
+-- stand in the contract of `read_command`.
+use Rattle.std.specs.Prelude.{ℕ, List, codes, Option, Some, None, is_some, nat_eq, option_map, if◌then◌else◌}
+use Rattle.std.specs.Option.{option_or}
 use Rattle.std.specs.Cmp.Lexicographic.{pointwise}
-use Rattle.dubp_atoms.specs.Reading.{◌>>=◌, number_of}
-use Rattle.dubp_lines.specs.Taking.{value_of}
+use Rattle.arrayvec.specs.ArrayVec.{ArrayVec}
+use Rattle.dubp_atoms.specs.Letters.{SPACE, is_key, is_uid, is_hash, is_sig}
+use Rattle.dubp_atoms.specs.Reading.{◌>>=◌, field, number_of, stamp_of, text_if}
+use Rattle.dubp_cond.specs.Reading.{cond_of_text}
+use Rattle.dubp_lines.specs.Taking.{named}
+use Rattle.dubp_replay.specs.declared.query.Query.{Query}
 use Rattle.dubp_replay.specs.declared.query.Query.TheVariants as query
-use Rattle.dubp_script.specs.declared.command.Command.{Command}
-use Rattle.dubp_script.specs.declared.command.Command.TheVariants.{Block, Ask}
+use Rattle.dubp_replay.specs.declared.command.Command.{Command}
+use Rattle.dubp_replay.specs.declared.command.Command.TheVariants as command
+
+-- just this word
+abbrev pub bare : {A : Type 0} → List ℕ → A → List ℕ → Option A
+bare word value line = if pointwise nat_eq line word then Some value else None
+
+unfoldable pub verdict_of : List ℕ → Option Command
+verdict_of text =
+    field SPACE (text_if is_key) text (λ key rest.
+    field SPACE (text_if is_hash) rest (λ hash rest.
+    text_if is_sig rest >>= (λ sig. Some (command.Verdict key hash sig))))
+
+unfoldable pub change_of : List ℕ → Option Command
+change_of line =
+    option_or (named (codes "VERDICT ") verdict_of line)
+    (option_or (option_map command.Block (named (codes "BLOCK ") number_of line))
+    (option_or (option_map command.Revert (named (codes "REVERT ") number_of line))
+    (option_or (option_map command.Offer (named (codes "OFFER ") number_of line))
+    (option_or (option_map command.Switch (named (codes "SWITCH ") stamp_of line))
+    (option_map command.Forget (named (codes "FORGET ") stamp_of line))))))
+
+-- the text of a condition
+unfoldable pub cond_text_if : List ℕ → Option (ArrayVec ℕ)
+cond_text_if text = if is_some (cond_of_text text) then Some (record { items = text }) else None
+
+-- what is asked of a key or a name
+unfoldable pub keyed_of : List ℕ → Option Query
+keyed_of line =
+    option_or (option_map query.Identity (named (codes "IDENTITY ") (text_if is_key) line))
+    (option_or (option_map query.Uid (named (codes "UID ") (text_if is_uid) line))
+    (option_or (option_map query.Certs (named (codes "CERTS ") (text_if is_key) line))
+    (option_or (option_map query.Distance (named (codes "DISTANCE ") (text_if is_key) line))
+    (option_map query.Diff (named (codes "DIFF ") (text_if is_key) line)))))
+
+-- what else is asked
+unfoldable pub other_of : List ℕ → Option Query
+other_of line =
+    option_or (bare (codes "HEAD") query.Head line)
+    (option_or (bare (codes "MONEY") query.Money line)
+    (option_or (option_map query.Balance (named (codes "BALANCE ") cond_text_if line))
+    (option_or (option_map query.Sources (named (codes "SOURCES ") cond_text_if line))
+    (option_or (option_map query.Records (named (codes "RECORDS ") number_of line))
+    (option_map query.Show (named (codes "SHOW ") number_of line))))))
 
 unfoldable pub command_of : List ℕ → Option Command
 command_of line =
-    if pointwise nat_eq line (codes "HEAD")
-    then Some (Ask query.Head)
-    else (value_of (codes "BLOCK ") line >>= (λ digits. number_of digits >>= (λ len. Some (Block len))))
-
--- how many raw bytes stand behind the line, where it heads a frame
-abbrev pub len_of : Option Command → Option ℕ
-len_of (Some (Block len)) = Some len
-len_of (Some (Ask q)) = None
-len_of None = None
-
-unfoldable pub frame_len : List ℕ → Option ℕ
-frame_len line = len_of (command_of line)
+    option_or (change_of line)
+    (option_or (option_map command.Ask (keyed_of line))
+    (option_map command.Ask (other_of line)))

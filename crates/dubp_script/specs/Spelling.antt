@@ -1,13 +1,16 @@
--- The one spelling of each command. Protocol: commands and answers.
-use Rattle.std.specs.Prelude.{◌≡◌, ℕ, List, ◌++◌, codes}
+-- The one spelling of each command, without its LF. Protocol: commands and answers.
+use Rattle.std.specs.Prelude.{◌≡◌, ℕ, List, ◌∷◌, ◌++◌, codes, true, ⊤}
 use Rattle.std.specs.Fmt.{decimal}
-use Rattle.dubp_atoms.specs.Spelling.{IsNumber}
+use Rattle.dubp_atoms.specs.Letters.{SPACE, is_key, is_uid, is_hash, is_sig}
+use Rattle.dubp_atoms.specs.Spelling.{IsNumber, stamp_text, IsStamp}
+use Rattle.dubp_cond.specs.Tree.{CondTree}
+use Rattle.dubp_cond.specs.Conditions.{cond_text, IsCond}
 use Rattle.dubp_replay.specs.declared.query.Query.{Query}
 use Rattle.dubp_replay.specs.declared.query.Query.TheVariants as query
-use Rattle.dubp_script.specs.declared.command.Command.{Command}
-use Rattle.dubp_script.specs.declared.command.Command.TheVariants.{Block, Ask}
+use Rattle.dubp_replay.specs.declared.command.Command.{Command}
+use Rattle.dubp_replay.specs.declared.command.Command.TheVariants as command
 
--- the line of a query without its LF
+-- the line of a query
 abbrev pub query_text : Query → List ℕ
 query_text query.Head = codes "HEAD"
 query_text query.Money = codes "MONEY"
@@ -21,20 +24,43 @@ query_text (query.Diff key) = codes "DIFF " ++ key
 query_text (query.Records number) = codes "RECORDS " ++ decimal number
 query_text (query.Show number) = codes "SHOW " ++ decimal number
 
--- the line of a command without its LF
+-- the line of a command; BLOCK and OFFER tell how many raw bytes follow
 abbrev pub command_text : Command → List ℕ
-command_text (Block len) = codes "BLOCK " ++ decimal len
-command_text (Ask q) = query_text q
+command_text (command.Verdict key hash sig) = codes "VERDICT " ++ (key ++ SPACE ∷ (hash ++ SPACE ∷ sig))
+command_text (command.Block len) = codes "BLOCK " ++ decimal len
+command_text (command.Revert count) = codes "REVERT " ++ decimal count
+command_text (command.Offer len) = codes "OFFER " ++ decimal len
+command_text (command.Switch stamp) = codes "SWITCH " ++ stamp_text stamp
+command_text (command.Forget stamp) = codes "FORGET " ++ stamp_text stamp
+command_text (command.Ask q) = query_text q
 
--- the queries that are built so far
-abbrev pub IsBuiltQuery : Query → Type 0
-IsBuiltQuery query.Head = Unit {0}
-IsBuiltQuery q = ⊥
+-- the text of some condition
+abbrev pub IsCondText : List ℕ → Type 0
+IsCondText text = (c : CondTree) × IsCond c × (text ≡ cond_text c)
 
--- the commands that are read
+-- the queries that have a line
+abbrev pub IsQuery : Query → Type 0
+IsQuery query.Head = ⊤
+IsQuery query.Money = ⊤
+IsQuery (query.Identity key) = is_key key ≡ true
+IsQuery (query.Uid uid) = is_uid uid ≡ true
+IsQuery (query.Certs key) = is_key key ≡ true
+IsQuery (query.Balance cond) = IsCondText cond.items
+IsQuery (query.Sources cond) = IsCondText cond.items
+IsQuery (query.Distance key) = is_key key ≡ true
+IsQuery (query.Diff key) = is_key key ≡ true
+IsQuery (query.Records number) = IsNumber number
+IsQuery (query.Show number) = IsNumber number
+
+-- the commands that have a line
 abbrev pub IsCommand : Command → Type 0
-IsCommand (Block len) = IsNumber len
-IsCommand (Ask q) = IsBuiltQuery q
+IsCommand (command.Verdict key hash sig) = (is_key key ≡ true) × (is_hash hash ≡ true) × (is_sig sig ≡ true)
+IsCommand (command.Block len) = IsNumber len
+IsCommand (command.Revert count) = IsNumber count
+IsCommand (command.Offer len) = IsNumber len
+IsCommand (command.Switch stamp) = IsStamp stamp
+IsCommand (command.Forget stamp) = IsStamp stamp
+IsCommand (command.Ask q) = IsQuery q
 
 -- the line is the spelling of this command
 pub record Says (line : List ℕ) (command : Command) : Type 0 where

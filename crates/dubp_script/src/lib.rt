@@ -9,10 +9,10 @@
 //! ```
 #![tactic(auto)]
 
-mod command;
 mod reading;
 #[cfg(test)]
 mod tests;
+mod words;
 
-pub use command::Command;
-pub use reading::{frame_len, read_command};
+pub use dubp_replay::Command;
+pub use reading::read_command;

@@ -1,18 +1,17 @@
-ghost use Rattle.std.specs.Prelude.{◌≡◌, ◌^◌, ◌<◌, ◌≤◌, IfSome, Some, length};
-ghost use Rattle.dubp_script.specs.Spelling.{IsCommand, Says, command_text};
-ghost use Rattle.dubp_script.specs.Reading.{command_of, frame_len, len_of};
-ghost use Rattle.dubp_script.specs.declared.command.Command.{Command as CommandValue};
-ghost use Rattle.dubp_script.specs.declared.command.Command.TheVariants.{Block};
+ghost use Rattle.std.specs.Prelude.{◌≡◌, IfSome, Some};
+ghost use Rattle.dubp_script.specs.Spelling.{IsCommand, command_text};
+ghost use Rattle.dubp_script.specs.Reading.{command_of, change_of, keyed_of, other_of};
+ghost use Rattle.dubp_replay.specs.declared.command.Command.{Command as CommandValue};
 
-use crate::command::Command;
-use dubp_atoms::read_number;
-use dubp_replay::Query;
+use crate::words::{
+    cond_behind, key_behind, number_behind, stamp_behind, uid_behind, verdict_behind,
+};
+use dubp_replay::{Command, Query};
 
 /// The command that this line is, without its LF. None exactly where it is none. It takes no memory.
 pub fn read_command(line: &[u8]) -> Option<Command>
     ensures found { IfSome result (λ c. IsCommand c × (line.now ≡ command_text c)) }
     ensures only { (c : CommandValue) → IsCommand c → line.now ≡ command_text c → result ≡ Some c }
-    ensures exact { result ≡ command_of line.now }
 {
     command(line)
 }
@@ -21,30 +20,83 @@ pub fn read_command(line: &[u8]) -> Option<Command>
 fn command(line: &[u8]) -> Option<Command>
     ensures { result ≡ command_of line.now }
 {
+    if let Some(change) = change(line) {
+        return Some(change);
+    }
+    if let Some(query) = keyed_query(line) {
+        return Some(Command::Ask(query));
+    }
+    if let Some(query) = other_query(line) {
+        return Some(Command::Ask(query));
+    }
+    None
+}
+
+// What changes the state.
+#[tactic(auto, unfolding(crate::specs::Reading::change_of))]
+fn change(line: &[u8]) -> Option<Command>
+    ensures { result ≡ change_of line.now }
+{
+    if let Some(verdict) = verdict_behind(b"VERDICT ", line) {
+        return Some(verdict);
+    }
+    if let Some(len) = number_behind(b"BLOCK ", line) {
+        return Some(Command::Block { len });
+    }
+    if let Some(count) = number_behind(b"REVERT ", line) {
+        return Some(Command::Revert { count });
+    }
+    if let Some(len) = number_behind(b"OFFER ", line) {
+        return Some(Command::Offer { len });
+    }
+    if let Some(stamp) = stamp_behind(b"SWITCH ", line) {
+        return Some(Command::Switch { stamp });
+    }
+    let stamp = stamp_behind(b"FORGET ", line)?;
+    Some(Command::Forget { stamp })
+}
+
+// What is asked of a key or a name.
+#[tactic(auto, unfolding(crate::specs::Reading::keyed_of))]
+fn keyed_query(line: &[u8]) -> Option<Query>
+    ensures { result ≡ keyed_of line.now }
+{
+    if let Some(key) = key_behind(b"IDENTITY ", line) {
+        return Some(Query::Identity { key });
+    }
+    if let Some(uid) = uid_behind(b"UID ", line) {
+        return Some(Query::Uid { uid });
+    }
+    if let Some(key) = key_behind(b"CERTS ", line) {
+        return Some(Query::Certs { key });
+    }
+    if let Some(key) = key_behind(b"DISTANCE ", line) {
+        return Some(Query::Distance { key });
+    }
+    let key = key_behind(b"DIFF ", line)?;
+    Some(Query::Diff { key })
+}
+
+// What else is asked.
+#[tactic(auto, unfolding(crate::specs::Reading::other_of))]
+fn other_query(line: &[u8]) -> Option<Query>
+    ensures { result ≡ other_of line.now }
+{
     if line == b"HEAD".as_slice() {
-        return Some(Command::Ask(Query::Head));
+        return Some(Query::Head);
     }
-    let len = line.strip_prefix(b"BLOCK ")?;
-    let len = read_number(len)?;
-    Some(Command::Block { len })
-}
-
-/// How many raw bytes follow the line, where it heads a frame. None exactly where it heads none. It takes no memory.
-pub fn frame_len(line: &[u8]) -> Option<u64>
-    ensures heads { IfSome result (λ len. Says line.now (Block len)) }
-    ensures value { result ≡ frame_len line.now }
-    ensures bound { IfSome result (λ len. len < 2 ^ 53) }
-    ensures short { IfSome result (λ _. length line.now ≤ 22) }
-{
-    len_in(read_command(line))
-}
-
-fn len_in(command: Option<Command>) -> Option<u64>
-    ensures { result ≡ len_of command }
-{
-    match command {
-        Some(Command::Block { len }) => Some(len),
-        Some(Command::Ask(_)) => None,
-        None => None,
+    if line == b"MONEY".as_slice() {
+        return Some(Query::Money);
     }
+    if let Some(cond) = cond_behind(b"BALANCE ", line) {
+        return Some(Query::Balance { cond });
+    }
+    if let Some(cond) = cond_behind(b"SOURCES ", line) {
+        return Some(Query::Sources { cond });
+    }
+    if let Some(number) = number_behind(b"RECORDS ", line) {
+        return Some(Query::Records { number });
+    }
+    let number = number_behind(b"SHOW ", line)?;
+    Some(Query::Show { number })
 }

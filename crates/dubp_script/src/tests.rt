@@ -1,24 +1,51 @@
 use super::*;
+use dubp_replay::Query;
 
 #[test]
 fn lines_are_read_as_commands(rt: HostRuntime) {
-    assert!(rt; read_command(b"HEAD").is_some());
-    assert!(rt; read_command(b"BLOCK 0").is_some());
-    assert!(rt; read_command(b"HEAD ").is_none());
-    assert!(rt; read_command(b"head").is_none());
-    assert!(rt; read_command(b"MONEY").is_none());
-    assert!(rt; read_command(b"").is_none());
+    assert!(rt;
+        matches!(
+            read_command(b"BLOCK 9007199254740991"),
+            Some(Command::Block { .. })
+        )
+    );
+    assert!(rt; matches!(read_command(b"OFFER 0"), Some(Command::Offer { len: 0 })));
+    assert!(rt;
+        matches!(
+            read_command(b"REVERT 7"),
+            Some(Command::Revert { count: 7 })
+        )
+    );
+    assert!(rt; matches!(read_command(b"MONEY"), Some(Command::Ask(Query::Money))));
+    assert!(rt;
+        matches!(
+            read_command(b"SHOW 3"),
+            Some(Command::Ask(Query::Show { number: 3 }))
+        )
+    );
+    assert!(rt;
+        matches!(
+            read_command(b"BALANCE CSV(1) && CLTV(2)"),
+            Some(Command::Ask(Query::Balance { .. }))
+        )
+    );
 }
 
 #[test]
-fn a_block_heads_a_frame(rt: HostRuntime) {
-    assert_eq!(rt; frame_len(b"BLOCK 1048577"), Some(1_048_577));
-    assert_eq!(rt;
-        frame_len(b"BLOCK 9007199254740991"),
-        Some(9_007_199_254_740_991)
-    );
-    assert_eq!(rt; frame_len(b"BLOCK 9007199254740992"), None);
-    assert_eq!(rt; frame_len(b"BLOCK 07"), None);
-    assert_eq!(rt; frame_len(b"BLOCK"), None);
-    assert_eq!(rt; frame_len(b"HEAD"), None);
+fn other_lines_are_no_command(rt: HostRuntime) {
+    let lines: [&[u8]; 10] = [
+        b"",
+        b"HEAD ",
+        b"head",
+        b"BLOCK",
+        b"BLOCK 07",
+        b"BLOCK 9007199254740992",
+        b"REVERT  1",
+        b"UID a",
+        b"BALANCE CSV(1)&&CSV(2)",
+        b"IDENTITY 0",
+    ];
+    for line in lines {
+        assert!(rt; read_command(line).is_none());
+    }
 }

@@ -1,0 +1,83 @@
+ghost use Rattle.std.specs.Prelude.{◌≡◌, ◌≤◌, length};
+ghost use Rattle.dubp_atoms.specs.Letters.{is_key, is_uid};
+ghost use Rattle.dubp_atoms.specs.Reading.{number_of, stamp_of, text_if};
+ghost use Rattle.dubp_lines.specs.Taking.{named};
+ghost use Rattle.dubp_script.specs.Reading.{cond_text_if, verdict_of};
+
+use arrayvec::ArrayVec;
+use dubp_atoms::{Hash, Key, Sig, Stamp, Uid, cut, read_number};
+use dubp_cond::{CondText, is_cond};
+use dubp_replay::Command;
+
+/// The number behind this word.
+pub fn number_behind(word: &[u8], line: &[u8]) -> Option<u64>
+    ensures { result ≡ named word.now number_of line.now }
+{
+    read_number(line.strip_prefix(word)?)
+}
+
+/// The stamp behind this word.
+pub fn stamp_behind(word: &[u8], line: &[u8]) -> Option<Stamp>
+    ensures { result ≡ named word.now stamp_of line.now }
+{
+    Stamp::read(line.strip_prefix(word)?)
+}
+
+/// The key behind this word.
+pub fn key_behind(word: &[u8], line: &[u8]) -> Option<Key>
+    ensures { result ≡ named word.now (text_if is_key) line.now }
+{
+    Key::read(line.strip_prefix(word)?)
+}
+
+/// The name behind this word.
+pub fn uid_behind(word: &[u8], line: &[u8]) -> Option<Uid>
+    ensures { result ≡ named word.now (text_if is_uid) line.now }
+{
+    Uid::read(line.strip_prefix(word)?)
+}
+
+/// The condition behind this word, as its text.
+pub fn cond_behind(word: &[u8], line: &[u8]) -> Option<CondText>
+    ensures { result ≡ named word.now cond_text_if line.now }
+{
+    cond_text(line.strip_prefix(word)?)
+}
+
+fn cond_text(text: &[u8]) -> Option<CondText>
+    ensures { result ≡ cond_text_if text.now }
+{
+    if !is_cond(text) {
+        return None;
+    }
+    Some(filled(text))
+}
+
+fn filled(text: &[u8]) -> CondText
+    requires { length text.now ≤ 1000 }
+    ensures { result.items ≡ text.now }
+{
+    let mut cond: CondText = ArrayVec::new();
+    let _ = cond.try_extend_from_slice(text);
+    cond
+}
+
+/// What `VERDICT ` and this text say.
+#[tactic(auto, unfolding(crate::specs::Reading::verdict_of))]
+pub fn read_verdict(text: &[u8]) -> Option<Command>
+    ensures { result ≡ verdict_of text.now }
+{
+    let (key, rest) = cut(text, b' ')?;
+    let key = Key::read(key)?;
+    let (hash, sig) = cut(rest, b' ')?;
+    let hash = Hash::read(hash)?;
+    let sig = Sig::read(sig)?;
+    Some(Command::Verdict { key, hash, sig })
+}
+
+/// What a line that begins with `VERDICT ` says.
+pub fn verdict_behind(word: &[u8], line: &[u8]) -> Option<Command>
+    ensures { result ≡ named word.now verdict_of line.now }
+{
+    read_verdict(line.strip_prefix(word)?)
+}
