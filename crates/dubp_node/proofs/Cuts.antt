@@ -1,9 +1,9 @@
 -- Bytes are cut into whole commands in one way only.
 use Rattle.std.proofs.Common.{◌≡◌, ℕ, ◌≤◌, List, [], ◌∷◌, ◌++◌, length, None, Some, refl, sym, ◌∙◌, ap, subst, append_assoc, length-append, arith}
 use Rattle.std.proofs.lemmas.Grind.{flat_map-append}
-use Rattle.dubp_node.specs.Entries.{AllWhole, Entry, Line, Frame, text_of, IsWhole, IsText, LF}
-use Rattle.dubp_script.specs.Reading.{frame_len}
-use Rattle.dubp_node.proofs.Wholes.{line_no_len, frame_has_len}
+use Rattle.dubp_atoms.specs.Letters.{LF}
+use Rattle.dubp_node.specs.Entries.{AllWhole, Entry, Line, Frame, text_of, IsWhole, IsText}
+use Rattle.dubp_node.proofs.Wholes.{frame_len, line_no_len, frame_has_len}
 use Rattle.dubp_node.specs.Cut.{BeginsNone, Cut, texts}
 
 -- the first LF of a list stands at one place

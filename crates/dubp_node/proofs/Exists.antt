@@ -1,9 +1,9 @@
 -- Any bytes can be cut into whole commands.
 use Rattle.std.proofs.Common.{◌≡◌, ◌⊎◌, inl, inr, ℕ, zero, suc, ◌+◌, ◌<◌, ◌≤◌, List, [], ◌∷◌, ◌++◌, length, take, drop, get_or, Option, None, Some, refl, sym, ◌∙◌, ap, subst, append_assoc, arith, length-append, length-take-le}
 use Rattle.std.proofs.lemmas.Bool.{cases_lt}
-use Rattle.dubp_node.specs.Entries.{Entry, Line, Frame, text_of, IsWhole, IsText, LF}
-use Rattle.dubp_script.specs.Reading.{frame_len}
-use Rattle.dubp_node.proofs.Wholes.{whole_line, whole_frame}
+use Rattle.dubp_atoms.specs.Letters.{LF}
+use Rattle.dubp_node.specs.Entries.{Entry, Line, Frame, text_of, IsWhole, IsText}
+use Rattle.dubp_node.proofs.Wholes.{frame_len, whole_line, whole_frame}
 use Rattle.dubp_node.specs.Cut.{BeginsNone, Cut, texts}
 use Rattle.dubp_node.proofs.Cuts.{text_begins_none, part_begins_none, line_shape, frame_shape}
 use Rattle.dubp_node.proofs.Taking.{split_at}

@@ -1,10 +1,11 @@
 pub mod Cuts
 pub mod Decisions
 pub mod Exists
-pub mod Hands
+pub mod Buffers
 pub mod Lines
 pub mod RunSteps
 pub mod Serves
 pub mod Sessions
 pub mod Taking
 pub mod Wholes
+pub mod Items

@@ -2,7 +2,8 @@
 use Rattle.std.proofs.Common.{◌≡◌, ◌≢◌, ℕ, suc, ◌+◌, ◌<◌, List, [], ◌∷◌, ◌++◌, length, get_or, take, drop, sym, ◌∙◌, ap, arith, eq-eqb, eqb-true, take-append-drop, get_or-take, Option, None, Some, MatchOption}
 use Rattle.std.proofs.lemmas.List.{drop_more, length-take-le}
 use Rattle.memchr.specs.Find.{IsFirstByte, is_byte}
-use Rattle.dubp_node.specs.Entries.{IsText, LF}
+use Rattle.dubp_atoms.specs.Letters.{LF}
+use Rattle.dubp_node.specs.Entries.{IsText}
 
 pub text_by_index : (hand : List ℕ) → ((k : ℕ) → k < length hand → get_or hand k 0 ≢ LF) → IsText hand
 text_by_index [] h = tt

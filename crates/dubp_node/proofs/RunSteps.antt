@@ -1,21 +1,23 @@
 -- The steps of a whole session.
-use Rattle.std.proofs.Common.{◌≡◌, ◌⊎◌, inl, inr, ℕ, ◌+◌, ◌<◌, Bool, true, false, List, [], ◌∷◌, ◌++◌, length, Option, refl, sym, ◌∙◌, ap, subst, arith, append_assoc, append-nil, length-append}
+use Rattle.std.proofs.Common.{◌≡◌, ◌⊎◌, inl, inr, ℕ, ◌+◌, ◌<◌, ◌≤◌, Bool, true, false, List, [], ◌∷◌, ◌++◌, length, Option, refl, sym, ◌∙◌, ap, subst, arith, append_assoc, append-nil, length-append}
 use Rattle.std.proofs.lemmas.List.{nil_from_length}
 use Rattle.std.specs.Io.KnownBytes.{Consumes, Keeps, IsAtEnd}
 use Rattle.dubp_outside.proofs.Known.{consumes_nothing, consumes_then, consumes_kept, appends_then}
-use Rattle.dubp_node.specs.Entries.{Entry, LF}
+use Rattle.dubp_atoms.specs.Letters.{LF}
+use Rattle.dubp_node.specs.Entries.{Entry}
 use Rattle.dubp_node.specs.Cut.{Cut, lacking, texts}
 use Rattle.dubp_node.specs.Turns.{joined}
 use Rattle.dubp_replay.specs.Turns.{State}
 use Rattle.dubp_node.specs.Session.{Broke}
 use Rattle.dubp_node.specs.Reading.{Stands}
 use Rattle.dubp_node.specs.Serving.{ServedAll, Finished}
-use Rattle.dubp_node.specs.Run.{SoFar, Paused, AnsweredSome, AnsweredMost, AnsweredToEnd, BrokeOff, most_taken}
-use Rattle.dubp_node.specs.Ends.{Ends, LastEnds}
+use Rattle.dubp_node.specs.Run.{at, Closes, SoFar, Paused, AnsweredSome, AnsweredMost, AnsweredToEnd, BrokeOff, most_taken}
+use Rattle.dubp_node.specs.Ends.{Ends, Faults, LastEnds}
 use Rattle.dubp_node.specs.declared.reading.Phase.{Phase}
 use Rattle.dubp_node.specs.declared.reading.Phase.TheVariants.{Start, LongLine, LongFrame}
 use Rattle.dubp_node.specs.declared.run.Ending.{Ending}
-use Rattle.dubp_node.specs.declared.run.Ending.TheVariants.{Boundary, InsideFrame, ReadFault, WriteFault, TooMuch}
+use Rattle.dubp_node.specs.declared.run.Ending.TheVariants.{Ended, ReadFault, WriteFault, TooMuch}
+use Rattle.dubp_node.specs.declared.serving.InputEnd.{InputEnd}
 use Rattle.dubp_node.proofs.Sessions.{served_nothing, served_then, served_more, broke_then, texts-append, all_whole-append}
 use Rattle.dubp_node.proofs.Exists.{cut_exists}
 
@@ -34,7 +36,7 @@ stands_more (LongFrame left) hand rest piece s = record {
   len = s.len;
   bytes_are = ap (λ t. t ++ piece) s.bytes_are ∙ append_assoc s.head (LF ∷ (s.gone ++ hand)) piece ∙ ap (λ t. s.head ++ LF ∷ t) (append_assoc s.gone hand piece);
   text = s.text;
-  len_is = s.len_is;
+  heads = s.heads;
   long = s.long;
   left_is = s.left_is;
   some = s.some;
@@ -74,18 +76,19 @@ reads_on old new l0 l1 l2 h0 h1 count n phase hand after piece p given len is = 
 }
 
 -- the command whose answer was not written whole is one of those that begin the bytes
-pub broke_off : (old new : State) (l0 l1 h0 h1 : Option (List ℕ)) (taken closing : List ℕ) → Consumes l0 l1 taken → (closing ≡ []) ⊎ (IsAtEnd l1 × ((before : List Entry) × (tail : List ℕ) × Cut taken before tail × (closing ≡ lacking tail))) → Broke old new h0 h1 (taken ++ closing) → BrokeOff old new l0 l1 h0 h1
-broke_off old new l0 l1 h0 h1 taken closing takes closes b =
+pub broke_off : (old new : State) (l0 l1 h0 h1 : Option (List ℕ)) (taken closing : List ℕ) → Consumes l0 l1 taken → length taken ≤ most_taken → (closing ≡ []) ⊎ Closes taken closing (at new l1 h1) → Broke old new h0 h1 (taken ++ closing) → BrokeOff (at old l0 h0) (at new l1 h1)
+broke_off old new l0 l1 h0 h1 taken closing takes most closes b =
     let more = cut_exists b.rest in
-    let first = b.commands ++ b.command ∷ [] in
+    let first = b.entries ++ b.entry ∷ [] in
     record {
       taken = taken;
       takes = takes;
+      most = most;
       closing = closing;
       closes = closes;
-      commands = b.commands;
+      entries = b.entries;
       answers = b.answers;
-      command = b.command;
+      entry = b.entry;
       answer = b.answer;
       others = more.0;
       rest = more.1;
@@ -98,21 +101,21 @@ broke_off old new l0 l1 h0 h1 taken closing takes closes b =
       front = b.part.front;
       back = b.part.back;
       answer_is = b.part.whole;
-      lacks = b.part.lacks;
+      some = b.part.lacks;
       written = appends_then h0 b.between h1 (joined b.answers) b.part.front b.whole b.part.held;
     }
 
-pub breaks : (old mid new : State) (l0 l1 h0 h1 h2 : Option (List ℕ)) (count : ℕ) (phase : Phase) (hand : List ℕ) → SoFar old mid l0 l1 h0 h1 count phase hand → ((bytes : List ℕ) → Stands phase hand bytes → Broke mid new h1 h2 bytes) → BrokeOff old new l0 l1 h0 h2
-breaks old mid new l0 l1 h0 h1 h2 count phase hand s b =
-    broke_off old new l0 l1 h0 h2 s.taken [] s.takes (inl refl)
+pub breaks : (old mid new : State) (l0 l1 h0 h1 h2 : Option (List ℕ)) (count : ℕ) (phase : Phase) (hand : List ℕ) → SoFar old mid l0 l1 h0 h1 count phase hand → count ≤ most_taken → ((bytes : List ℕ) → Stands phase hand bytes → Broke mid new h1 h2 bytes) → BrokeOff (at old l0 h0) (at new l1 h2)
+breaks old mid new l0 l1 h0 h1 h2 count phase hand s few b =
+    broke_off old new l0 l1 h0 h2 s.taken [] s.takes (omega (arith, s.count_is)) (inl refl)
     (subst (Broke old new h0 h2) (sym (append-nil s.taken)) (broke_then old mid new h0 h1 h2 s.taken s.rest s.served (b s.rest s.stands)))
 
-pub answered : (old new : State) (l0 l1 l2 h0 h1 : Option (List ℕ)) (count : ℕ) (phase : Phase) (hand : List ℕ) → Paused old new l0 l1 h0 h1 count phase hand → Keeps l1 l2 → count < most_taken → AnsweredSome old new l0 l2 h0 h1
+pub answered : (old new : State) (l0 l1 l2 h0 h1 : Option (List ℕ)) (count : ℕ) (phase : Phase) (hand : List ℕ) → Paused old new l0 l1 h0 h1 count phase hand → Keeps l1 l2 → count < most_taken → AnsweredSome (at old l0 h0) (at new l2 h1)
 answered old new l0 l1 l2 h0 h1 count phase hand p k few = record {
   answered = record {
     taken = p.taken;
     takes = consumes_kept l0 l1 l2 p.taken p.takes k;
-    commands = p.served.commands;
+    entries = p.served.entries;
     answers = p.served.answers;
     rest = p.rest;
     cut = record { bytes_are = p.served.bytes_are; each = p.served.each; no_more = p.no_more };
@@ -122,12 +125,12 @@ answered old new l0 l1 l2 h0 h1 count phase hand p k few = record {
   fewer = omega (arith, p.count_is);
 }
 
-pub answered_most : (old new : State) (l0 l1 h0 h1 : Option (List ℕ)) (count : ℕ) (phase : Phase) (hand : List ℕ) → Paused old new l0 l1 h0 h1 count phase hand → count ≡ most_taken → AnsweredMost old new l0 l1 h0 h1
+pub answered_most : (old new : State) (l0 l1 h0 h1 : Option (List ℕ)) (count : ℕ) (phase : Phase) (hand : List ℕ) → Paused old new l0 l1 h0 h1 count phase hand → count ≡ most_taken → AnsweredMost (at old l0 h0) (at new l1 h1)
 answered_most old new l0 l1 h0 h1 count phase hand p most = record {
   answered = record {
     taken = p.taken;
     takes = p.takes;
-    commands = p.served.commands;
+    entries = p.served.entries;
     answers = p.served.answers;
     rest = p.rest;
     cut = record { bytes_are = p.served.bytes_are; each = p.served.each; no_more = p.no_more };
@@ -137,7 +140,7 @@ answered_most old new l0 l1 h0 h1 count phase hand p most = record {
   most = p.count_is ∙ most;
 }
 
-pub to_end : (old mid new : State) (l0 l1 h0 h1 h2 : Option (List ℕ)) (count : ℕ) (phase : Phase) (hand : List ℕ) (b : Bool) → (p : Paused old mid l0 l1 h0 h1 count phase hand) → count < most_taken → IsAtEnd l1 → Finished mid new h1 h2 p.rest b → AnsweredToEnd old new l0 l1 h0 h2 b
+pub to_end : (old mid new : State) (l0 l1 h0 h1 h2 : Option (List ℕ)) (count : ℕ) (phase : Phase) (hand : List ℕ) (b : InputEnd) → (p : Paused old mid l0 l1 h0 h1 count phase hand) → count < most_taken → IsAtEnd l1 → Finished mid new h1 h2 p.rest b → AnsweredToEnd b (at old l0 h0) (at new l1 h2)
 to_end old mid new l0 l1 h0 h1 h2 count phase hand b p few e f =
     let all = served_then old mid new h0 h1 h2 (p.taken ++ lacking p.rest) (p.rest ++ lacking p.rest) f.rest (served_more old mid h0 h1 p.taken p.rest (lacking p.rest) p.served) f.served in
     record {
@@ -145,33 +148,31 @@ to_end old mid new l0 l1 h0 h1 h2 count phase hand b p few e f =
       takes = p.takes;
       ended = e;
       fewer = omega (arith, p.count_is);
-      commands = all.commands;
+      entries = all.entries;
       answers = all.answers;
       rest = f.rest;
       cut = record {
-        before = p.served.commands;
+        before = p.served.entries;
         tail = p.rest;
         open_end = record { bytes_are = p.served.bytes_are; each = p.served.each; no_more = p.no_more };
         closed = record { bytes_are = all.bytes_are; each = all.each; no_more = f.no_more };
       };
-      boundary = f.boundary;
-      inside = f.inside;
+      over = f.over;
       run = all.run;
       written = all.written;
     }
 
-pub breaks_last : (old mid new : State) (l0 l1 h0 h1 h2 : Option (List ℕ)) (count : ℕ) (phase : Phase) (hand : List ℕ) → (p : Paused old mid l0 l1 h0 h1 count phase hand) → IsAtEnd l1 → Broke mid new h1 h2 (p.rest ++ lacking p.rest) → BrokeOff old new l0 l1 h0 h2
-breaks_last old mid new l0 l1 h0 h1 h2 count phase hand p e b =
-    broke_off old new l0 l1 h0 h2 p.taken (lacking p.rest) p.takes
-    (inr (e, (p.served.commands, p.rest, record { bytes_are = p.served.bytes_are; each = p.served.each; no_more = p.no_more }, refl)))
+pub breaks_last : (old mid new : State) (l0 l1 h0 h1 h2 : Option (List ℕ)) (count : ℕ) (phase : Phase) (hand : List ℕ) → (p : Paused old mid l0 l1 h0 h1 count phase hand) → count < most_taken → IsAtEnd l1 → Broke mid new h1 h2 (p.rest ++ lacking p.rest) → BrokeOff (at old l0 h0) (at new l1 h2)
+breaks_last old mid new l0 l1 h0 h1 h2 count phase hand p few e b =
+    broke_off old new l0 l1 h0 h2 p.taken (lacking p.rest) p.takes (omega (arith, p.count_is))
+    (inr (record { ended = e; fewer = omega (arith, p.count_is); before = p.served.entries; tail = p.rest; cut = record { bytes_are = p.served.bytes_are; each = p.served.each; no_more = p.no_more }; lacks = refl }))
     (broke_then old mid new h0 h1 h2 (p.taken ++ lacking p.rest) (p.rest ++ lacking p.rest) (served_more old mid h0 h1 p.taken p.rest (lacking p.rest) p.served) b)
 
 -- the end of the input
-pub ends : (old mid new : State) (l0 l1 h0 h1 h2 : Option (List ℕ)) (count : ℕ) (phase : Phase) (hand : List ℕ) (ending : Ending) → (p : Paused old mid l0 l1 h0 h1 count phase hand) → count < most_taken → IsAtEnd l1 → LastEnds mid new h1 h2 p.rest ending → Ends old new l0 l1 h0 h2 ending
-ends old mid new l0 l1 h0 h1 h2 count phase hand Boundary p few e l = to_end old mid new l0 l1 h0 h1 h2 count phase hand true p few e l
-ends old mid new l0 l1 h0 h1 h2 count phase hand InsideFrame p few e l = to_end old mid new l0 l1 h0 h1 h2 count phase hand false p few e l
+pub ends : (old mid new : State) (l0 l1 h0 h1 h2 : Option (List ℕ)) (count : ℕ) (phase : Phase) (hand : List ℕ) (ending : Ending) → (p : Paused old mid l0 l1 h0 h1 count phase hand) → count < most_taken → IsAtEnd l1 → LastEnds mid new h1 h2 p.rest ending → Ends (at old l0 h0) (at new l1 h2) ending
+ends old mid new l0 l1 h0 h1 h2 count phase hand (Ended end) p few e l = to_end old mid new l0 l1 h0 h1 h2 count phase hand end p few e l
 ends old mid new l0 l1 h0 h1 h2 count phase hand ReadFault p few e l = absurd l
-ends old mid new l0 l1 h0 h1 h2 count phase hand WriteFault p few e l = breaks_last old mid new l0 l1 h0 h1 h2 count phase hand p e l
+ends old mid new l0 l1 h0 h1 h2 count phase hand WriteFault p few e l = breaks_last old mid new l0 l1 h0 h1 h2 count phase hand p few e l
 ends old mid new l0 l1 h0 h1 h2 count phase hand TooMuch p few e l = absurd l
 
 -- a read that gave nothing
@@ -187,3 +188,7 @@ read_nothing old new l0 l1 l2 h0 h1 count phase hand after piece p given len is 
       stands = subst (λ t. Stands phase t p.rest) (sym (is ∙ ap (λ t. hand ++ t) none ∙ append-nil hand)) p.stands;
       no_more = p.no_more;
     }
+
+-- the counts of faults at the end of the input, where none rose before
+pub quiet_end : (source source' sink sink' sink'' : ℕ) → source ≡ source' → sink ≡ sink' → (ending : Ending) → ((n : ℕ) → Faults n n sink' sink'' ending) → Faults source source' sink sink'' ending
+quiet_end source source' sink sink' sink'' p q ending f = rw (p, q) (f source')

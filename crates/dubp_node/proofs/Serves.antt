@@ -4,16 +4,17 @@ use Rattle.std.specs.List.{list_all}
 use Rattle.std.specs.Io.KnownBytes.{Appends}
 use Rattle.std.proofs.lemmas.Bool.Decides.{nat_tests}
 use Rattle.dubp_outside.specs.Parts.{AppendsPart}
-use Rattle.dubp_node.specs.Entries.{Line, text_of, IsText, LF, longest_line}
-use Rattle.dubp_script.specs.Reading.{frame_len}
-use Rattle.dubp_node.proofs.Wholes.{whole_line}
+use Rattle.dubp_atoms.specs.Letters.{LF}
+use Rattle.dubp_node.specs.Entries.{Line, text_of, IsText, IsWhole, longest_line}
+use Rattle.dubp_node.proofs.Wholes.{frame_len, whole_line}
 use Rattle.dubp_node.specs.Cut.{BeginsNone, lacking}
-use Rattle.dubp_node.specs.Turns.{Turn}
+use Rattle.dubp_node.specs.Turns.{EntryTurn}
 use Rattle.dubp_replay.specs.Turns.{State}
 use Rattle.dubp_node.specs.Session.{Broke}
 use Rattle.dubp_node.specs.Reading.{Stands, Takes, InLongLine}
 use Rattle.dubp_node.specs.Serving.{TurnWritten, TurnBroke, ServedTo, ServedAll, Finished}
 use Rattle.dubp_node.specs.declared.item.Item.{Item}
+use Rattle.dubp_node.specs.declared.serving.InputEnd.TheVariants.{OnBoundary, InsideFrame}
 use Rattle.dubp_node.specs.declared.reading.Phase.{Phase}
 use Rattle.dubp_node.specs.declared.reading.Phase.TheVariants.{Start}
 use Rattle.dubp_node.specs.declared.reading.Found.TheVariants.{Got, Pass, Wait}
@@ -94,45 +95,42 @@ lacks_none [] back = refl
 lacks_none (x ∷ xs) back = ap (λ b. if b then LF ∷ [] else []) (some_LF (x ∷ xs) back)
 
 -- nothing is answered
-pub finished_inside : (state : State) (held : Option (List ℕ)) (bytes : List ℕ) → BeginsNone (bytes ++ lacking bytes) → 0 < length bytes → Finished state state held held bytes false
+pub finished_inside : (state : State) (held : Option (List ℕ)) (bytes : List ℕ) → BeginsNone (bytes ++ lacking bytes) → 0 < length bytes → Finished state state held held bytes InsideFrame
 finished_inside state held bytes none some = record {
   rest = bytes ++ lacking bytes;
   served = served_nothing state held (bytes ++ lacking bytes);
   no_more = none;
-  boundary = λ e. cc;
-  inside = λ e. omega (arith, length-append bytes (lacking bytes));
+  over = omega (arith, length-append bytes (lacking bytes));
 }
 
-pub finished_frame : (state : State) (held : Option (List ℕ)) (front back : List ℕ) → BeginsNone (front ++ LF ∷ back) → Finished state state held held (front ++ LF ∷ back) false
+pub finished_frame : (state : State) (held : Option (List ℕ)) (front back : List ℕ) → BeginsNone (front ++ LF ∷ back) → Finished state state held held (front ++ LF ∷ back) InsideFrame
 finished_frame state held front back none =
     finished_inside state held (front ++ LF ∷ back) (subst BeginsNone (sym (ap (λ t. (front ++ LF ∷ back) ++ t) (lacks_none front back) ∙ append-nil (front ++ LF ∷ back))) none)
     (omega (arith, length-append front (LF ∷ back)))
 
-pub finished_head : (state : State) (held : Option (List ℕ)) (head : List ℕ) (n : ℕ) → IsText head → 0 < length head → frame_len head ≡ Some n → Finished state state held held head false
+pub finished_head : (state : State) (held : Option (List ℕ)) (head : List ℕ) (n : ℕ) → IsText head → 0 < length head → frame_len head ≡ Some n → Finished state state held held head InsideFrame
 finished_head state held head n t some f =
     finished_inside state held head (subst BeginsNone (sym (ap (λ u. head ++ u) (lacks_LF head t some))) (part_begins_none head [] n t f (omega arith))) some
 
-pub finished_empty : (state : State) (held : Option (List ℕ)) → Finished state state held held [] true
+pub finished_empty : (state : State) (held : Option (List ℕ)) → Finished state state held held [] OnBoundary
 finished_empty state held = record {
   rest = [];
   served = served_nothing state held [];
   no_more = text_begins_none [] tt;
-  boundary = λ e. refl;
-  inside = λ e. cc;
+  over = refl;
 }
 
-pub finished_line : (old new : State) (before after : Option (List ℕ)) (bytes answer : List ℕ) → IsText bytes → 0 < length bytes → frame_len bytes ≡ None → Turn old (Line bytes) answer new → Appends before after answer → Finished old new before after bytes true
-finished_line old new before after bytes answer t some f turn w = record {
+pub finished_line : (old new : State) (before after : Option (List ℕ)) (bytes answer : List ℕ) → IsWhole (Line bytes) → 0 < length bytes → EntryTurn old (Line bytes) answer new → Appends before after answer → Finished old new before after bytes OnBoundary
+finished_line old new before after bytes answer w some turn h = record {
   rest = [];
-  served = served_one old new before after (bytes ++ lacking bytes) [] answer (Line bytes) (ap (λ u. bytes ++ u) (lacks_LF bytes t some) ∙ sym (append-nil (bytes ++ LF ∷ []))) (whole_line bytes t f) turn w;
+  served = served_one old new before after (bytes ++ lacking bytes) [] answer (Line bytes) (ap (λ u. bytes ++ u) (lacks_LF bytes w.0 some) ∙ sym (append-nil (bytes ++ LF ∷ []))) w turn h;
   no_more = text_begins_none [] tt;
-  boundary = λ e. refl;
-  inside = λ e. cc;
+  over = refl;
 }
 
-pub broke_line : (old new : State) (before after : Option (List ℕ)) (bytes answer : List ℕ) → IsText bytes → 0 < length bytes → frame_len bytes ≡ None → Turn old (Line bytes) answer new → AppendsPart before after answer → Broke old new before after (bytes ++ lacking bytes)
-broke_line old new before after bytes answer t some f turn w =
-    broke_one old new before after (bytes ++ lacking bytes) [] answer (Line bytes) (ap (λ u. bytes ++ u) (lacks_LF bytes t some) ∙ sym (append-nil (bytes ++ LF ∷ []))) (whole_line bytes t f) turn w
+pub broke_line : (old new : State) (before after : Option (List ℕ)) (bytes answer : List ℕ) → IsWhole (Line bytes) → 0 < length bytes → EntryTurn old (Line bytes) answer new → AppendsPart before after answer → Broke old new before after (bytes ++ lacking bytes)
+broke_line old new before after bytes answer w some turn h =
+    broke_one old new before after (bytes ++ lacking bytes) [] answer (Line bytes) (ap (λ u. bytes ++ u) (lacks_LF bytes w.0 some) ∙ sym (append-nil (bytes ++ LF ∷ []))) w turn h
 
 -- a long line of which no whole command is the first has no LF
 pub long_line_open : (hand bytes : List ℕ) → InLongLine hand bytes → BeginsNone bytes → IsText bytes × (longest_line < length bytes)

@@ -6,8 +6,8 @@ use Rattle.dubp_outside.specs.Parts.{AppendsPart}
 use Rattle.dubp_outside.proofs.Known.{appends_nothing, appends_then}
 use Rattle.dubp_node.specs.Entries.{Entry, text_of, IsWhole, AllWhole}
 use Rattle.dubp_node.specs.Cut.{texts}
-use Rattle.dubp_node.specs.Turns.{Turn, Runs, joined}
-use Rattle.dubp_replay.specs.Turns.{State}
+use Rattle.dubp_node.specs.Turns.{EntryTurn, joined}
+use Rattle.dubp_replay.specs.Turns.{State, Runs}
 use Rattle.dubp_node.specs.Session.{Served, Broke}
 
 pub texts-append : (cs ds : List Entry) → texts (cs ++ ds) ≡ texts cs ++ texts ds
@@ -20,15 +20,15 @@ pub all_whole-append : (cs ds : List Entry) → AllWhole cs → AllWhole ds → 
 all_whole-append [] ds p q = q
 all_whole-append (c ∷ cs) ds p q = (p.0, all_whole-append cs ds p.1 q)
 
-pub runs-append : (cs ds : List Entry) (xs ys : List (List ℕ)) (old mid new : State) → Runs old cs xs mid → Runs mid ds ys new → Runs old (cs ++ ds) (xs ++ ys) new
-runs-append [] ds [] ys old mid new p q = subst (λ s. Runs s ds ys new) p q
+pub runs-append : (cs ds : List Entry) (xs ys : List (List ℕ)) (old mid new : State) → Runs EntryTurn old cs xs mid → Runs EntryTurn mid ds ys new → Runs EntryTurn old (cs ++ ds) (xs ++ ys) new
+runs-append [] ds [] ys old mid new p q = subst (λ s. Runs EntryTurn s ds ys new) p q
 runs-append [] ds (x ∷ xs) ys old mid new p q = absurd p
 runs-append (c ∷ cs) ds [] ys old mid new p q = absurd p
 runs-append (c ∷ cs) ds (x ∷ xs) ys old mid new p q = (p.0, p.1, runs-append cs ds xs ys p.0 mid new p.2 q)
 
 pub served_nothing : (state : State) (held : Option (List ℕ)) (bytes : List ℕ) → Served state state held held bytes bytes
 served_nothing state held bytes = record {
-  commands = [];
+  entries = [];
   answers = [];
   bytes_are = refl;
   each = tt;
@@ -38,29 +38,29 @@ served_nothing state held bytes = record {
 
 pub served_then : (old mid new : State) (before between after : Option (List ℕ)) (bytes middle rest : List ℕ) → Served old mid before between bytes middle → Served mid new between after middle rest → Served old new before after bytes rest
 served_then old mid new before between after bytes middle rest p q = record {
-  commands = p.commands ++ q.commands;
+  entries = p.entries ++ q.entries;
   answers = p.answers ++ q.answers;
-  bytes_are = p.bytes_are ∙ ap (λ t. texts p.commands ++ t) q.bytes_are ∙ sym (append_assoc (texts p.commands) (texts q.commands) rest) ∙ ap (λ t. t ++ rest) (sym (texts-append p.commands q.commands));
-  each = all_whole-append p.commands q.commands p.each q.each;
-  run = runs-append p.commands q.commands p.answers q.answers old mid new p.run q.run;
+  bytes_are = p.bytes_are ∙ ap (λ t. texts p.entries ++ t) q.bytes_are ∙ sym (append_assoc (texts p.entries) (texts q.entries) rest) ∙ ap (λ t. t ++ rest) (sym (texts-append p.entries q.entries));
+  each = all_whole-append p.entries q.entries p.each q.each;
+  run = runs-append p.entries q.entries p.answers q.answers old mid new p.run q.run;
   written = subst (λ t. Appends before after t) (sym (joined-append p.answers q.answers)) (appends_then before between after (joined p.answers) (joined q.answers) p.written q.written);
 }
 
 -- more bytes come behind
 pub served_more : (old new : State) (before after : Option (List ℕ)) (bytes rest more : List ℕ) → Served old new before after bytes rest → Served old new before after (bytes ++ more) (rest ++ more)
 served_more old new before after bytes rest more p = record {
-  commands = p.commands;
+  entries = p.entries;
   answers = p.answers;
-  bytes_are = ap (λ t. t ++ more) p.bytes_are ∙ append_assoc (texts p.commands) rest more;
+  bytes_are = ap (λ t. t ++ more) p.bytes_are ∙ append_assoc (texts p.entries) rest more;
   each = p.each;
   run = p.run;
   written = p.written;
 }
 
 -- one turn, whose answer was written whole
-pub served_one : (old new : State) (before after : Option (List ℕ)) (bytes rest answer : List ℕ) (command : Entry) → bytes ≡ text_of command ++ rest → IsWhole command → Turn old command answer new → Appends before after answer → Served old new before after bytes rest
+pub served_one : (old new : State) (before after : Option (List ℕ)) (bytes rest answer : List ℕ) (command : Entry) → bytes ≡ text_of command ++ rest → IsWhole command → EntryTurn old command answer new → Appends before after answer → Served old new before after bytes rest
 served_one old new before after bytes rest answer command e w t h = record {
-  commands = command ∷ [];
+  entries = command ∷ [];
   answers = answer ∷ [];
   bytes_are = e ∙ ap (λ u. u ++ rest) (sym (append-nil (text_of command)));
   each = (w, tt);
@@ -69,11 +69,11 @@ served_one old new before after bytes rest answer command e w t h = record {
 }
 
 -- one turn, whose answer was not
-pub broke_one : (old new : State) (before after : Option (List ℕ)) (bytes rest answer : List ℕ) (command : Entry) → bytes ≡ text_of command ++ rest → IsWhole command → Turn old command answer new → AppendsPart before after answer → Broke old new before after bytes
+pub broke_one : (old new : State) (before after : Option (List ℕ)) (bytes rest answer : List ℕ) (command : Entry) → bytes ≡ text_of command ++ rest → IsWhole command → EntryTurn old command answer new → AppendsPart before after answer → Broke old new before after bytes
 broke_one old new before after bytes rest answer command e w t h = record {
-  commands = [];
+  entries = [];
   answers = [];
-  command = command;
+  entry = command;
   answer = answer;
   rest = rest;
   bytes_are = e ∙ ap (λ u. u ++ rest) (sym (append-nil (text_of command)));
@@ -86,19 +86,19 @@ broke_one old new before after bytes rest answer command e w t h = record {
 
 pub broke_then : (old mid new : State) (before between after : Option (List ℕ)) (bytes middle : List ℕ) → Served old mid before between bytes middle → Broke mid new between after middle → Broke old new before after bytes
 broke_then old mid new before between after bytes middle p q =
-    let all = q.commands ++ q.command ∷ [] in
+    let all = q.entries ++ q.entry ∷ [] in
     record {
-      commands = p.commands ++ q.commands;
+      entries = p.entries ++ q.entries;
       answers = p.answers ++ q.answers;
-      command = q.command;
+      entry = q.entry;
       answer = q.answer;
       rest = q.rest;
-      bytes_are = subst (λ t. bytes ≡ texts t ++ q.rest) (sym (append_assoc p.commands q.commands (q.command ∷ [])))
-          (p.bytes_are ∙ ap (λ t. texts p.commands ++ t) q.bytes_are ∙ sym (append_assoc (texts p.commands) (texts all) q.rest) ∙ ap (λ t. t ++ q.rest) (sym (texts-append p.commands all)));
-      each = subst AllWhole (sym (append_assoc p.commands q.commands (q.command ∷ []))) (all_whole-append p.commands all p.each q.each);
-      run = subst (λ t. Runs old t ((p.answers ++ q.answers) ++ q.answer ∷ []) new) (sym (append_assoc p.commands q.commands (q.command ∷ [])))
-          (subst (λ t. Runs old (p.commands ++ all) t new) (sym (append_assoc p.answers q.answers (q.answer ∷ [])))
-          (runs-append p.commands all p.answers (q.answers ++ q.answer ∷ []) old mid new p.run q.run));
+      bytes_are = subst (λ t. bytes ≡ texts t ++ q.rest) (sym (append_assoc p.entries q.entries (q.entry ∷ [])))
+          (p.bytes_are ∙ ap (λ t. texts p.entries ++ t) q.bytes_are ∙ sym (append_assoc (texts p.entries) (texts all) q.rest) ∙ ap (λ t. t ++ q.rest) (sym (texts-append p.entries all)));
+      each = subst AllWhole (sym (append_assoc p.entries q.entries (q.entry ∷ []))) (all_whole-append p.entries all p.each q.each);
+      run = subst (λ t. Runs EntryTurn old t ((p.answers ++ q.answers) ++ q.answer ∷ []) new) (sym (append_assoc p.entries q.entries (q.entry ∷ [])))
+          (subst (λ t. Runs EntryTurn old (p.entries ++ all) t new) (sym (append_assoc p.answers q.answers (q.answer ∷ [])))
+          (runs-append p.entries all p.answers (q.answers ++ q.answer ∷ []) old mid new p.run q.run));
       between = q.between;
       whole = subst (λ t. Appends before q.between t) (sym (joined-append p.answers q.answers)) (appends_then before between q.between (joined p.answers) (joined q.answers) p.written q.whole);
       part = q.part;

@@ -1,13 +1,16 @@
 -- What the bytes at hand begin with, case by case.
-use Rattle.std.proofs.Common.{◌≡◌, ℕ, ◌+◌, ◌-◌, ◌<◌, ◌≤◌, List, [], ◌∷◌, ◌++◌, length, get_or, take, drop, refl, sym, ◌∙◌, ap, subst, arith, None, Some, append_assoc, append-nil, length-append, take-append-drop, drop-drop}
+use Rattle.std.proofs.Common.{inl, ◌≡◌, ℕ, ◌+◌, ◌-◌, ◌<◌, ◌≤◌, List, [], ◌∷◌, ◌++◌, length, get_or, take, drop, refl, sym, ◌∙◌, ap, subst, arith, None, Some, append_assoc, append-nil, length-append, take-append-drop, drop-drop}
 use Rattle.std.proofs.lemmas.List.{drop_more, length-take-le, drop_all}
-use Rattle.dubp_node.specs.Entries.{Line, Frame, text_of, IsText, LF, longest_line, longest_frame}
-use Rattle.dubp_script.specs.Reading.{frame_len}
-use Rattle.dubp_node.proofs.Wholes.{whole_line, whole_frame}
-use Rattle.dubp_script.proofs.Frames.{heads_none_no_len, says_short}
+use Rattle.dubp_atoms.specs.Letters.{LF}
+use Rattle.dubp_validity.specs.Rules.{longest_block}
+use Rattle.dubp_node.specs.Entries.{Line, Frame, text_of, IsText, longest_line, HeadsFrame, IsBad}
+use Rattle.dubp_node.proofs.Wholes.{frame_len, whole_line, whole_frame, heads_len, len_heads, heads_none_no_len, heads_short}
 use Rattle.dubp_node.specs.Cut.{BeginsNone}
-use Rattle.dubp_node.specs.Reading.{InLongLine, InLongFrame, TakesOne}
-use Rattle.dubp_node.specs.declared.item.Item.TheVariants.{LongLine as LongLinePast, LongFrame as LongFramePast}
+use Rattle.dubp_replay.specs.declared.command.Command.{Command}
+use Rattle.dubp_replay.specs.BuiltTurns.{frame_of}
+use Rattle.dubp_script.proofs.Commands.{says_once}
+use Rattle.dubp_node.specs.Reading.{InLongLine, InLongFrame, TakesOne, IsCommandLine}
+use Rattle.dubp_node.specs.declared.item.Item.TheVariants.{Bad, LongFrame as LongFramePast}
 use Rattle.dubp_node.proofs.Cuts.{text_begins_none, part_begins_none, line_shape, frame_shape}
 
 -- a list at a place
@@ -20,13 +23,13 @@ is_text-append (x ∷ a) b p q = (p.0, is_text-append a b p.1 q)
 
 -- a long line heads no frame
 pub long_no_head : (text : List ℕ) → longest_line < length text → frame_len text ≡ None
-long_no_head text long = heads_none_no_len text (λ len says. omega (arith, says_short text len says))
+long_no_head text long = heads_none_no_len text (λ len h. omega (arith, heads_short text len h))
 
 -- a long frame
 pub long_frame_waits : (left : ℕ) (hand bytes : List ℕ) → length hand ≡ 0 → InLongFrame left hand bytes → BeginsNone bytes
 long_frame_waits left hand bytes none f =
     let short : length (f.gone ++ hand) ≤ f.len = omega (arith, length-append f.gone hand) in
-    subst BeginsNone (sym f.bytes_are) (part_begins_none f.head (f.gone ++ hand) f.len f.text f.len_is short)
+    subst BeginsNone (sym f.bytes_are) (part_begins_none f.head (f.gone ++ hand) f.len f.text (heads_len f.head f.len f.heads) short)
 
 pub long_frame_passes : (left : ℕ) (hand bytes : List ℕ) → length hand < left → InLongFrame left hand bytes → InLongFrame (left - length hand) (drop (length hand) hand) bytes
 long_frame_passes left hand bytes more f = record {
@@ -35,7 +38,7 @@ long_frame_passes left hand bytes more f = record {
   len = f.len;
   bytes_are = f.bytes_are ∙ ap (λ t. f.head ++ LF ∷ t) (sym (append-nil (f.gone ++ hand)) ∙ ap (λ t. (f.gone ++ hand) ++ t) (sym (drop_all (length hand) hand (omega arith))));
   text = f.text;
-  len_is = f.len_is;
+  heads = f.heads;
   long = f.long;
   left_is = omega (arith, length-append f.gone hand);
   some = omega arith;
@@ -49,6 +52,7 @@ long_frame_ends left hand bytes enough f =
     let payload = f.gone ++ take m hand in
     let last = get_or hand m 0 in
     let len : length payload ≡ f.len = omega (arith, length-append f.gone (take m hand), length-take-le m hand (omega arith)) in
+    let heads : HeadsFrame f.head (length payload) = subst (HeadsFrame f.head) (sym len) f.heads in
     record {
       command = Frame f.head payload last;
       bytes_are = f.bytes_are
@@ -56,8 +60,8 @@ long_frame_ends left hand bytes enough f =
           ∙ ap (λ t. f.head ++ LF ∷ t) (sym (append_assoc f.gone (take m hand) (last ∷ drop (m + 1) hand)))
           ∙ ap (λ n. f.head ++ LF ∷ (payload ++ last ∷ drop n hand)) (sym is)
           ∙ sym (frame_shape f.head payload (drop left hand) last);
-      whole = whole_frame f.head payload last f.text (f.len_is ∙ ap Some (sym len));
-      shows = (f.head, payload, refl, omega arith);
+      whole = (f.text, heads);
+      shows = (f.head, payload, refl, heads, omega arith);
     }
 
 -- a long line
@@ -72,7 +76,7 @@ long_line_passes hand bytes t f = record {
   long = omega (arith, length-append f.gone hand);
 }
 
-pub long_line_ends : (hand bytes : List ℕ) (i : ℕ) → IsText (take i hand) → hand ≡ take i hand ++ LF ∷ drop (i + 1) hand → InLongLine hand bytes → TakesOne bytes (drop (i + 1) hand) LongLinePast
+pub long_line_ends : (hand bytes : List ℕ) (i : ℕ) → IsText (take i hand) → hand ≡ take i hand ++ LF ∷ drop (i + 1) hand → InLongLine hand bytes → TakesOne bytes (drop (i + 1) hand) Bad
 long_line_ends hand bytes i t e f =
     let text = f.gone ++ take i hand in
     let long : longest_line < length text = omega (arith, length-append f.gone (take i hand)) in
@@ -80,7 +84,7 @@ long_line_ends hand bytes i t e f =
       command = Line text;
       bytes_are = f.bytes_are ∙ ap (λ u. f.gone ++ u) e ∙ sym (append_assoc f.gone (take i hand) (LF ∷ drop (i + 1) hand)) ∙ sym (line_shape text (drop (i + 1) hand));
       whole = whole_line text (is_text-append f.gone (take i hand) f.text t) (long_no_head text long);
-      shows = (text, refl, long);
+      shows = (text, refl, inl long);
     }
 
 -- from the start of a command
@@ -92,14 +96,14 @@ line_gets_long hand bytes t long e = record {
   long = long;
 }
 
-pub frame_gets_long : (hand bytes : List ℕ) (end len : ℕ) → IsText (take end hand) → hand ≡ take end hand ++ LF ∷ drop (end + 1) hand → frame_len (take end hand) ≡ Some len → longest_frame < len → bytes ≡ hand → InLongFrame (len + 1) (drop (end + 1) hand) bytes
+pub frame_gets_long : (hand bytes : List ℕ) (end len : ℕ) → IsText (take end hand) → hand ≡ take end hand ++ LF ∷ drop (end + 1) hand → HeadsFrame (take end hand) len → longest_block < len → bytes ≡ hand → InLongFrame (len + 1) (drop (end + 1) hand) bytes
 frame_gets_long hand bytes end len t e f long is = record {
   head = take end hand;
   gone = [];
   len = len;
   bytes_are = is ∙ e;
   text = t;
-  len_is = f;
+  heads = f;
   long = long;
   left_is = omega arith;
   some = omega arith;
@@ -117,3 +121,16 @@ frame_bytes hand bytes behind end len e b within is =
     is ∙ e ∙ ap (λ t. take end hand ++ LF ∷ t) (split_at behind len within)
     ∙ ap (λ t. take end hand ++ LF ∷ (take len behind ++ get_or behind len 0 ∷ t)) after
     ∙ sym (frame_shape (take end hand) (take len behind) (drop (end + len + 2) hand) (get_or behind len 0))
+
+-- what is known of a line that is a command
+pub line_heads : {text : List ℕ} {command : Command} {len : ℕ} → IsCommandLine text command (Some len) → HeadsFrame text len
+line_heads {command = command} line = record { command = command; says = line.says; frame_is = line.frame_is }
+
+pub line_short : {text : List ℕ} {command : Command} {len : ℕ} → IsCommandLine text command (Some len) → length text ≤ 22
+line_short {text = text} {len = len} line = heads_short text len (line_heads line)
+
+pub line_heads_none : {text : List ℕ} {command : Command} → IsCommandLine text command None → (len : ℕ) → HeadsFrame text len → ⊥
+line_heads_none {text = text} {command = command} line len h =
+    let same : command ≡ h.command = says_once text command h.command line.says h.says in
+    let differ : None ≡ Some len = sym line.frame_is ∙ ap frame_of same ∙ h.frame_is in
+    cc

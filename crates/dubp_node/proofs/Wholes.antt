@@ -1,8 +1,44 @@
 -- Whole entries, by the length that a line gives its frame.
-use Rattle.std.proofs.Common.{◌≡◌, ℕ, List, length, None, Some}
-use Rattle.dubp_script.specs.Reading.{frame_len}
-use Rattle.dubp_script.proofs.Frames.{heads_len, len_heads, no_len_heads_none, heads_none_no_len}
-use Rattle.dubp_node.specs.Entries.{Line, Frame, IsWhole, IsText}
+use Rattle.std.proofs.Common.{inl, inr, ◌≡◌, ℕ, ◌^◌, ◌<◌, ◌≤◌, List, length, Option, None, Some, refl, sym, ap, ◌∙◌, arith, decimal, length-append}
+use Rattle.std.specs.Prelude.{codes}
+use Rattle.std.proofs.lemmas.Fmt.{length-decimal-le}
+use Rattle.dubp_replay.specs.declared.command.Command.{Command}
+use Rattle.dubp_replay.specs.declared.command.Command.TheVariants as command
+use Rattle.dubp_replay.specs.BuiltTurns.{frame_of}
+use Rattle.dubp_script.specs.Spelling.{Says}
+use Rattle.dubp_script.specs.Reading.{command_of}
+use Rattle.dubp_script.proofs.Commands.{command_says, says_command}
+use Rattle.dubp_node.specs.Entries.{Line, Frame, IsWhole, IsText, IsBad, HeadsFrame, longest_line}
+
+-- how many raw bytes stand behind the line, where it heads a frame
+abbrev pub len_of : Option Command → Option ℕ
+len_of (Some c) = frame_of c
+len_of None = None
+
+unfoldable pub frame_len : List ℕ → Option ℕ
+frame_len line = len_of (command_of line)
+
+pub heads_len : (line : List ℕ) (len : ℕ) → HeadsFrame line len → frame_len line ≡ Some len
+unfolding frame_len
+heads_len line len h = ap len_of (says_command line h.command h.says) ∙ h.frame_is
+
+heads_by : (line : List ℕ) (len : ℕ) (o : Option Command) → command_of line ≡ o → len_of o ≡ Some len → HeadsFrame line len
+heads_by line len (Some c) e f = record { command = c; says = command_says line c e; frame_is = f }
+heads_by line len None e f = absurd cc
+
+pub len_heads : (line : List ℕ) (len : ℕ) → frame_len line ≡ Some len → HeadsFrame line len
+unfolding frame_len
+len_heads line len e = heads_by line len (command_of line) refl e
+
+none_by : (line : List ℕ) (o : Option ℕ) → frame_len line ≡ o → ((len : ℕ) → HeadsFrame line len → ⊥) → o ≡ None
+none_by line None e h = refl
+none_by line (Some len) e h = absurd (h len (len_heads line len e))
+
+pub heads_none_no_len : (line : List ℕ) → ((len : ℕ) → HeadsFrame line len → ⊥) → frame_len line ≡ None
+heads_none_no_len line h = none_by line (frame_len line) refl h
+
+pub no_len_heads_none : (line : List ℕ) → frame_len line ≡ None → (len : ℕ) → HeadsFrame line len → ⊥
+no_len_heads_none line e len h = let differ : None ≡ Some len = sym e ∙ heads_len line len h in cc
 
 pub line_no_len : (text : List ℕ) → IsWhole (Line text) → frame_len text ≡ None
 line_no_len text w = heads_none_no_len text w.1
@@ -15,3 +51,22 @@ frame_has_len head payload last w = heads_len head (length payload) w.1
 
 pub whole_frame : (head payload : List ℕ) (last : ℕ) → IsText head → frame_len head ≡ Some (length payload) → IsWhole (Frame head payload last)
 whole_frame head payload last t f = (t, len_heads head (length payload) f)
+
+-- a line that heads a frame is short
+short_by : (line : List ℕ) (len : ℕ) (c : Command) → Says line c → frame_of c ≡ Some len → length line ≤ 22
+short_by line len (command.Block n) says e =
+    omega (arith, ap length says.text, length-append (codes "BLOCK ") (decimal n), length-decimal-le 16 n (omega arith) (omega (arith, says.is)) (omega (arith, says.is)))
+short_by line len (command.Verdict key hash sig) says e = absurd cc
+short_by line len (command.Revert count) says e = absurd cc
+short_by line len (command.Offer n) says e = absurd cc
+short_by line len (command.Switch stamp) says e = absurd cc
+short_by line len (command.Forget stamp) says e = absurd cc
+short_by line len (command.Ask q) says e = absurd cc
+
+pub heads_short : (line : List ℕ) (len : ℕ) → HeadsFrame line len → length line ≤ 22
+heads_short line len h = short_by line len h.command h.says h.frame_is
+
+-- what is no command, or too long, heads none
+pub bad_no_len : (line : List ℕ) → IsBad line → frame_len line ≡ None
+bad_no_len line bad =
+    heads_none_no_len line (λ len h. elim bad [ inl long ↦ omega (arith, heads_short line len h) | inr none ↦ none h.command h.says ])

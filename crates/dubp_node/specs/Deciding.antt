@@ -1,16 +1,15 @@
 -- What the parts of a turn ensure.
-use Rattle.std.specs.Prelude.{◌⊎◌, ℕ, ◌<◌, ◌≤◌, List, codes, Option, Result, Ok, Err}
+use Rattle.std.specs.Prelude.{◌⊎◌, ℕ, List, Option, Result, Ok, Err}
 use Rattle.dubp_atoms.specs.declared.stamp.Stamp.{Stamp}
 use Rattle.dubp_block.specs.declared.block.Block.{Block}
 use Rattle.dubp_rules.specs.declared.rule.Rule.{Rule}
+use Rattle.dubp_rules.specs.Table.{code_text}
 use Rattle.dubp_replay.specs.Answers.{accepted_answer, no_memory_answer, refused_answer}
 use Rattle.dubp_replay.specs.BuiltRules.{FirstRead}
-use Rattle.dubp_replay.specs.BuiltTurns.{BuiltBlockTurn, Decides}
+use Rattle.dubp_replay.specs.BuiltTurns.{Decides, Submitted, NotBuilt}
 use Rattle.dubp_replay.specs.Turns.{State, Only}
-use Rattle.dubp_rules.specs.Table.{code_text}
 use Rattle.dubp_ledger.specs.declared.refusal.SubmitRefusal.{SubmitRefusal}
 use Rattle.dubp_ledger.specs.declared.refusal.SubmitRefusal.TheVariants.{Refused, NoMemory}
-use Rattle.dubp_node.specs.Entries.{longest_frame}
 
 -- the block joins the chain or breaks a rule, or memory ran out
 pub record Decision (old : State) (b : Block) (answer : List ℕ) (new : State) : Type 0 where
@@ -27,8 +26,7 @@ outcome_text (Ok stamp) = accepted_answer stamp
 outcome_text (Err (Refused rule block)) = refused_answer (code_text rule)
 outcome_text (Err (NoMemory block)) = no_memory_answer
 
--- the turn of BLOCK, or memory ran out
-abbrev pub BlockActs : State → ℕ → List ℕ → List ℕ → State → Type 0
-BlockActs old len frame answer new =
-    (((longest_frame < len) × Only (refused_answer (codes "X01")) old answer new) ⊎ ((len ≤ longest_frame) × BuiltBlockTurn old frame answer new))
-    ⊎ ((len ≤ longest_frame) × Only no_memory_answer old answer new)
+-- BLOCK with these raw bytes, which are not too many, or memory ran out
+abbrev pub ShortBlockActs : State → List ℕ → List ℕ → State → Type 0
+ShortBlockActs old frame answer new =
+    (Submitted old frame answer new ⊎ NotBuilt old frame answer new) ⊎ Only no_memory_answer old answer new

@@ -1,31 +1,31 @@
--- How a conversation ends.
-use Rattle.std.specs.Prelude.{◌≡◌, ℕ, true, false, List, ◌++◌, Option}
+-- How a session ends.
+use Rattle.std.specs.Prelude.{◌≡◌, ◌⊎◌, ℕ, List, ◌++◌, Option}
+use Rattle.dubp_outside.specs.Causes.{Rose}
 use Rattle.dubp_replay.specs.Turns.{State}
 use Rattle.dubp_node.specs.Cut.{lacking}
 use Rattle.dubp_node.specs.Session.{Broke}
 use Rattle.dubp_node.specs.Serving.{Finished}
-use Rattle.dubp_node.specs.Run.{AnsweredSome, AnsweredMost, AnsweredToEnd, BrokeOff}
+use Rattle.dubp_node.specs.Run.{Situation, AnsweredSome, AnsweredMost, AnsweredToEnd, BrokeOff}
 use Rattle.dubp_node.specs.declared.run.Ending.{Ending}
-use Rattle.dubp_node.specs.declared.run.Ending.TheVariants.{Boundary, InsideFrame, ReadFault, WriteFault, TooMuch}
+use Rattle.dubp_node.specs.declared.run.Ending.TheVariants.{Ended, ReadFault, WriteFault, TooMuch}
 
 -- what stands after each ending
-abbrev pub Ends : State → State → Option (List ℕ) → Option (List ℕ) → Option (List ℕ) → Option (List ℕ) → Ending → Type 0
-Ends old new left_before left_after held_before held_after Boundary = AnsweredToEnd old new left_before left_after held_before held_after true
-Ends old new left_before left_after held_before held_after InsideFrame = AnsweredToEnd old new left_before left_after held_before held_after false
-Ends old new left_before left_after held_before held_after ReadFault = AnsweredSome old new left_before left_after held_before held_after
-Ends old new left_before left_after held_before held_after WriteFault = BrokeOff old new left_before left_after held_before held_after
-Ends old new left_before left_after held_before held_after TooMuch = AnsweredMost old new left_before left_after held_before held_after
+abbrev pub Ends : Situation → Situation → Ending → Type 0
+Ends old new (Ended end) = AnsweredToEnd end old new
+Ends old new ReadFault = AnsweredSome old new
+Ends old new WriteFault = BrokeOff old new
+Ends old new TooMuch = AnsweredMost old new
+
+-- which counts of faults rose: that of the source, from the first to the second, and that of the sink
+abbrev pub Faults : ℕ → ℕ → ℕ → ℕ → Ending → Type 0
+Faults source source' sink sink' (Ended end) = (source' ≡ source) × (sink' ≡ sink)
+Faults source source' sink sink' ReadFault = Rose source source' × (sink' ≡ sink)
+Faults source source' sink sink' WriteFault = (source' ≡ source) × Rose sink sink'
+Faults source source' sink sink' TooMuch = (source' ≡ source) × (sink' ≡ sink)
 
 -- what the last line, of these bytes, leaves
 abbrev pub LastEnds : State → State → Option (List ℕ) → Option (List ℕ) → List ℕ → Ending → Type 0
-LastEnds old new held_before held_after bytes Boundary = Finished old new held_before held_after bytes true
-LastEnds old new held_before held_after bytes InsideFrame = Finished old new held_before held_after bytes false
+LastEnds old new held_before held_after bytes (Ended end) = Finished old new held_before held_after bytes end
 LastEnds old new held_before held_after bytes ReadFault = ⊥
 LastEnds old new held_before held_after bytes WriteFault = Broke old new held_before held_after (bytes ++ lacking bytes)
 LastEnds old new held_before held_after bytes TooMuch = ⊥
-
--- nothing was read or written, and the node is as before
-pub record Untouched (old new : State) (left_before left_after held_before held_after : Option (List ℕ)) : Type 0 where
-  pub node : new ≡ old
-  pub left : left_after ≡ left_before
-  pub held : held_after ≡ held_before

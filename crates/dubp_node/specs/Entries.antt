@@ -1,28 +1,26 @@
--- The entries of the input, by the bytes that they take there: lines, and frames behind the lines that head them.
--- Protocol: the input.
-use Rattle.std.specs.Prelude.{◌≢◌, ℕ, List, [], ◌∷◌, ◌++◌, length}
-use Rattle.dubp_script.specs.declared.command.Command.TheVariants.{Block}
+-- The entries of the input, by the bytes that they take there: lines, and frames behind the lines that head them; and which command
+-- an entry is. Protocol: the input.
+use Rattle.std.specs.Prelude.{◌≡◌, ◌≢◌, ◌⊎◌, ℕ, ◌<◌, ◌≤◌, List, [], ◌∷◌, ◌++◌, length, Option, Some, None}
+use Rattle.dubp_atoms.specs.Letters.{LF}
+use Rattle.dubp_replay.specs.declared.command.Command.{Command}
+use Rattle.dubp_replay.specs.BuiltTurns.{frame_of}
+use Rattle.dubp_replay.specs.Turns.{Asked}
 use Rattle.dubp_script.specs.Spelling.{Says}
 
--- the longest line that is read, and the longest frame
+-- the longest line that is read
 abbrev pub longest_line : ℕ
 longest_line = 4096
-
-abbrev pub longest_frame : ℕ
-longest_frame = 1048576
-
--- the byte behind a line
-abbrev pub LF : ℕ
-LF = 10
 
 -- bytes that stand on one line
 abbrev pub IsText : List ℕ → Type 0
 IsText [] = Unit {0}
 IsText (b ∷ bs) = (b ≢ LF) × IsText bs
 
--- the line is BLOCK and this number of raw bytes
-abbrev pub HeadsFrame : List ℕ → ℕ → Type 0
-HeadsFrame line len = Says line (Block len)
+-- the line is a command, behind which so many raw bytes stand
+pub record HeadsFrame (line : List ℕ) (len : ℕ) : Type 0 where
+  pub command : Command
+  pub says : Says line command
+  pub frame_is : frame_of command ≡ Some len
 
 -- a line, or a line that heads a frame with its raw bytes and the one byte behind them
 pub data Entry : Type 0 where
@@ -41,3 +39,15 @@ IsWhole (Frame head payload last) = IsText head × HeadsFrame head (length paylo
 abbrev pub AllWhole : List Entry → Type 0
 AllWhole [] = Unit {0}
 AllWhole (entry ∷ entries) = IsWhole entry × AllWhole entries
+
+-- the line is longer than lines are read, or no command
+abbrev pub IsBad : List ℕ → Type 0
+IsBad line = (longest_line < length line) ⊎ ((command : Command) → Says line command → ⊥)
+
+-- What an entry is: a command with the raw bytes of its frame, or none. A line that is too long is none, and a frame whose last byte
+-- is not LF.
+abbrev pub Means : Entry → Asked → Type 0
+Means (Line text) None = IsBad text
+Means (Line text) (Some (command, frame)) = (length text ≤ longest_line) × Says text command × (frame ≡ [])
+Means (Frame head payload last) None = last ≢ LF
+Means (Frame head payload last) (Some (command, frame)) = (last ≡ LF) × Says head command × (frame ≡ payload)

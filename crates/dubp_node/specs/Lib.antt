@@ -6,6 +6,6 @@ pub mod Deciding
 pub mod Session
 pub mod Serving
 pub mod Run
-pub mod Words
 pub mod Ends
 pub mod Reading
+pub mod Statuses

@@ -1,14 +1,31 @@
 -- What the bytes at hand are of the bytes of the input.
-use Rattle.std.specs.Prelude.{◌≡◌, ℕ, ◌+◌, ◌<◌, ◌≤◌, List, ◌∷◌, ◌++◌, length, drop, Some}
-use Rattle.dubp_node.specs.Entries.{Entry, Line, Frame, text_of, IsWhole, IsText, LF, longest_line, longest_frame}
-use Rattle.dubp_script.specs.Reading.{frame_len}
+use Rattle.std.specs.Prelude.{◌≡◌, ◌≢◌, ℕ, ◌+◌, ◌<◌, ◌≤◌, List, ◌∷◌, ◌++◌, length, drop, Option, Some, None}
+use Rattle.dubp_atoms.specs.Letters.{LF}
+use Rattle.dubp_validity.specs.Rules.{longest_block}
+use Rattle.dubp_replay.specs.declared.command.Command.{Command}
+use Rattle.dubp_replay.specs.BuiltTurns.{frame_of}
+use Rattle.dubp_script.specs.Spelling.{Says}
+use Rattle.dubp_node.specs.Entries.{Entry, Line, Frame, text_of, IsWhole, IsText, IsBad, HeadsFrame, longest_line}
 use Rattle.dubp_node.specs.Cut.{BeginsNone}
 use Rattle.dubp_node.specs.declared.item.Item.{Item}
-use Rattle.dubp_node.specs.declared.item.Item.TheVariants.{Line as LineAtHand, LongLine as LongLinePast, Frame as FrameAtHand, LongFrame as LongFramePast}
+use Rattle.dubp_node.specs.declared.item.Item.TheVariants as item
+use Rattle.dubp_node.specs.declared.item.LineKind.{LineKind}
+use Rattle.dubp_node.specs.declared.item.LineKind.TheVariants as kind
 use Rattle.dubp_node.specs.declared.reading.Phase.{Phase}
 use Rattle.dubp_node.specs.declared.reading.Phase.TheVariants.{Start, LongLine, LongFrame}
 use Rattle.dubp_node.specs.declared.reading.Found.{Found}
 use Rattle.dubp_node.specs.declared.reading.Found.TheVariants.{Got, Pass, Wait}
+
+-- the line is this command, and so many raw bytes stand behind it
+pub record IsCommandLine (text : List ℕ) (command : Command) (frame : Option ℕ) : Type 0 where
+  pub fits : length text ≤ longest_line
+  pub says : Says text command
+  pub frame_is : frame_of command ≡ frame
+
+abbrev pub IsKind : List ℕ → LineKind → Type 0
+IsKind text kind.Bad = IsBad text
+IsKind text (kind.Asks command) = IsCommandLine text command None
+IsKind text (kind.Heads command len) = IsCommandLine text command (Some len)
 
 -- the bytes are a part of a line that is too long, of which the last are at hand
 pub record InLongLine (hand bytes : List ℕ) : Type 0 where
@@ -24,8 +41,8 @@ pub record InLongFrame (left : ℕ) (hand bytes : List ℕ) : Type 0 where
   pub len : ℕ
   pub bytes_are : bytes ≡ head ++ LF ∷ (gone ++ hand)
   pub text : IsText head
-  pub len_is : frame_len head ≡ Some len
-  pub long : longest_frame < len
+  pub heads : HeadsFrame head len
+  pub long : longest_block < len
   pub left_is : length gone + left ≡ len + 1
   pub some : 0 < left
 
@@ -34,27 +51,32 @@ Stands Start hand bytes = bytes ≡ hand
 Stands LongLine hand bytes = InLongLine hand bytes
 Stands (LongFrame left) hand bytes = InLongFrame left hand bytes
 
--- what is at hand of a command, or was read past, is of this command
-abbrev pub Shows : Item → Entry → Type 0
-Shows (LineAtHand text) command = command ≡ Line text.now
-Shows LongLinePast command = (text : List ℕ) × (command ≡ Line text) × (longest_line < length text)
-Shows (FrameAtHand payload last) command = (head : List ℕ) × (command ≡ Frame head payload.now last)
-Shows (LongFramePast last) command = (head : List ℕ) × (payload : List ℕ) × (command ≡ Frame head payload last) × (longest_frame < length payload)
+-- the frame of this command has these raw bytes
+pub record IsFramed (command : Command) (head payload : List ℕ) : Type 0 where
+  pub says : Says head command
+  pub frame_is : frame_of command ≡ Some (length payload)
 
--- the bytes begin with the command that the item shows
+-- what is at hand of an entry, or was read past, is of this entry
+abbrev pub Shows : Item → Entry → Type 0
+Shows item.Bad entry = (text : List ℕ) × (entry ≡ Line text) × IsBad text
+Shows (item.Asked command) entry = (text : List ℕ) × (entry ≡ Line text) × IsCommandLine text command None
+Shows (item.Frame command payload last) entry = (head : List ℕ) × (entry ≡ Frame head payload.now last) × IsFramed command head payload.now × (length payload.now ≤ longest_block)
+Shows (item.LongFrame last) entry = (head : List ℕ) × (payload : List ℕ) × (entry ≡ Frame head payload last) × HeadsFrame head (length payload) × (longest_block < length payload)
+
+-- the bytes begin with the entry that the item shows
 pub record TakesOne (bytes rest : List ℕ) (item : Item) : Type 0 where
   pub command : Entry
   pub bytes_are : bytes ≡ text_of command ++ rest
   pub whole : IsWhole command
   pub shows : Shows item command
 
--- no more than this is kept at hand
-abbrev pub most_kept : ℕ
-most_kept = 1048600
+-- no more than this is kept at hand: the longest frame with the line that heads it
+abbrev pub most_at_hand : ℕ
+most_at_hand = 1048600
 
 abbrev pub Takes : Phase → List ℕ → Found → Type 0
 Takes phase hand (Got used item) =
     (0 < used) × (used ≤ length hand) × ((bytes : List ℕ) → Stands phase hand bytes → TakesOne bytes (drop used hand) item)
 Takes phase hand (Pass used next) =
     (0 < used) × (used ≤ length hand) × ((bytes : List ℕ) → Stands phase hand bytes → Stands next (drop used hand) bytes)
-Takes phase hand Wait = (length hand ≤ most_kept) × ((bytes : List ℕ) → Stands phase hand bytes → BeginsNone bytes)
+Takes phase hand Wait = (length hand ≤ most_at_hand) × ((bytes : List ℕ) → Stands phase hand bytes → BeginsNone bytes)

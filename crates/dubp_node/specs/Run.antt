@@ -1,75 +1,106 @@
 -- What a run has done, at each of its ends.
-use Rattle.std.specs.Prelude.{◌≡◌, ◌⊎◌, ℕ, ◌<◌, ◌^◌, Bool, true, false, List, [], ◌∷◌, ◌++◌, length, Option}
+use Rattle.std.specs.Prelude.{◌≡◌, ◌⊎◌, ℕ, ◌<◌, ◌≤◌, ◌^◌, List, [], ◌∷◌, ◌++◌, length, Option, codes}
 use Rattle.std.specs.Io.KnownBytes.{Appends, Consumes, IsAtEnd}
-use Rattle.dubp_replay.specs.Turns.{State}
+use Rattle.std.specs.Borrow.{Bor}
+use Rattle.dubp_replay.specs.Turns.{State, Runs}
 use Rattle.dubp_node.specs.Entries.{Entry}
 use Rattle.dubp_node.specs.Cut.{Cut, CutAtEnd, BeginsNone, lacking}
-use Rattle.dubp_node.specs.Turns.{Runs, joined}
+use Rattle.dubp_node.specs.Turns.{EntryTurn, joined}
 use Rattle.dubp_node.specs.Session.{Served}
 use Rattle.dubp_node.specs.Reading.{Stands}
 use Rattle.dubp_node.specs.declared.reading.Phase.{Phase}
+use Rattle.dubp_node.specs.declared.serving.InputEnd.{InputEnd}
+use Rattle.dubp_node.specs.declared.serving.InputEnd.TheVariants.{OnBoundary, InsideFrame}
+
+-- the one word of the command line is run
+abbrev pub IsRun : List (Bor (List ℕ)) → Type 0
+IsRun (word ∷ []) = word.now ≡ codes "run"
+IsRun _ = ⊥
+
+-- what a run changes: the state of the node, what the source has left, and what the sink holds, where they tell it
+pub record Situation : Type 0 where
+  pub state : State
+  pub left : Option (List ℕ)
+  pub held : Option (List ℕ)
+
+abbrev pub at : State → Option (List ℕ) → Option (List ℕ) → Situation
+at state left held = record { state = state; left = left; held = held }
 
 -- the most bytes that a run takes
 abbrev pub most_taken : ℕ
 most_taken = 2 ^ 40
 
--- Every whole command of the bytes that were taken was answered, the answers were written, and the node is in the state
+-- Every whole entry of the bytes that were taken was answered, the answers were written, and the node is in the state
 -- after them.
-pub record AnsweredAll (old new : State) (left_before left_after held_before held_after : Option (List ℕ)) : Type 0 where
+pub record AnsweredAll (old new : Situation) : Type 0 where
   pub taken : List ℕ
-  pub takes : Consumes left_before left_after taken
-  pub commands : List Entry
+  pub takes : Consumes old.left new.left taken
+  pub entries : List Entry
   pub answers : List (List ℕ)
   pub rest : List ℕ
-  pub cut : Cut taken commands rest
-  pub run : Runs old commands answers new
-  pub written : Appends held_before held_after (joined answers)
+  pub cut : Cut taken entries rest
+  pub run : Runs EntryTurn old.state entries answers new.state
+  pub written : Appends old.held new.held (joined answers)
 
 -- The same, and more bytes might be taken.
-pub record AnsweredSome (old new : State) (left_before left_after held_before held_after : Option (List ℕ)) : Type 0 where
-  pub answered : AnsweredAll old new left_before left_after held_before held_after
+pub record AnsweredSome (old new : Situation) : Type 0 where
+  pub answered : AnsweredAll old new
   pub fewer : length answered.taken < most_taken
 
 -- The same, and no more bytes may be taken.
-pub record AnsweredMost (old new : State) (left_before left_after held_before held_after : Option (List ℕ)) : Type 0 where
-  pub answered : AnsweredAll old new left_before left_after held_before held_after
+pub record AnsweredMost (old new : Situation) : Type 0 where
+  pub answered : AnsweredAll old new
   pub most : length answered.taken ≡ most_taken
 
--- The same where the input ended, on the boundary of a command or inside a frame.
-pub record AnsweredToEnd (old new : State) (left_before left_after held_before held_after : Option (List ℕ)) (at_boundary : Bool) : Type 0 where
+-- what is left over where the input ends
+abbrev pub IsLeftOver : InputEnd → List ℕ → Type 0
+IsLeftOver OnBoundary rest = rest ≡ []
+IsLeftOver InsideFrame rest = 0 < length rest
+
+-- The same where the input ended, on the boundary of an entry or inside a frame.
+pub record AnsweredToEnd (end : InputEnd) (old new : Situation) : Type 0 where
   pub taken : List ℕ
-  pub takes : Consumes left_before left_after taken
-  pub ended : IsAtEnd left_after
+  pub takes : Consumes old.left new.left taken
+  pub ended : IsAtEnd new.left
   pub fewer : length taken < most_taken
-  pub commands : List Entry
+  pub entries : List Entry
   pub answers : List (List ℕ)
   pub rest : List ℕ
-  pub cut : CutAtEnd taken commands rest
-  pub boundary : at_boundary ≡ true → rest ≡ []
-  pub inside : at_boundary ≡ false → 0 < length rest
-  pub run : Runs old commands answers new
-  pub written : Appends held_before held_after (joined answers)
+  pub cut : CutAtEnd taken entries rest
+  pub over : IsLeftOver end rest
+  pub run : Runs EntryTurn old.state entries answers new.state
+  pub written : Appends old.held new.held (joined answers)
 
--- The commands in order were answered up to one whose answer was not written whole, and the node is in the state after
+-- the LF that the last line lacks is added only where the input has ended and more bytes might have been taken
+pub record Closes (taken closing : List ℕ) (new : Situation) : Type 0 where
+  pub ended : IsAtEnd new.left
+  pub fewer : length taken < most_taken
+  pub before : List Entry
+  pub tail : List ℕ
+  pub cut : Cut taken before tail
+  pub lacks : closing ≡ lacking tail
+
+-- The entries in order were answered up to one whose answer was not written whole, and the node is in the state after
 -- that one. The bytes are those that were taken, or, where the input ended, those and the LF that they lack.
-pub record BrokeOff (old new : State) (left_before left_after held_before held_after : Option (List ℕ)) : Type 0 where
+pub record BrokeOff (old new : Situation) : Type 0 where
   pub taken : List ℕ
-  pub takes : Consumes left_before left_after taken
+  pub takes : Consumes old.left new.left taken
+  pub most : length taken ≤ most_taken
   pub closing : List ℕ
-  pub closes : (closing ≡ []) ⊎ (IsAtEnd left_after × ((before : List Entry) × (tail : List ℕ) × Cut taken before tail × (closing ≡ lacking tail)))
-  pub commands : List Entry
+  pub closes : (closing ≡ []) ⊎ Closes taken closing new
+  pub entries : List Entry
   pub answers : List (List ℕ)
-  pub command : Entry
+  pub entry : Entry
   pub answer : List ℕ
   pub others : List Entry
   pub rest : List ℕ
-  pub cut : Cut (taken ++ closing) ((commands ++ command ∷ []) ++ others) rest
-  pub run : Runs old (commands ++ command ∷ []) (answers ++ answer ∷ []) new
+  pub cut : Cut (taken ++ closing) ((entries ++ entry ∷ []) ++ others) rest
+  pub run : Runs EntryTurn old.state (entries ++ entry ∷ []) (answers ++ answer ∷ []) new.state
   pub front : List ℕ
   pub back : List ℕ
   pub answer_is : answer ≡ front ++ back
-  pub lacks : 0 < length back
-  pub written : Appends held_before held_after (joined answers ++ front)
+  pub some : 0 < length back
+  pub written : Appends old.held new.held (joined answers ++ front)
 
 -- so far: what was taken, and what of it is at hand
 pub record SoFar (old new : State) (left_before left_after held_before held_after : Option (List ℕ)) (count : ℕ) (phase : Phase) (hand : List ℕ) : Type 0 where

@@ -1,25 +1,27 @@
 -- What the calls that answer commands ensure.
-use Rattle.std.specs.Prelude.{◌≡◌, ℕ, ◌<◌, Bool, true, false, List, [], ◌++◌, length, Option}
+use Rattle.std.specs.Prelude.{◌≡◌, ℕ, ◌<◌, List, [], ◌++◌, length, Option}
 use Rattle.std.specs.Io.KnownBytes.{Appends}
 use Rattle.dubp_outside.specs.Parts.{AppendsPart}
 use Rattle.dubp_replay.specs.Turns.{State}
 use Rattle.dubp_node.specs.Entries.{Entry, IsWhole}
 use Rattle.dubp_node.specs.Cut.{BeginsNone, lacking}
-use Rattle.dubp_node.specs.Turns.{Turn}
+use Rattle.dubp_node.specs.Turns.{EntryTurn}
 use Rattle.dubp_node.specs.Session.{Served}
 use Rattle.dubp_node.specs.Reading.{Shows, Stands}
+use Rattle.dubp_node.specs.Run.{IsLeftOver}
 use Rattle.dubp_node.specs.declared.item.Item.{Item}
+use Rattle.dubp_node.specs.declared.serving.InputEnd.{InputEnd}
 use Rattle.dubp_node.specs.declared.reading.Phase.{Phase}
 
 -- the command that the item shows took its turn, and its answer was written
 abbrev pub TurnWritten : State → State → Option (List ℕ) → Option (List ℕ) → Item → Type 0
 TurnWritten old new before after item =
-    (entry : Entry) → IsWhole entry → Shows item entry → (answer : List ℕ) × Turn old entry answer new × Appends before after answer
+    (entry : Entry) → IsWhole entry → Shows item entry → (answer : List ℕ) × EntryTurn old entry answer new × Appends before after answer
 
 -- the same, and a part of its answer was written
 abbrev pub TurnBroke : State → State → Option (List ℕ) → Option (List ℕ) → Item → Type 0
 TurnBroke old new before after item =
-    (entry : Entry) → IsWhole entry → Shows item entry → (answer : List ℕ) × Turn old entry answer new × AppendsPart before after answer
+    (entry : Entry) → IsWhole entry → Shows item entry → (answer : List ℕ) × EntryTurn old entry answer new × AppendsPart before after answer
 
 -- The commands that begin these bytes were answered as far as the bytes at hand go on from there.
 pub record ServedTo (old new : State) (before after : Option (List ℕ)) (bytes : List ℕ) (phase : Phase) (hand : List ℕ) : Type 0 where
@@ -35,9 +37,8 @@ pub record ServedAll (old new : State) (before after : Option (List ℕ)) (bytes
   pub no_more : BeginsNone rest
 
 -- The last command was answered, where the input ended behind these bytes, of which no whole command is the first.
-pub record Finished (old new : State) (before after : Option (List ℕ)) (bytes : List ℕ) (at_boundary : Bool) : Type 0 where
+pub record Finished (old new : State) (before after : Option (List ℕ)) (bytes : List ℕ) (end : InputEnd) : Type 0 where
   pub rest : List ℕ
   pub served : Served old new before after (bytes ++ lacking bytes) rest
   pub no_more : BeginsNone rest
-  pub boundary : at_boundary ≡ true → rest ≡ []
-  pub inside : at_boundary ≡ false → 0 < length rest
+  pub over : IsLeftOver end rest

@@ -3,7 +3,7 @@
 //! `run` is the whole program over any source and sink. `main` gives it the standard streams.
 #![tactic(auto)]
 
-mod hand;
+mod buffer;
 mod item;
 mod laws;
 mod node;
@@ -16,17 +16,11 @@ mod tests;
 use dubp_outside::{ReadSource, WriteSink};
 pub use laws::cutting;
 pub use node::Node;
-pub use run::{Ending, converse, run as run_program};
+pub use run::{NO_ROOM, USAGE, run as run_program};
 use std::alloc::{AllocError, Global};
 use std::env;
 use std::io::ErrorKind;
 use std::process::ExitCode;
-
-/// The status where there is no room for the words.
-const NO_MEMORY: u8 = 6;
-
-/// The status where the words have no form of the program's.
-const USAGE: u8 = 2;
 
 fn main(rt: HostRuntime) -> ExitCode {
     ExitCode::from(status(&rt))
@@ -39,10 +33,10 @@ fn status(rt: &HostRuntime) -> u8 {
         Err(error) => return status_of(error.kind()),
     };
     let Ok(args) = args.skip(1).collect::<Vec<String>>(rt.alloc()) else {
-        return NO_MEMORY;
+        return NO_ROOM;
     };
     let Ok(words) = words(rt.alloc(), &args) else {
-        return NO_MEMORY;
+        return NO_ROOM;
     };
     let mut source = ReadSource::new(rt.stdin());
     let mut sink = WriteSink::new(rt.stdout());
@@ -59,7 +53,7 @@ fn status(rt: &HostRuntime) -> u8 {
 // Words that are no text have no form of the program's.
 fn status_of(kind: ErrorKind) -> u8 {
     match kind {
-        ErrorKind::OutOfMemory => NO_MEMORY,
+        ErrorKind::OutOfMemory => NO_ROOM,
         _ => USAGE,
     }
 }

@@ -3,23 +3,25 @@ ghost use Rattle.dubp_node.specs.Turns.{Acts};
 ghost use Rattle.dubp_query.specs.AnswerBytes.{answer_bytes};
 ghost use Rattle.dubp_replay.specs.Answers.{accepted_answer, bad_answer, no_memory_answer, refused_answer};
 ghost use Rattle.dubp_block.specs.Text.{IsBuilt};
-ghost use Rattle.dubp_node.specs.Deciding.{BlockActs, Decided, outcome_text};
+ghost use Rattle.dubp_validity.specs.Rules.{longest_block};
+ghost use Rattle.dubp_node.specs.Deciding.{ShortBlockActs, Decided, outcome_text};
 ghost use Rattle.dubp_replay.specs.Turns.{start};
+ghost use Rattle.dubp_replay.specs.declared.command.Command.TheVariants.{Block as BlockCommand};
 ghost use Rattle.dubp_rules.specs.Table.{code_text};
 
 use arrayvec::ArrayVec;
 use dubp_atoms::{Line, Stamp, Steps, put_bytes};
 use dubp_block::{Block, ReadRefusal, read_block};
 use dubp_ledger::{Ledger, SubmitRefusal};
-use dubp_query::{Answer, answer};
+use dubp_query::{Answer, Query, head_line};
+use dubp_replay::Command;
 use dubp_rules::{Rule, code};
-use dubp_script::Command;
 use std::alloc::Global;
 use std::marker::Model;
 use std::sync::ledger::Ledger as StepBook;
 
 /// The raw bytes that a block has at most: rule `X01`.
-pub const LONGEST_FRAME: usize = 1_048_576;
+pub const LONGEST_BLOCK: usize = 1_048_576;
 
 /// The node: it answers commands, one after another.
 ///
@@ -60,7 +62,8 @@ impl Node {
     /// One turn: the answer to a command, and what it changes.
     ///
     /// `frame` has the raw bytes that follow a BLOCK whose LEN is at most 1,048,576, and is empty otherwise. A BLOCK of a
-    /// greater LEN is answered `REFUSED X01`. `NOMEM` leaves the node as before; HEAD is never answered so.
+    /// greater LEN is answered `REFUSED X01`. `NOMEM` leaves the node as before; only a command that takes memory is
+    /// answered so. A command that is not built is answered `BAD`.
     pub fn act<L: StepBook>(
         &mut self,
         command: &Command,
@@ -71,19 +74,23 @@ impl Node {
     {
         match command {
             Command::Block { len } => self.act_block(*len, frame, steps),
-            Command::Ask(query) => match answer(&self.ledger, query) {
-                Ok(answer) => answer,
-                Err(_) => one(b"NOMEM\n"),
-            },
+            Command::Ask(Query::Head) => Answer::One(head_line(&self.ledger)),
+            _ => bad(),
         }
     }
 
     fn act_block<L: StepBook>(&mut self, len: u64, frame: &[u8], steps: &mut Steps<L>) -> Answer
-        ensures { BlockActs self.old len frame.now (answer_bytes result) self.new }
+        ensures { Acts self.old (BlockCommand len) frame.now (answer_bytes result) self.new }
     {
-        if len > LONGEST_FRAME as u64 {
+        if len > LONGEST_BLOCK as u64 {
             return refused(b"X01");
         }
+        self.act_short_block(frame, steps)
+    }
+
+    fn act_short_block<L: StepBook>(&mut self, frame: &[u8], steps: &mut Steps<L>) -> Answer
+        ensures { ShortBlockActs self.old frame.now (answer_bytes result) self.new }
+    {
         match read_block(self.alloc, frame) {
             Ok(block) => self.submit(block, steps),
             Err(ReadRefusal::Unbuilt) => refused(b"U01"),

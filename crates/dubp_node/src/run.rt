@@ -1,30 +1,51 @@
-ghost use Rattle.std.specs.Prelude.{◌≡◌, ◌≢◌, ◌↔◌, ◌⊎◌, IsTrue, true, false, ◌<◌, ◌≤◌, ◌++◌, [], List, ℕ, length, drop, IfOk, OnOk, OnErr};
-ghost use Rattle.dubp_outside.specs.Causes.{Rose, HasCause};
-ghost use Rattle.dubp_node.specs.Ends.{Ends, LastEnds, Untouched};
-ghost use Rattle.dubp_node.specs.Run.{AnsweredSome, AnsweredMost, AnsweredToEnd, BrokeOff};
-ghost use Rattle.dubp_node.specs.Words.{IsRun};
+ghost use Rattle.std.specs.Prelude.{◌≡◌, ◌↔◌, IsTrue, ◌<◌, ◌≤◌, [], List, ℕ, length, IfOk, OnOk, OnErr};
+ghost use Rattle.std.specs.Io.KnownBytes.{Keeps};
+ghost use Rattle.dubp_outside.specs.Causes.{HasCause};
+ghost use Rattle.dubp_node.specs.Ends.{Ends, Faults, LastEnds};
+ghost use Rattle.dubp_node.specs.Run.{at, AnsweredSome, AnsweredMost, AnsweredToEnd, BrokeOff, IsRun};
 ghost use Rattle.dubp_node.specs.Cut.{BeginsNone};
 ghost use Rattle.dubp_node.specs.Session.{Broke};
-ghost use Rattle.dubp_node.specs.Reading.{Stands, most_kept};
+ghost use Rattle.dubp_node.specs.Reading.{Stands, most_at_hand};
 ghost use Rattle.dubp_node.specs.Serving.{ServedAll};
+ghost use Rattle.dubp_node.specs.Statuses.{IsStatus, StatusFaults};
+ghost use Rattle.dubp_node.specs.declared.serving.InputEnd.TheVariants.{OnBoundary, InsideFrame};
 
-use crate::hand::Hand;
+use crate::buffer::Buffer;
 use crate::node::Node;
 use crate::reading::Phase;
-use crate::serving::{finish, serve};
+use crate::serving::{InputEnd, finish, serve};
 use dubp_atoms::Steps;
 use dubp_outside::{Failed, Sink, Source};
 use std::alloc::Global;
 use std::marker::Brand;
-use std::sync::ledger::{Blank, Ledger};
+use std::sync::ledger::{Blank, Ledger as StepBook};
+
+/// The status where the input was read to its end, on the boundary of an entry.
+pub const ENDED: u8 = 0;
+
+/// The status where the words have no form of the program's.
+pub const USAGE: u8 = 2;
+
+/// The status where a read failed.
+pub const READ_FAULT: u8 = 3;
+
+/// The status where the input ended inside a frame.
+pub const CUT_SHORT: u8 = 4;
+
+/// The status where a write failed.
+pub const WRITE_FAULT: u8 = 5;
+
+/// The status where there was no room to begin.
+pub const NO_ROOM: u8 = 6;
+
+/// The status where as many bytes were taken as a run takes at most, and more would be needed.
+pub const TOO_MUCH: u8 = 7;
 
 /// How a session ends.
 #[derive(Clone, Copy, PartialEq, Eq)]
 pub enum Ending {
-    /// The input ended on the boundary of a command.
-    Boundary,
-    /// The input ended inside a frame.
-    InsideFrame,
+    /// The input was read to its end.
+    Ended(InputEnd),
     ReadFault,
     WriteFault,
     /// As many bytes were taken as a run takes at most, and more would be needed.
@@ -36,7 +57,7 @@ const MOST_TAKEN: u64 = 1 << 40;
 
 /// The whole program, given its words: reads commands from the source and writes their answers to the sink.
 ///
-/// The status is 0 where the input was read to its end on the boundary of a command, 2 where the words are not the one word
+/// The status is 0 where the input was read to its end on the boundary of an entry, 2 where the words are not the one word
 /// `run`, 3 where a read failed, 4 where the input ended inside a frame, 5 where a write failed, 6 where there was no room
 /// to begin, and 7 where 2^40 bytes were taken and more would be needed.
 pub fn run<S: Source, K: Sink>(
@@ -46,36 +67,36 @@ pub fn run<S: Source, K: Sink>(
     sink: &mut K,
     node: &mut Node,
 ) -> u8
-    ensures usage { (result ≡ 2) ↔ ¬ (IsRun words.now) }
-    ensures statuses { result ≤ 7 }
-    ensures not_one { result ≢ 1 }
-    ensures no_fault_before { (result ≡ 0) ⊎ (result ≡ 2) ⊎ (result ≡ 4) ⊎ (result ≡ 6) ⊎ (result ≡ 7) → (S.faults source.new ≡ S.faults source.old) × (K.faults sink.new ≡ K.faults sink.old) }
-    ensures faultless { ¬ (Rose (S.faults source.old) (S.faults source.new)) → ¬ (Rose (K.faults sink.old) (K.faults sink.new)) → IsRun words.now → (result ≡ 0) ⊎ (result ≡ 4) ⊎ (result ≡ 6) ⊎ (result ≡ 7) }
-    ensures boundary { result ≡ 0 → AnsweredToEnd node.old node.new (S.left source.old) (S.left source.new) (K.held sink.old) (K.held sink.new) true }
-    ensures untouched { (result ≡ 2) ⊎ (result ≡ 6) → Untouched node.old node.new (S.left source.old) (S.left source.new) (K.held sink.old) (K.held sink.new) }
-    ensures read_fault { result ≡ 3 → Rose (S.faults source.old) (S.faults source.new) × AnsweredSome node.old node.new (S.left source.old) (S.left source.new) (K.held sink.old) (K.held sink.new) }
-    ensures inside_frame { result ≡ 4 → AnsweredToEnd node.old node.new (S.left source.old) (S.left source.new) (K.held sink.old) (K.held sink.new) false }
-    ensures write_fault { result ≡ 5 → Rose (K.faults sink.old) (K.faults sink.new) × BrokeOff node.old node.new (S.left source.old) (S.left source.new) (K.held sink.old) (K.held sink.new) }
-    ensures too_much { result ≡ 7 → AnsweredMost node.old node.new (S.left source.old) (S.left source.new) (K.held sink.old) (K.held sink.new) }
+    ensures usage { (result ≡ USAGE) ↔ ¬ (IsRun words.now) }
+    ensures statuses { IsStatus result }
+    ensures unread { result ≡ USAGE → at node.new (S.left source.new) (K.held sink.new) ≡ at node.old (S.left source.old) (K.held sink.old) }
+    ensures no_room { IsRun words.now → result ≡ NO_ROOM → at node.new (S.left source.new) (K.held sink.new) ≡ at node.old (S.left source.old) (K.held sink.old) }
+    ensures ended { IsRun words.now → result ≡ ENDED → AnsweredToEnd OnBoundary (at node.old (S.left source.old) (K.held sink.old)) (at node.new (S.left source.new) (K.held sink.new)) }
+    ensures cut_short { result ≡ CUT_SHORT → AnsweredToEnd InsideFrame (at node.old (S.left source.old) (K.held sink.old)) (at node.new (S.left source.new) (K.held sink.new)) }
+    ensures read_fault { result ≡ READ_FAULT → AnsweredSome (at node.old (S.left source.old) (K.held sink.old)) (at node.new (S.left source.new) (K.held sink.new)) }
+    ensures write_fault { IsRun words.now → result ≡ WRITE_FAULT → BrokeOff (at node.old (S.left source.old) (K.held sink.old)) (at node.new (S.left source.new) (K.held sink.new)) }
+    ensures too_much { result ≡ TOO_MUCH → AnsweredMost (at node.old (S.left source.old) (K.held sink.old)) (at node.new (S.left source.new) (K.held sink.new)) }
+    ensures faults { StatusFaults (S.faults source.old) (S.faults source.new) (K.faults sink.old) (K.faults sink.new) result }
+    ensures last_read { result ≡ READ_FAULT → (before : S) × (S.faults before ≡ S.faults source.old) × Keeps (S.left before) (S.left source.new) }
 {
     if !is_run(words) {
-        return 2;
+        return USAGE;
     }
-    let Ok(mut hand) = Hand::new(alloc) else {
-        return 6;
+    let Ok(mut buffer) = Buffer::new(alloc) else {
+        return NO_ROOM;
     };
-    match converse_from::<S, K, Brand>(Blank::new(1), &mut hand, source, sink, node) {
-        Ending::Boundary => 0,
-        Ending::ReadFault => 3,
-        Ending::InsideFrame => 4,
-        Ending::WriteFault => 5,
-        Ending::TooMuch => 7,
+    match session_from::<S, K, Brand>(Blank::new(1), &mut buffer, source, sink, node) {
+        Ending::Ended(InputEnd::OnBoundary) => ENDED,
+        Ending::Ended(InputEnd::InsideFrame) => CUT_SHORT,
+        Ending::ReadFault => READ_FAULT,
+        Ending::WriteFault => WRITE_FAULT,
+        Ending::TooMuch => TOO_MUCH,
     }
 }
 
-fn converse_from<S: Source, K: Sink, L: Ledger>(
+fn session_from<S: Source, K: Sink, L: StepBook>(
     blank: Blank,
-    hand: &mut Hand,
+    buffer: &mut Buffer,
     source: &mut S,
     sink: &mut K,
     node: &mut Node,
@@ -83,14 +104,13 @@ fn converse_from<S: Source, K: Sink, L: Ledger>(
     requires name { blank.name ≡ L.name }
     requires parts { blank.parts ≡ L.parts }
     requires some { 0 < blank.parts }
-    requires empty { hand.old ≡ [] }
-    ensures ends { Ends node.old node.new (S.left source.old) (S.left source.new) (K.held sink.old) (K.held sink.new) result }
-    ensures read { result ≡ Ending.ReadFault → Rose (S.faults source.old) (S.faults source.new) }
-    ensures quiet { (result ≡ Ending.Boundary) ⊎ (result ≡ Ending.InsideFrame) ⊎ (result ≡ Ending.TooMuch) → (S.faults source.new ≡ S.faults source.old) × (K.faults sink.new ≡ K.faults sink.old) }
-    ensures write { result ≡ Ending.WriteFault → Rose (K.faults sink.old) (K.faults sink.new) }
+    requires empty { buffer.old ≡ [] }
+    ensures ends { Ends (at node.old (S.left source.old) (K.held sink.old)) (at node.new (S.left source.new) (K.held sink.new)) result }
+    ensures faults { Faults (S.faults source.old) (S.faults source.new) (K.faults sink.old) (K.faults sink.new) result }
+    ensures last_read { result ≡ Ending.ReadFault → (before : S) × (S.faults before ≡ S.faults source.old) × Keeps (S.left before) (S.left source.new) }
 {
     let mut steps = Steps::<L>::open(blank);
-    converse(hand, source, sink, node, &mut steps)
+    session(buffer, source, sink, node, &mut steps)
 }
 
 fn is_run(words: &[&str]) -> bool
@@ -102,81 +122,74 @@ fn is_run(words: &[&str]) -> bool
     }
 }
 
-/// Reads commands and answers them, to the end of the input or the first fault.
-pub fn converse<S: Source, K: Sink, L: Ledger>(
-    hand: &mut Hand,
+/// Reads entries and answers them, to the end of the input or the first fault.
+pub fn session<S: Source, K: Sink, L: StepBook>(
+    buffer: &mut Buffer,
     source: &mut S,
     sink: &mut K,
     node: &mut Node,
     steps: &mut Steps<L>,
 ) -> Ending
-    requires { hand.old ≡ [] }
-    ensures ends { Ends node.old node.new (S.left source.old) (S.left source.new) (K.held sink.old) (K.held sink.new) result }
-    ensures read_later { S.faults source.old ≤ S.faults source.new }
-    ensures write_later { K.faults sink.old ≤ K.faults sink.new }
-    ensures read { result ≡ Ending.ReadFault → Rose (S.faults source.old) (S.faults source.new) }
-    ensures quiet { (result ≡ Ending.Boundary) ⊎ (result ≡ Ending.InsideFrame) ⊎ (result ≡ Ending.TooMuch) → (S.faults source.new ≡ S.faults source.old) × (K.faults sink.new ≡ K.faults sink.old) }
-    ensures write { result ≡ Ending.WriteFault → Rose (K.faults sink.old) (K.faults sink.new) }
+    requires { buffer.old ≡ [] }
+    ensures ends { Ends (at node.old (S.left source.old) (K.held sink.old)) (at node.new (S.left source.new) (K.held sink.new)) result }
+    ensures faults { Faults (S.faults source.old) (S.faults source.new) (K.faults sink.old) (K.faults sink.new) result }
+    ensures last_read { result ≡ Ending.ReadFault → (before : S) × (S.faults before ≡ S.faults source.old) × Keeps (S.left before) (S.left source.new) }
 {
     let mut phase = Phase::Start;
     let mut taken = 0;
     'reads: loop {
-        match answer_at_hand(hand, sink, node, phase, steps) {
+        match answer_at_hand(buffer, sink, node, phase, steps) {
             Ok(next) => phase = next,
             Err(_) => return Ending::WriteFault,
         }
         if taken >= MOST_TAKEN {
             return Ending::TooMuch;
         }
-        match hand.read_from(source, MOST_TAKEN - taken) {
+        match buffer.read_from(source, MOST_TAKEN - taken) {
             Err(_) => return Ending::ReadFault,
-            Ok(0) => return end(hand, sink, node, phase, steps),
+            Ok(0) => return end(buffer, sink, node, phase, steps),
             Ok(count) => taken += count as u64,
         }
     }
 }
 
-/// Answers each whole command at hand, and keeps what is left.
-fn answer_at_hand<K: Sink, L: Ledger>(
-    hand: &mut Hand,
+/// Answers each whole entry at hand, and keeps what is left.
+fn answer_at_hand<K: Sink, L: StepBook>(
+    buffer: &mut Buffer,
     sink: &mut K,
     node: &mut Node,
     phase: Phase,
     steps: &mut Steps<L>,
 ) -> Result<Phase, Failed>
-    ensures served { IfOk result (λ next. (bytes : List ℕ) → Stands phase hand.old bytes →
-        ServedAll node.old node.new (K.held sink.old) (K.held sink.new) bytes next hand.new) }
-    ensures left { OnOk result (length hand.new ≤ most_kept) }
-    ensures broke { OnErr result ((bytes : List ℕ) → Stands phase hand.old bytes →
+    ensures served { IfOk result (λ next. (bytes : List ℕ) → Stands phase buffer.old bytes →
+        ServedAll node.old node.new (K.held sink.old) (K.held sink.new) bytes next buffer.new) }
+    ensures left { OnOk result (length buffer.new ≤ most_at_hand) }
+    ensures broke { OnErr result ((bytes : List ℕ) → Stands phase buffer.old bytes →
         Broke node.old node.new (K.held sink.old) (K.held sink.new) bytes) }
     ensures cause { HasCause (K.faults sink.old) (K.faults sink.new) result }
 {
-    match serve(node, sink, phase, hand.bytes(), steps) {
+    match serve(node, sink, phase, buffer.bytes(), steps) {
         Ok((next, left)) => {
-            hand.keep_last(left);
+            buffer.keep_last(left);
             Ok(next)
         }
         Err(failed) => Err(failed),
     }
 }
 
-fn end<K: Sink, L: Ledger>(
-    hand: &Hand,
+fn end<K: Sink, L: StepBook>(
+    buffer: &Buffer,
     sink: &mut K,
     node: &mut Node,
     phase: Phase,
     steps: &mut Steps<L>,
 ) -> Ending
-    ensures ends { (bytes : List ℕ) → Stands phase hand.now bytes → BeginsNone bytes →
+    ensures ends { (bytes : List ℕ) → Stands phase buffer.now bytes → BeginsNone bytes →
         LastEnds node.old node.new (K.held sink.old) (K.held sink.new) bytes result }
-    ensures no_read { result ≢ Ending.ReadFault }
-    ensures later { K.faults sink.old ≤ K.faults sink.new }
-    ensures quiet { (result ≡ Ending.Boundary) ⊎ (result ≡ Ending.InsideFrame) ⊎ (result ≡ Ending.TooMuch) → K.faults sink.new ≡ K.faults sink.old }
-    ensures write { result ≡ Ending.WriteFault → Rose (K.faults sink.old) (K.faults sink.new) }
+    ensures faults { (faults : ℕ) → Faults faults faults (K.faults sink.old) (K.faults sink.new) result }
 {
-    match finish(node, sink, phase, hand.bytes(), steps) {
-        Ok(true) => Ending::Boundary,
-        Ok(false) => Ending::InsideFrame,
+    match finish(node, sink, phase, buffer.bytes(), steps) {
+        Ok(end) => Ending::Ended(end),
         Err(_) => Ending::WriteFault,
     }
 }

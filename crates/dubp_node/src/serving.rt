@@ -1,25 +1,26 @@
-ghost use Rattle.std.specs.Prelude.{◌≡◌, ◌+◌, ◌-◌, ◌≤◌, ◌++◌, List, ℕ, length, drop, IfOk, OnOk, OnErr, ◌<◌};
+ghost use Rattle.std.specs.Prelude.{◌≡◌, ◌+◌, ◌-◌, ◌≤◌, ◌++◌, List, ℕ, length, drop, IfOk, OnOk, OnErr, ◌<◌, MatchOption};
 ghost use Rattle.dubp_outside.specs.Causes.{HasCause};
 ghost use Rattle.dubp_node.specs.Cut.{BeginsNone, lacking};
-ghost use Rattle.dubp_node.specs.Entries.{Entry, Frame as frame_entry, IsWhole, Line as line_entry, longest_frame};
-ghost use Rattle.dubp_node.specs.Turns.{Turn};
+ghost use Rattle.dubp_validity.specs.Rules.{longest_block};
+ghost use Rattle.dubp_node.specs.Entries.{Entry, Frame as frame_entry, HeadsFrame, IsWhole, Line as line_entry};
+ghost use Rattle.dubp_node.specs.Turns.{EntryTurn};
 ghost use Rattle.dubp_query.specs.AnswerBytes.{answer_bytes};
 ghost use Rattle.dubp_replay.specs.Turns.{State};
 ghost use Rattle.dubp_node.specs.Session.{Broke};
-ghost use Rattle.dubp_node.specs.Reading.{Shows, Stands, most_kept};
+ghost use Rattle.dubp_node.specs.Reading.{IsFramed, Shows, Stands, most_at_hand};
 ghost use Rattle.dubp_node.specs.Serving.{TurnWritten, TurnBroke, ServedAll, Finished};
 
-use crate::item::Item;
+use crate::item::{Item, LineKind};
 use crate::node::{Node, bad, refused};
-use crate::reading::{Found, LONGEST_LINE, Phase, line_end, take_one};
+use crate::reading::{Found, Phase, line_end, read_line, take_one};
 use dubp_atoms::Steps;
 use dubp_outside::{Failed, Sink, write_whole};
 use dubp_query::Answer;
-use dubp_script::{Command, frame_len, read_command};
-use std::sync::ledger::Ledger;
+use dubp_replay::Command;
+use std::sync::ledger::Ledger as StepBook;
 
 /// The node takes its turn, and the answer is written.
-fn take_turn<K: Sink, L: Ledger>(
+fn take_turn<K: Sink, L: StepBook>(
     node: &mut Node,
     sink: &mut K,
     item: Item<'_>,
@@ -34,42 +35,35 @@ fn take_turn<K: Sink, L: Ledger>(
 }
 
 // The answer to an entry.
-fn answer_item<L: Ledger>(node: &mut Node, item: Item<'_>, steps: &mut Steps<L>) -> Answer
-    ensures { (entry : Entry) → IsWhole entry → Shows item.entry entry → Turn node.old entry (answer_bytes result) node.new }
+fn answer_item<L: StepBook>(node: &mut Node, item: Item<'_>, steps: &mut Steps<L>) -> Answer
+    ensures { (entry : Entry) → IsWhole entry → Shows item.entry entry → EntryTurn node.old entry (answer_bytes result) node.new }
 {
     match item {
-        Item::Line(line) => answer_line(node, line, steps),
-        Item::LongLine => bad(),
-        Item::Frame(frame, last) => answer_frame(node, frame, last, steps),
+        Item::Bad => bad(),
+        Item::Asked(command) => node.act(&command, b"".as_slice(), steps),
+        Item::Frame(command, frame, last) => answer_frame(node, &command, frame, last, steps),
         Item::LongFrame(last) => answer_long_frame(last),
     }
 }
 
-fn answer_line<L: Ledger>(node: &mut Node, line: &[u8], steps: &mut Steps<L>) -> Answer
-    ensures { IsWhole (line_entry line.now) → Turn node.old (line_entry line.now) (answer_bytes result) node.new }
-{
-    if line.len() > LONGEST_LINE {
-        return bad();
-    }
-    match read_command(line) {
-        Some(command) => node.act(&command, b"".as_slice(), steps),
-        None => bad(),
-    }
-}
-
-fn answer_frame<L: Ledger>(node: &mut Node, frame: &[u8], last: u8, steps: &mut Steps<L>) -> Answer
-    ensures { (head : List ℕ) → IsWhole (frame_entry head frame.now last) → Turn node.old (frame_entry head frame.now last) (answer_bytes result) node.new }
+fn answer_frame<L: StepBook>(
+    node: &mut Node,
+    command: &Command,
+    frame: &[u8],
+    last: u8,
+    steps: &mut Steps<L>,
+) -> Answer
+    ensures { (head : List ℕ) → IsFramed command.now head frame.now → EntryTurn node.old (frame_entry head frame.now last) (answer_bytes result) node.new }
 {
     if last != b'\n' {
         return bad();
     }
-    let len = frame.len() as u64;
-    node.act(&Command::Block { len }, frame, steps)
+    node.act(command, frame, steps)
 }
 
 // The frame was read past, and the node is left as it is.
 fn answer_long_frame(last: u8) -> Answer
-    ensures { (old : State) (head payload : List ℕ) → IsWhole (frame_entry head payload last) → longest_frame < length payload → Turn old (frame_entry head payload last) (answer_bytes result) old }
+    ensures { (old : State) (head payload : List ℕ) → HeadsFrame head (length payload) → longest_block < length payload → EntryTurn old (frame_entry head payload last) (answer_bytes result) old }
 {
     if last == b'\n' {
         refused(b"X01")
@@ -86,7 +80,7 @@ fn skip(bytes: &[u8], count: usize) -> &[u8]
 }
 
 /// Answers each whole command at hand. Gives how the bytes go on, and how many are left at hand.
-pub fn serve<K: Sink, L: Ledger>(
+pub fn serve<K: Sink, L: StepBook>(
     node: &mut Node,
     sink: &mut K,
     phase: Phase,
@@ -95,7 +89,7 @@ pub fn serve<K: Sink, L: Ledger>(
 ) -> Result<(Phase, usize), Failed>
     ensures served { IfOk result (λ r. (bytes : List ℕ) → Stands phase hand.now bytes →
         ServedAll node.old node.new (K.held sink.old) (K.held sink.new) bytes r.0 (drop (length hand.now - r.1) hand.now)) }
-    ensures left { IfOk result (λ r. (r.1 ≤ length hand.now) × (r.1 ≤ most_kept)) }
+    ensures left { IfOk result (λ r. (r.1 ≤ length hand.now) × (r.1 ≤ most_at_hand)) }
     ensures broke { OnErr result ((bytes : List ℕ) → Stands phase hand.now bytes →
         Broke node.old node.new (K.held sink.old) (K.held sink.new) bytes) }
     ensures cause { HasCause (K.faults sink.old) (K.faults sink.new) result }
@@ -120,54 +114,91 @@ pub fn serve<K: Sink, L: Ledger>(
     }
 }
 
-/// Answers the last line where it lacks its LF, at the end of the input. Tells whether no frame was begun.
-pub fn finish<K: Sink, L: Ledger>(
+/// Where the input ended.
+#[derive(Clone, Copy, Debug, PartialEq, Eq)]
+pub enum InputEnd {
+    /// On the boundary of an entry: no frame was begun.
+    OnBoundary,
+    /// Inside a frame.
+    InsideFrame,
+}
+
+/// Answers the last line where it lacks its LF, at the end of the input.
+pub fn finish<K: Sink, L: StepBook>(
     node: &mut Node,
     sink: &mut K,
     phase: Phase,
     hand: &[u8],
     steps: &mut Steps<L>,
-) -> Result<bool, Failed>
-    ensures finished { IfOk result (λ done. (bytes : List ℕ) → Stands phase hand.now bytes → BeginsNone bytes →
-        Finished node.old node.new (K.held sink.old) (K.held sink.new) bytes done) }
+) -> Result<InputEnd, Failed>
+    ensures finished { IfOk result (λ end. (bytes : List ℕ) → Stands phase hand.now bytes → BeginsNone bytes →
+        Finished node.old node.new (K.held sink.old) (K.held sink.new) bytes end) }
     ensures broke { OnErr result ((bytes : List ℕ) → Stands phase hand.now bytes → BeginsNone bytes →
         Broke node.old node.new (K.held sink.old) (K.held sink.new) (bytes ++ lacking bytes)) }
     ensures cause { HasCause (K.faults sink.old) (K.faults sink.new) result }
 {
     match phase {
-        Phase::LongFrame(_) => Ok(false),
+        Phase::LongFrame(_) => Ok(InputEnd::InsideFrame),
         Phase::LongLine => {
-            if let Err(failed) = take_turn(node, sink, Item::LongLine, steps) {
+            if let Err(failed) = take_turn(node, sink, Item::Bad, steps) {
                 return Err(failed);
             }
-            Ok(true)
+            Ok(InputEnd::OnBoundary)
         }
         Phase::Start => finish_line(node, sink, hand, steps),
     }
 }
 
-fn finish_line<K: Sink, L: Ledger>(
+fn finish_line<K: Sink, L: StepBook>(
     node: &mut Node,
     sink: &mut K,
     hand: &[u8],
     steps: &mut Steps<L>,
-) -> Result<bool, Failed>
-    ensures finished { IfOk result (λ done. BeginsNone hand.now →
-        Finished node.old node.new (K.held sink.old) (K.held sink.new) hand.now done) }
+) -> Result<InputEnd, Failed>
+    ensures finished { IfOk result (λ end. BeginsNone hand.now →
+        Finished node.old node.new (K.held sink.old) (K.held sink.new) hand.now end) }
     ensures broke { OnErr result (Broke node.old node.new (K.held sink.old) (K.held sink.new) (hand.now ++ lacking hand.now)) }
     ensures cause { HasCause (K.faults sink.old) (K.faults sink.new) result }
 {
     if hand.is_empty() {
-        return Ok(true);
+        return Ok(InputEnd::OnBoundary);
     }
     if let Some(_) = line_end(hand) {
-        return Ok(false);
+        return Ok(InputEnd::InsideFrame);
     }
-    if let Some(_) = frame_len(hand) {
-        return Ok(false);
+    match last_item(hand) {
+        None => Ok(InputEnd::InsideFrame),
+        Some(item) => finish_item(node, sink, item, hand, steps),
     }
-    if let Err(failed) = take_turn(node, sink, Item::Line(hand), steps) {
-        return Err(failed);
+}
+
+// The line as an item, unless it heads a frame.
+fn last_item<'a>(line: &'a [u8]) -> Option<Item<'a>>
+    ensures { MatchOption result ((len : ℕ) × HeadsFrame line.now len) (λ item. ((len : ℕ) → HeadsFrame line.now len → ⊥) × Shows item (line_entry line.now)) }
+{
+    match read_line(line) {
+        LineKind::Bad => Some(Item::Bad),
+        LineKind::Asks(command) => Some(Item::Asked(command)),
+        LineKind::Heads(_, _) => None,
     }
-    Ok(true)
+}
+
+fn finish_item<K: Sink, L: StepBook>(
+    node: &mut Node,
+    sink: &mut K,
+    item: Item<'_>,
+    hand: &[u8],
+    steps: &mut Steps<L>,
+) -> Result<InputEnd, Failed>
+    requires some { 0 < length hand.now }
+    requires whole { IsWhole (line_entry hand.now) }
+    requires shows { Shows item (line_entry hand.now) }
+    ensures finished { IfOk result (λ end. Finished node.old node.new (K.held sink.old) (K.held sink.new) hand.now end) }
+    ensures broke { OnErr result (Broke node.old node.new (K.held sink.old) (K.held sink.new) (hand.now ++ lacking hand.now)) }
+    ensures cause { HasCause (K.faults sink.old) (K.faults sink.new) result }
+{
+    match take_turn(node, sink, item, steps) {
+        Ok(()) => Ok(InputEnd::OnBoundary),
+        Err(failed) => Err(failed),
+    }
 }

@@ -57,8 +57,22 @@ fn answers_in_small_pieces(rt: HostRuntime) -> Result<(), Fail> {
     Ok(())
 }
 
+// Where each whole command of the input ends, and how long the answers up to it are.
+const ENDS: [(usize, usize); 5] = [(5, 5), (663, 81), (668, 183), (1326, 195), (1338, 207)];
+
+// The answers of the whole commands among the first bytes of the input.
+fn answers_of(taken: usize) -> &'static [u8] {
+    let mut len = 0;
+    for (end, answers) in ENDS {
+        if end <= taken {
+            len = answers;
+        }
+    }
+    OUTPUT.get(..len).unwrap_or(OUTPUT)
+}
+
 #[test]
-fn each_read_fails(rt: HostRuntime) -> Result<(), Fail> {
+fn a_failed_read_leaves_the_answers_of_what_was_read(rt: HostRuntime) -> Result<(), Fail> {
     let alloc = rt.alloc();
     for call in 0..194u64 {
         let mut source = MemSource::new(input(alloc)?, 7, vec![in alloc; call]?);
@@ -66,7 +80,7 @@ fn each_read_fails(rt: HostRuntime) -> Result<(), Fail> {
         let mut node = Node::new(alloc);
         let status = run_program(alloc, &["run"], &mut source, &mut sink, &mut node);
         assert_eq!(rt; status, 3, "call {call}");
-        assert!(rt; OUTPUT.starts_with(sink.held()));
+        assert_eq!(rt; sink.held(), answers_of(7 * call as usize), "call {call}");
     }
     Ok(())
 }

@@ -199,3 +199,12 @@ no_cond_text text lacks = rw (none_in text (cond_of_text text) refl lacks) refl
 
 pub cond_text_short : (text : List ℕ) → IsCondText text → length text ≤ 1000
 cond_text_short text is = rw is.2 is.1.short
+
+-- a line says one command
+pub says_once : (line : List ℕ) (c d : Command) → Says line c → Says line d → c ≡ d
+says_once line c d p q =
+    some_is c d (sym (command_again c p.is) ∙ ap command_of (sym p.text ∙ q.text) ∙ command_again d q.is)
+
+-- what a line says is what is read of it
+pub says_command : (line : List ℕ) (c : Command) → Says line c → command_of line ≡ Some c
+says_command line c p = ap command_of p.text ∙ command_again c p.is

@@ -1,7 +1,7 @@
 ghost use Rattle.std.specs.Prelude.{◌≡◌, ◌+◌, ◌-◌, ◌<◌, ◌≤◌, ◌++◌, [], List, ℕ, length, take, drop, IfOk, OnErr};
 ghost use Rattle.std.specs.Io.KnownBytes.{Consumes, Keeps, IsAtEnd};
 ghost use Rattle.dubp_outside.specs.Causes.{HasCause};
-ghost use Rattle.dubp_node.specs.Reading.{most_kept};
+ghost use Rattle.dubp_node.specs.Reading.{most_at_hand};
 
 use dubp_outside::{Failed, Source};
 use std::alloc::{AllocError, Global};
@@ -13,16 +13,16 @@ const PIECE: usize = 65_536;
 /// Room for the longest frame with the line that heads it, and for a piece more.
 const ROOM: usize = 1_048_600 + PIECE;
 
-/// The bytes at hand: those that were read and not yet answered.
+/// The buffer of the input: the bytes at hand, which were read and not yet answered.
 ///
 /// Contracts see them as a list. Its room is taken once, when it is made.
 #[derive(Drop)]
-pub struct Hand {
+pub struct Buffer {
     bytes: Vec<u8>,
     len: usize,
 }
 
-impl Model for Hand {
+impl Model for Buffer {
     ghost use Rattle.std.specs.Prelude.{◌≡◌, ◌≤◌, List, ℕ, length, take};
 
     ghost Value = { List ℕ };
@@ -32,13 +32,13 @@ impl Model for Hand {
     ghost invariant = { λ h. (length h.bytes.items ≡ 1114136) × (h.len ≤ 1114136) };
 }
 
-impl Hand {
+impl Buffer {
     /// Room for the longest frame and a piece more, with nothing at hand.
-    pub fn new(alloc: Global) -> Result<Hand, AllocError>
+    pub fn new(alloc: Global) -> Result<Buffer, AllocError>
         ensures { IfOk result (λ h. h ≡ []) }
     {
         let bytes = vec![in alloc; 0; ROOM]?;
-        Ok(Hand { bytes, len: 0 })
+        Ok(Buffer { bytes, len: 0 })
     }
 
     /// The bytes at hand.
@@ -62,7 +62,7 @@ impl Hand {
 
     /// Reads some more behind them, at most `most`. None come at the end of the input.
     pub fn read_from<S: Source>(&mut self, source: &mut S, most: u64) -> Result<usize, Failed>
-        requires room { length self.old ≤ most_kept }
+        requires room { length self.old ≤ most_at_hand }
         requires some { 0 < most }
         ensures given { IfOk result (λ n. (piece : List ℕ) × (length piece ≡ n) × (self.new ≡ self.old ++ piece) × Consumes (S.left source.old) (S.left source.new) piece) }
         ensures end { IfOk result (λ n. n ≡ 0 → IsAtEnd (S.left source.new)) }

@@ -1,6 +1,6 @@
 use Rattle.std.proofs.Common.{arith, ◌∙◌, refl, sym}
-use Rattle.dubp_node.proofs.RunSteps.{so_far_nothing, pauses, reads_on, breaks, answered, answered_most, ends, read_nothing}
-use Rattle.dubp_node.proofs.run.converse.Goals as goal
+use Rattle.dubp_node.proofs.RunSteps.{so_far_nothing, pauses, reads_on, breaks, answered, answered_most, ends, read_nothing, quiet_end}
+use Rattle.dubp_node.proofs.run.session.Goals as goal
 
 pub reads-init : goal.reads-init
 reads-init g c = record {
@@ -11,7 +11,7 @@ reads-init g c = record {
 }
 
 pub returns-in-Err-clause-ends : goal.returns-in-Err-clause-ends
-returns-in-Err-clause-ends g c = breaks _ _ _ _ _ _ _ _ _ _ _ c.reads.invariant.so_far c.in-Err.ensures.broke
+returns-in-Err-clause-ends g c = breaks _ _ _ _ _ _ _ _ _ _ _ c.reads.invariant.so_far c.reads.invariant.within c.in-Err.ensures.broke
 
 pub returns-then-taken-ge-MOST_TAKEN-clause-ends :
     goal.returns-then-taken-ge-MOST_TAKEN-clause-ends
@@ -28,6 +28,13 @@ returns-in-Ok-eq0-clause-ends g c =
     let piece = c.in-Ok-eq0.ensures.given in
     let q = read_nothing _ _ _ _ _ _ _ _ _ _ _ _ p piece.3 (piece.1 ∙ c.in-Ok-eq0.field-0-test) piece.2 in
     ends _ _ _ _ _ _ _ _ _ _ _ _ q c.if-taken-ge-MOST_TAKEN.false (c.in-Ok-eq0.ensures.end c.in-Ok-eq0.field-0-test) (c.end.ensures.ends q.rest q.stands q.no_more)
+
+pub returns-in-Err-read_from-clause-last_read : goal.returns-in-Err-read_from-clause-last_read
+returns-in-Err-read_from-clause-last_read g c = λ is. (c.reads.source, sym c.reads.invariant.read_same, c.in-Err-read_from.ensures.failed.1)
+
+pub returns-in-Ok-eq0-clause-faults : goal.returns-in-Ok-eq0-clause-faults
+returns-in-Ok-eq0-clause-faults g c =
+    quiet_end _ _ _ _ _ (c.reads.invariant.read_same ∙ sym c.in-Ok-eq0.ensures.cause.same) (c.reads.invariant.write_same ∙ sym c.in-Ok.ensures.cause.same) c.end.result c.end.ensures.faults
 
 pub reads-preserved : goal.reads-preserved
 reads-preserved g c =

@@ -1,7 +1,7 @@
 use Rattle.std.proofs.Common.{◌≡◌, ◌+◌, ◌++◌, ◌≤◌, length, take, drop, ap, sym, ◌∙◌, arith, length-drop, length-take-le}
 use Rattle.std.proofs.lemmas.List.{with_items_is}
-use Rattle.dubp_node.proofs.Hands.{take_add}
-use Rattle.dubp_node.proofs.hand.Hand.read_from.Goals as goal
+use Rattle.dubp_node.proofs.Buffers.{take_add}
+use Rattle.dubp_node.proofs.buffer.Buffer.read_from.Goals as goal
 
 pub returns-in-Ok-clause-given : goal.returns-in-Ok-clause-given
 returns-in-Ok-clause-given g c =
