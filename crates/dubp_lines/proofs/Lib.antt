@@ -1,4 +1,3 @@
 pub mod Split
 pub mod Taken
-pub mod Valued
 pub mod Written
