@@ -3,7 +3,7 @@
 use Rattle.std.specs.Prelude.{◌≡◌, ℕ, List, [], ◌∷◌, ◌++◌, codes, decimal, length, map, true}
 use Rattle.std.specs.List.{flat_map}
 use Rattle.dubp_atoms.specs.Same.{Text}
-use Rattle.dubp_atoms.specs.Letters.{is_key, is_uid, is_sig}
+use Rattle.dubp_atoms.specs.Letters.{COLON, is_key, is_uid, is_sig}
 use Rattle.dubp_atoms.specs.Spelling.{IsNumber, stamp_text, IsStamp}
 use Rattle.dubp_cond.specs.Sources.{input_text}
 use Rattle.dubp_cond.specs.Unlocks.{unlock_line_text}
@@ -16,7 +16,7 @@ use Rattle.dubp_block.specs.declared.block.CertLine.{CertLine}
 
 -- KEY:SIG:STAMP:UID
 abbrev pub identity_text : IdentityLine → Text
-identity_text l = l.key ++ 58 ∷ (l.sig ++ 58 ∷ (stamp_text l.stamp ++ 58 ∷ l.uid))
+identity_text l = l.key ++ COLON ∷ (l.sig ++ COLON ∷ (stamp_text l.stamp ++ COLON ∷ l.uid))
 
 pub record IsIdentity (l : IdentityLine) : Type 0 where
   pub key : is_key l.key ≡ true
@@ -26,7 +26,7 @@ pub record IsIdentity (l : IdentityLine) : Type 0 where
 
 -- KEY:SIG:MSTAMP:ISTAMP:UID
 abbrev pub member_text : MemberLine → Text
-member_text l = l.key ++ 58 ∷ (l.sig ++ 58 ∷ (stamp_text l.stamp ++ 58 ∷ (stamp_text l.identity_stamp ++ 58 ∷ l.uid)))
+member_text l = l.key ++ COLON ∷ (l.sig ++ COLON ∷ (stamp_text l.stamp ++ COLON ∷ (stamp_text l.identity_stamp ++ COLON ∷ l.uid)))
 
 pub record IsMembership (l : MemberLine) : Type 0 where
   pub key : is_key l.key ≡ true
@@ -37,7 +37,7 @@ pub record IsMembership (l : MemberLine) : Type 0 where
 
 -- KEY:SIG
 abbrev pub revoked_text : RevokedLine → Text
-revoked_text l = l.key ++ 58 ∷ l.sig
+revoked_text l = l.key ++ COLON ∷ l.sig
 
 pub record IsRevocation (l : RevokedLine) : Type 0 where
   pub key : is_key l.key ≡ true
@@ -45,7 +45,7 @@ pub record IsRevocation (l : RevokedLine) : Type 0 where
 
 -- FROM:TO:NUMBER:SIG
 abbrev pub certification_text : CertLine → Text
-certification_text l = l.from ++ 58 ∷ (l.to ++ 58 ∷ (decimal l.number ++ 58 ∷ l.sig))
+certification_text l = l.from ++ COLON ∷ (l.to ++ COLON ∷ (decimal l.number ++ COLON ∷ l.sig))
 
 pub record IsCertification (l : CertLine) : Type 0 where
   pub from : is_key l.from ≡ true
@@ -68,11 +68,11 @@ abbrev pub tx_line : Tx → Text
 tx_line tx =
     codes "TX:10:"
     ++ (decimal (length tx.issuers)
-    ++ 58 ∷ (decimal (length tx.inputs)
-    ++ 58 ∷ (decimal (length tx.unlocks)
-    ++ 58 ∷ (decimal (length tx.outputs)
-    ++ 58 ∷ (decimal (has_comment tx.comment)
-    ++ 58 ∷ decimal tx.locktime)))))
+    ++ COLON ∷ (decimal (length tx.inputs)
+    ++ COLON ∷ (decimal (length tx.unlocks)
+    ++ COLON ∷ (decimal (length tx.outputs)
+    ++ COLON ∷ (decimal (has_comment tx.comment)
+    ++ COLON ∷ decimal tx.locktime)))))
 
 -- a transaction in a block: its first line, its stamp, its four lists, its comment and its signatures
 abbrev pub compact_lines : Tx → List Text

@@ -12,6 +12,7 @@
 
 mod block;
 mod copying;
+mod kinds;
 pub mod laws;
 mod reading;
 mod refusal;

@@ -9,10 +9,11 @@ ghost use Rattle.dubp_block.specs.declared.block.Block.{Block as BlockValue};
 ghost use Rattle.dubp_block.specs.declared.refusal.ReadRefusal.TheVariants.{NoMemory as Memory};
 
 use crate::block::Block;
+use crate::kinds::{Base, Parameters, Version};
 use crate::refusal::ReadRefusal;
-use dubp_atoms::{Currency, Hash, Items, Key, Sig, read_number};
-use dubp_lines::{LineRefusal, Lines};
-use dubp_params::{Params, read_params};
+use dubp_atoms::{Currency, Hash, Items, Key, Sig};
+use dubp_lines::{Lines, Refused};
+use dubp_params::Params;
 use std::alloc::Global;
 
 /// The block that this text is.
@@ -25,13 +26,12 @@ pub fn read_block(alloc: Global, text: &[u8]) -> Result<Block, ReadRefusal>
 {
     match take_all(alloc, text) {
         Ok(block) => Ok(block),
-        Err(LineRefusal::NoMemory) => Err(ReadRefusal::NoMemory),
-        Err(LineRefusal::Left(_)) => Err(ReadRefusal::Unbuilt),
+        Err(_) => Err(ReadRefusal::Unbuilt),
     }
 }
 
 #[tactic(auto, unfolding(crate::specs::Reading::block_of))]
-fn take_all(alloc: Global, text: &[u8]) -> Result<Block, LineRefusal>
+fn take_all(alloc: Global, text: &[u8]) -> Result<Block, Refused>
     ensures exact { Gives (λ b. b) result (block_of (split text.now)) }
     ensures found { IfOk result (λ b. IsBuilt b × ((split text.now).0 ≡ block_lines b) × ((split text.now).1 ≡ [])) }
 {
@@ -44,7 +44,7 @@ fn take_all(alloc: Global, text: &[u8]) -> Result<Block, LineRefusal>
 }
 
 #[tactic(auto, unfolding(crate::specs::Reading::block_at))]
-fn take_block(alloc: Global, lines: &mut Lines<'_>) -> Result<Block, LineRefusal>
+fn take_block(alloc: Global, lines: &mut Lines<'_>) -> Result<Block, Refused>
     ensures exact { Gives (λ b. (b, lines.new)) result (block_at lines.old) }
     ensures found { IfOk result (λ b. IsBuilt b × Spans lines.old (block_lines b) lines.new) }
 {
@@ -95,17 +95,17 @@ struct Opening {
 }
 
 #[tactic(auto, unfolding(crate::specs::Reading::opening_at))]
-fn take_opening(lines: &mut Lines<'_>) -> Result<Opening, LineRefusal>
+fn take_opening(lines: &mut Lines<'_>) -> Result<Opening, Refused>
     ensures exact { Gives (λ x. (x, lines.new)) result (opening_at lines.old) }
     ensures found { IfOk result (λ x. IsOpening x × Spans lines.old (opening_lines x.version x.currency x.number x.pow_min x.time x.median_time) lines.new) }
 {
-    let version = take_version(lines)?;
+    let version = lines.take_value::<Version>(b"Version: ")?;
     lines.take(b"Type: Block")?;
-    let currency = lines.take_currency(b"Currency: ")?;
-    let number = lines.take_number(b"Number: ")?;
-    let pow_min = lines.take_number(b"PoWMin: ")?;
-    let time = lines.take_number(b"Time: ")?;
-    let median_time = lines.take_number(b"MedianTime: ")?;
+    let currency = lines.take_value::<Currency>(b"Currency: ")?;
+    let number = lines.take_value::<u64>(b"Number: ")?;
+    let pow_min = lines.take_value::<u64>(b"PoWMin: ")?;
+    let time = lines.take_value::<u64>(b"Time: ")?;
+    let median_time = lines.take_value::<u64>(b"MedianTime: ")?;
     Ok(Opening {
         version,
         currency,
@@ -127,15 +127,15 @@ struct Issuing {
 }
 
 #[tactic(auto, unfolding(crate::specs::Reading::issuing_at))]
-fn take_issuing(lines: &mut Lines<'_>) -> Result<Issuing, LineRefusal>
+fn take_issuing(lines: &mut Lines<'_>) -> Result<Issuing, Refused>
     ensures exact { Gives (λ x. (x, lines.new)) result (issuing_at lines.old) }
     ensures found { IfOk result (λ x. IsIssuing x × Spans lines.old (issuer_lines x.unit_base x.issuer x.frame x.frame_var x.issuers) lines.new) }
 {
-    let unit_base = take_base(lines)?;
-    let issuer = lines.take_key(b"Issuer: ")?;
-    let frame = lines.take_number(b"IssuersFrame: ")?;
-    let frame_var = lines.take_signed(b"IssuersFrameVar: ")?;
-    let issuers = lines.take_number(b"DifferentIssuersCount: ")?;
+    let unit_base = lines.take_value::<Base>(b"UnitBase: ")?;
+    let issuer = lines.take_value::<Key>(b"Issuer: ")?;
+    let frame = lines.take_value::<u64>(b"IssuersFrame: ")?;
+    let frame_var = lines.take_value::<i64>(b"IssuersFrameVar: ")?;
+    let issuers = lines.take_value::<u64>(b"DifferentIssuersCount: ")?;
     Ok(Issuing {
         unit_base,
         issuer,
@@ -153,20 +153,20 @@ struct Founding {
 }
 
 #[tactic(auto, unfolding(crate::specs::Reading::founding_at))]
-fn take_founding(number: u64, lines: &mut Lines<'_>) -> Result<Founding, LineRefusal>
+fn take_founding(number: u64, lines: &mut Lines<'_>) -> Result<Founding, Refused>
     ensures exact { Gives (λ x. (x, lines.new)) result (founding_at number lines.old) }
     ensures found { IfOk result (λ x. IsFounding number x × Spans lines.old (params_lines (Some x.params) ++ (codes "MembersCount: " ++ decimal x.members) ∷ []) lines.new) }
 {
     if number != 0 {
         return Err(lines.refused());
     }
-    let params = take_params(lines)?;
-    let members = lines.take_number(b"MembersCount: ")?;
+    let params = lines.take_value::<Parameters>(b"Parameters: ")?;
+    let members = lines.take_value::<u64>(b"MembersCount: ")?;
     Ok(Founding { params, members })
 }
 
 #[tactic(auto, unfolding(crate::specs::Reading::headings_at))]
-fn take_headings(lines: &mut Lines<'_>) -> Result<(), LineRefusal>
+fn take_headings(lines: &mut Lines<'_>) -> Result<(), Refused>
     ensures exact { Gives (λ _. lines.new) result (headings_at lines.old) }
     ensures found { OnOk result (Spans lines.old headings lines.new) }
 {
@@ -190,69 +190,16 @@ struct Closing {
 }
 
 #[tactic(auto, unfolding(crate::specs::Reading::closing_at))]
-fn take_closing(lines: &mut Lines<'_>) -> Result<Closing, LineRefusal>
+fn take_closing(lines: &mut Lines<'_>) -> Result<Closing, Refused>
     ensures exact { Gives (λ x. (x, lines.new)) result (closing_at lines.old) }
     ensures found { IfOk result (λ x. IsClosing x × Spans lines.old ((codes "InnerHash: " ++ x.inner_hash) ∷ (codes "Nonce: " ++ decimal x.nonce) ∷ x.sig ∷ []) lines.new) }
 {
-    let inner_hash = lines.take_hash(b"InnerHash: ")?;
-    let nonce = lines.take_number(b"Nonce: ")?;
-    let sig = lines.take_sig()?;
+    let inner_hash = lines.take_value::<Hash>(b"InnerHash: ")?;
+    let nonce = lines.take_value::<u64>(b"Nonce: ")?;
+    let sig = lines.take_line::<Sig>()?;
     Ok(Closing {
         inner_hash,
         nonce,
         sig,
     })
-}
-
-fn take_version(lines: &mut Lines<'_>) -> Result<u64, LineRefusal>
-    ensures { Gives (λ x. (x, lines.new)) result (line_at (named (codes "Version: ") version_of) lines.old) }
-{
-    let value = lines.value(b"Version: ")?;
-    let Some(version) = read_version(value) else {
-        return Err(lines.refused());
-    };
-    lines.skip();
-    Ok(version)
-}
-
-#[tactic(auto, unfolding(crate::specs::Reading::version_of))]
-fn read_version(text: &[u8]) -> Option<u64>
-    ensures { result ≡ version_of text.now }
-{
-    let version = read_number(text)?;
-    if version == 10 || version == 11 {
-        Some(version)
-    } else {
-        None
-    }
-}
-
-fn take_base(lines: &mut Lines<'_>) -> Result<u64, LineRefusal>
-    ensures { Gives (λ x. (x, lines.new)) result (line_at (named (codes "UnitBase: ") base_of) lines.old) }
-{
-    let value = lines.value(b"UnitBase: ")?;
-    let Some(base) = read_base(value) else {
-        return Err(lines.refused());
-    };
-    lines.skip();
-    Ok(base)
-}
-
-#[tactic(auto, unfolding(crate::specs::Reading::base_of))]
-fn read_base(text: &[u8]) -> Option<u64>
-    ensures { result ≡ base_of text.now }
-{
-    let base = read_number(text)?;
-    if base <= 15 { Some(base) } else { None }
-}
-
-fn take_params(lines: &mut Lines<'_>) -> Result<Params, LineRefusal>
-    ensures { Gives (λ x. (x, lines.new)) result (line_at (named (codes "Parameters: ") params_of) lines.old) }
-{
-    let value = lines.value(b"Parameters: ")?;
-    let Some(params) = read_params(value) else {
-        return Err(lines.refused());
-    };
-    lines.skip();
-    Ok(params)
 }

@@ -7,14 +7,16 @@
 //! ```text
 //! let mut lines = Lines::of(text);
 //! lines.take(b"Type: Block")?;
-//! let number = lines.take_number(b"Number: ")?;
+//! let number = lines.take_value::<u64>(b"Number: ")?;
 //! ```
 #![tactic(auto)]
 
 mod lines;
+mod reading;
 mod refusal;
 mod writing;
 
 pub use lines::{Lines, count_lines, next_line};
-pub use refusal::LineRefusal;
+pub use reading::ReadText;
+pub use refusal::{LineRefusal, Refused};
 pub use writing::{put_line, put_number_line, put_signed_line, put_text_line};

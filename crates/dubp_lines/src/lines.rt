@@ -1,12 +1,11 @@
-ghost use Rattle.std.specs.Prelude.{◌≡◌, ◌≤◌, ◌<◌, ◌^◌, ◌+◌, ◌==◌, count_by, length, List, [], ◌∷◌, IfSome, IfNone, Some, drop};
-ghost use Rattle.dubp_atoms.specs.Letters.{is_key, is_hash, is_currency, is_sig};
-ghost use Rattle.dubp_atoms.specs.Reading.{text_if};
+ghost use Rattle.std.specs.Prelude.{◌≡◌, ◌≤◌, ◌<◌, ◌^◌, ◌+◌, ◌==◌, count_by, length, List, [], ◌∷◌, IfSome, IfNone, OnErr, drop};
+ghost use Rattle.dubp_atoms.specs.Letters.{LF};
 ghost use Rattle.dubp_lines.specs.Lines.{split};
-ghost use Rattle.dubp_lines.specs.Taking.{Gives, number_line, signed_line, text_line, line_at, just, value_at};
-ghost use Rattle.dubp_lines.specs.declared.refusal.LineRefusal.TheVariants.{Left};
+ghost use Rattle.dubp_lines.specs.Taking.{Gives, line_at, just, named, first_at, next_passes, begins_with, same_line};
 
-use crate::refusal::LineRefusal;
-use dubp_atoms::{Currency, Hash, Key, Sig, cut, read_number, read_signed};
+use crate::reading::ReadText;
+use crate::refusal::Refused;
+use dubp_atoms::cut;
 use std::marker::Model;
 
 /// The lines of a text that are not taken yet, and what stands behind the last LF.
@@ -37,7 +36,7 @@ pub fn count_lines(text: &[u8]) -> usize
 }
 
 fn count_ends(text: &[u8]) -> usize
-    ensures value { result ≡ count_by (λ c. c == 10) text.now }
+    ensures value { result ≡ count_by (λ c. c == LF) text.now }
     ensures bound { result ≤ length text.now }
 {
     text.iter().filter(|c| **c == b'\n').count()
@@ -60,10 +59,12 @@ impl<'a> Lines<'a> {
     }
 
     /// The refusal of the next line.
-    pub fn refused(&self) -> LineRefusal
-        ensures { result ≡ Left (length self.now.0) }
+    pub fn refused(&self) -> Refused
+        ensures { result.left ≡ length self.now.0 }
     {
-        LineRefusal::Left(count_lines(self.rest))
+        Refused {
+            left: count_lines(self.rest),
+        }
     }
 
     /// Whether nothing is left, neither a line nor bytes behind the last LF.
@@ -74,9 +75,30 @@ impl<'a> Lines<'a> {
         self.rest.is_empty()
     }
 
+    /// Whether the next line is this one. Where there is no line, it is not.
+    pub fn is_next(&self, wanted: &[u8]) -> bool
+        ensures { result ≡ next_passes (same_line wanted.now) self.now.0 }
+    {
+        match next_line(self.rest) {
+            Some((line, _)) => line == wanted,
+            None => false,
+        }
+    }
+
+    /// Whether the next line begins with this name. Where there is no line, it does not.
+    pub fn has_next(&self, name: &[u8]) -> bool
+        ensures { result ≡ next_passes (begins_with name.now) self.now.0 }
+    {
+        match next_line(self.rest) {
+            Some((line, _)) => line.starts_with(name),
+            None => false,
+        }
+    }
+
     /// Takes just this line.
-    pub fn take(&mut self, wanted: &[u8]) -> Result<(), LineRefusal>
-        ensures { Gives (λ _. (wanted.now, self.new)) result (line_at (just wanted.now) self.old) }
+    pub fn take(&mut self, wanted: &[u8]) -> Result<(), Refused>
+        ensures exact { Gives (λ _. (wanted.now, self.new)) result (line_at (just wanted.now) self.old) }
+        ensures refused { OnErr result (self.new ≡ self.old) }
     {
         let Some((line, rest)) = next_line(self.rest) else {
             return Err(self.refused());
@@ -88,117 +110,47 @@ impl<'a> Lines<'a> {
         Ok(())
     }
 
-    /// Takes a line of this name and a number.
-    pub fn take_number(&mut self, name: &[u8]) -> Result<u64, LineRefusal>
-        ensures { Gives (λ x. (x, self.new)) result (number_line name.now self.old) }
+    /// Takes a line of this name and a value of this kind.
+    pub fn take_value<V: ReadText>(&mut self, name: &[u8]) -> Result<V::Value, Refused>
+        ensures exact { Gives (λ x. (x, self.new)) result (line_at (named name.now V.reads) self.old) }
+        ensures refused { OnErr result (self.new ≡ self.old) }
     {
         let Some((line, rest)) = next_line(self.rest) else {
             return Err(self.refused());
         };
-        let Some(value) = line.strip_prefix(name) else {
+        let Some(text) = line.strip_prefix(name) else {
             return Err(self.refused());
         };
-        let Some(number) = read_number(value) else {
-            return Err(self.refused());
-        };
-        self.rest = rest;
-        Ok(number)
-    }
-
-    /// Takes a line of this name and a signed number.
-    pub fn take_signed(&mut self, name: &[u8]) -> Result<i64, LineRefusal>
-        ensures { Gives (λ x. (x, self.new)) result (signed_line name.now self.old) }
-    {
-        let Some((line, rest)) = next_line(self.rest) else {
-            return Err(self.refused());
-        };
-        let Some(value) = line.strip_prefix(name) else {
-            return Err(self.refused());
-        };
-        let Some(signed) = read_signed(value) else {
+        let Some(value) = V::read_text(text) else {
             return Err(self.refused());
         };
         self.rest = rest;
-        Ok(signed)
-    }
-
-    /// Takes a line of this name and a key.
-    pub fn take_key(&mut self, name: &[u8]) -> Result<Key, LineRefusal>
-        ensures { Gives (λ x. (x, self.new)) result (text_line is_key name.now self.old) }
-    {
-        let Some((line, rest)) = next_line(self.rest) else {
-            return Err(self.refused());
-        };
-        let Some(value) = line.strip_prefix(name) else {
-            return Err(self.refused());
-        };
-        let Some(key) = Key::read(value) else {
-            return Err(self.refused());
-        };
-        self.rest = rest;
-        Ok(key)
-    }
-
-    /// Takes a line of this name and a hash.
-    pub fn take_hash(&mut self, name: &[u8]) -> Result<Hash, LineRefusal>
-        ensures { Gives (λ x. (x, self.new)) result (text_line is_hash name.now self.old) }
-    {
-        let Some((line, rest)) = next_line(self.rest) else {
-            return Err(self.refused());
-        };
-        let Some(value) = line.strip_prefix(name) else {
-            return Err(self.refused());
-        };
-        let Some(hash) = Hash::read(value) else {
-            return Err(self.refused());
-        };
-        self.rest = rest;
-        Ok(hash)
-    }
-
-    /// Takes a line of this name and the name of a currency.
-    pub fn take_currency(&mut self, name: &[u8]) -> Result<Currency, LineRefusal>
-        ensures { Gives (λ x. (x, self.new)) result (text_line is_currency name.now self.old) }
-    {
-        let Some((line, rest)) = next_line(self.rest) else {
-            return Err(self.refused());
-        };
-        let Some(value) = line.strip_prefix(name) else {
-            return Err(self.refused());
-        };
-        let Some(currency) = Currency::read(value) else {
-            return Err(self.refused());
-        };
-        self.rest = rest;
-        Ok(currency)
-    }
-
-    /// Takes a line that is a signature.
-    pub fn take_sig(&mut self) -> Result<Sig, LineRefusal>
-        ensures { Gives (λ x. (x, self.new)) result (line_at (text_if is_sig) self.old) }
-    {
-        let Some((line, rest)) = next_line(self.rest) else {
-            return Err(self.refused());
-        };
-        let Some(sig) = Sig::read(line) else {
-            return Err(self.refused());
-        };
-        self.rest = rest;
-        Ok(sig)
-    }
-
-    /// What stands behind this name in the next line; the line is not taken. The refusal comes exactly where there is no
-    /// line or it does not begin with the name.
-    pub fn value(&self, name: &[u8]) -> Result<&'a [u8], LineRefusal>
-        ensures { Gives (λ x. x.now) result (value_at name.now self.now) }
-    {
-        let Some((line, _)) = next_line(self.rest) else {
-            return Err(self.refused());
-        };
-        let Some(value) = line.strip_prefix(name) else {
-            return Err(self.refused());
-        };
         Ok(value)
+    }
+
+    /// Takes a line that is a value of this kind.
+    pub fn take_line<V: ReadText>(&mut self) -> Result<V::Value, Refused>
+        ensures exact { Gives (λ x. (x, self.new)) result (line_at V.reads self.old) }
+        ensures refused { OnErr result (self.new ≡ self.old) }
+    {
+        let Some((line, rest)) = next_line(self.rest) else {
+            return Err(self.refused());
+        };
+        let Some(value) = V::read_text(line) else {
+            return Err(self.refused());
+        };
+        self.rest = rest;
+        Ok(value)
+    }
+
+    /// The next line, which is not taken. The refusal comes exactly where there is none.
+    pub fn first(&self) -> Result<&'a [u8], Refused>
+        ensures { Gives (λ x. x.now) result (first_at self.now) }
+    {
+        match next_line(self.rest) {
+            Some((line, _)) => Ok(line),
+            None => Err(self.refused()),
+        }
     }
 
     /// Takes the next line, whatever it says. Where there is none, nothing changes.

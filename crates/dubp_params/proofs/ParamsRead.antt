@@ -1,254 +1,202 @@
--- What is read as parameters is their one text. The fields are read in four groups of five.
-use Rattle.std.proofs.Common.{◌≡◌, ℕ, ◌^◌, ◌<◌, List, ◌∷◌, ◌++◌, Option, Some, None, sym, ap, subst, ◌∙◌, arith, decimal}
+-- What is read as parameters is their one text, and that text is read. The fields go in four groups of five: each group has two
+-- lemmas, found and again, and the parameters have them from their groups.
+use Rattle.std.proofs.Common.{◌≡◌, ℕ, List, ◌∷◌, ◌++◌, Option, Some, None, refl, sym, ap, subst, ◌∙◌, arith, decimal}
 use Rattle.std.specs.Prelude.{IfSome}
-use Rattle.dubp_atoms.specs.Reading.{◌>>=◌, field, number_of, dec_of}
-use Rattle.dubp_atoms.specs.Spelling.{IsDec, dec_text}
+use Rattle.dubp_atoms.specs.Reading.{◌>>=◌, Lacks, cut_at, number_of, dec_of}
+use Rattle.dubp_atoms.specs.Spelling.{IsNumber, IsDec, dec_text}
 use Rattle.dubp_atoms.specs.declared.dec.Dec.{Dec}
 use Rattle.dubp_atoms.proofs.Numbers.{bind_some, some_is, number_found, number_again}
-use Rattle.dubp_atoms.proofs.Fields.{field_found, field_again}
+use Rattle.dubp_atoms.proofs.Fields.{cut_found, cut_again}
 use Rattle.dubp_atoms.proofs.Decs.{dec_found, dec_again}
 use Rattle.dubp_atoms.proofs.Stamps.{colon, number_lacks}
 use Rattle.dubp_params.proofs.Lacking.{dec_lacks_by}
 use Rattle.dubp_params.specs.declared.params.Params.{Params}
+use Rattle.dubp_params.specs.declared.reading.FirstFive.{FirstFive}
+use Rattle.dubp_params.specs.declared.reading.SecondFive.{SecondFive}
+use Rattle.dubp_params.specs.declared.reading.ThirdFive.{ThirdFive}
+use Rattle.dubp_params.specs.declared.reading.LastFive.{LastFive}
 use Rattle.dubp_params.specs.Spelling.{params_text, IsParams}
-use Rattle.dubp_params.specs.Reading.{made, params_of, after_c, after_dt, after_ud0, after_sig_period, after_sig_stock, after_sig_window, after_sig_validity, after_sig_qty, after_idty_window, after_ms_window, after_xpercent, after_ms_validity, after_step_max, after_median_time_blocks, after_avg_gen_time, after_dt_diff_eval, after_percent_rot, after_ud_time0, after_ud_reeval_time0}
+use Rattle.dubp_params.specs.Reading.{field_at, first_at, second_at, third_at, last_at, made, params_of}
 
--- one field: its value, and what is left
-record Took {A : Type 0} (spell : A → List ℕ) (Is : A → Type 0) (text : List ℕ) (then : A → List ℕ → Option Params) (p : Params) : Type 0 where
+-- ---- a field
+
+-- the value of a field, what stands behind it, and that reading goes on there
+record Step {A V : Type 0} (spell : A → List ℕ) (Is : A → Type 0) (text : List ℕ) (then : A × List ℕ → Option V) (v : V) : Type 0 where
   value : A
   rest : List ℕ
   is : Is value
   parts : text ≡ spell value ++ 58 ∷ rest
-  goes_on : then value rest ≡ Some p
+  goes_on : then (value, rest) ≡ Some v
 
-abbrev Small : ℕ → Type 0
-Small n = n < 2 ^ 53
+step : {A V : Type 0} (read : List ℕ → Option A) (spell : A → List ℕ) (Is : A → Type 0) → ((text : List ℕ) (a : A) → read text ≡ Some a → Is a × (text ≡ spell a))
+    → (text : List ℕ) (then : A × List ℕ → Option V) (v : V) → (field_at read text >>= then) ≡ Some v → Step spell Is text then v
+step {A} read spell Is found text then v e =
+    let b = bind_some (field_at read text) then v e in
+    let p = bind_some (cut_at 58 text) (λ p. read p.0 >>= (λ a. Some (a, p.1))) b.0 b.1 in
+    let a = bind_some (read p.0.0) (λ a. Some (a, p.0.1)) b.0 p.2 in
+    let f = found p.0.0 a.0 a.1 in
+    let made : A × List ℕ = (a.0, p.0.1) in
+    record { value = a.0; rest = p.0.1; is = f.0; parts = cut_found 58 text p.0 p.1 ∙ ap (λ t. t ++ 58 ∷ p.0.1) f.1; goes_on = ap then (some_is made b.0 a.2) ∙ b.2 }
 
-took_number : (text : List ℕ) (then : ℕ → List ℕ → Option Params) (p : Params) → field 58 number_of text then ≡ Some p → Took decimal Small text then p
-took_number text then p e =
-    let f = field_found 58 number_of text then p e in
-    let n = number_found f.front f.value f.reads in
-    record { value = f.value; rest = f.rest; is = n.0; parts = f.parts ∙ ap (λ x. x ++ 58 ∷ f.rest) n.1; goes_on = f.goes_on }
+number_step : {V : Type 0} (text : List ℕ) (then : ℕ × List ℕ → Option V) (v : V) → (field_at number_of text >>= then) ≡ Some v → Step decimal IsNumber text then v
+number_step text then v e = step number_of decimal IsNumber number_found text then v e
 
-took_dec : (text : List ℕ) (then : Dec → List ℕ → Option Params) (p : Params) → field 58 dec_of text then ≡ Some p → Took dec_text IsDec text then p
-took_dec text then p e =
-    let f = field_found 58 dec_of text then p e in
-    let n = dec_found f.front f.value f.reads in
-    record { value = f.value; rest = f.rest; is = n.0; parts = f.parts ∙ ap (λ x. x ++ 58 ∷ f.rest) n.1; goes_on = f.goes_on }
+dec_step : {V : Type 0} (text : List ℕ) (then : Dec × List ℕ → Option V) (v : V) → (field_at dec_of text >>= then) ≡ Some v → Step dec_text IsDec text then v
+dec_step text then v e = step dec_of dec_text IsDec dec_found text then v e
+
+field_again : {A : Type 0} (read : List ℕ → Option A) (front rest : List ℕ) (a : A) → Lacks 58 front → read front ≡ Some a → field_at read (front ++ 58 ∷ rest) ≡ Some (a, rest)
+field_again read front rest a lacks e = rw (cut_again 58 front rest lacks, e) refl
+
+number_field : (n : ℕ) (rest : List ℕ) → IsNumber n → field_at number_of (decimal n ++ 58 ∷ rest) ≡ Some (n, rest)
+number_field n rest is = field_again number_of (decimal n) rest n (number_lacks 58 colon n is) (number_again n is)
+
+dec_field : (d : Dec) (rest : List ℕ) → IsDec d → field_at dec_of (dec_text d ++ 58 ∷ rest) ≡ Some (d, rest)
+dec_field d rest is = field_again dec_of (dec_text d) rest d (dec_lacks_by 58 colon (λ e. omega arith) d is) (dec_again d is)
 
 -- behind a field stands what stands there
 behind : (text x rest rest' : List ℕ) → text ≡ x ++ 58 ∷ rest → rest ≡ rest' → text ≡ x ++ 58 ∷ rest'
 behind text x rest rest' e f = e ∙ ap (λ r. x ++ 58 ∷ r) f
 
-record Five0 (text : List ℕ) (p : Params) : Type 0 where
-  v0 : Dec
-  v1 : ℕ
-  v2 : ℕ
-  v3 : ℕ
-  v4 : ℕ
-  rest : List ℕ
-  is0 : IsDec v0
-  is1 : v1 < 2 ^ 53
-  is2 : v2 < 2 ^ 53
-  is3 : v3 < 2 ^ 53
-  is4 : v4 < 2 ^ 53
-  parts : text ≡ dec_text v0 ++ 58 ∷ (decimal v1 ++ 58 ∷ (decimal v2 ++ 58 ∷ (decimal v3 ++ 58 ∷ (decimal v4 ++ 58 ∷ (rest)))))
-  goes_on : after_sig_stock v0 v1 v2 v3 v4 rest ≡ Some p
+-- ---- the first five
 
-five0 : (text : List ℕ) (p : Params) → field 58 dec_of text after_c ≡ Some p → Five0 text p
-five0 text p e =
-    let t0 = took_dec text after_c p e in
-    let t1 = took_number t0.rest (after_dt t0.value) p t0.goes_on in
-    let t2 = took_number t1.rest (after_ud0 t0.value t1.value) p t1.goes_on in
-    let t3 = took_number t2.rest (after_sig_period t0.value t1.value t2.value) p t2.goes_on in
-    let t4 = took_number t3.rest (after_sig_stock t0.value t1.value t2.value t3.value) p t3.goes_on in
-    record {
-      v0 = t0.value;
-      v1 = t1.value;
-      v2 = t2.value;
-      v3 = t3.value;
-      v4 = t4.value;
-      rest = t4.rest;
-      is0 = t0.is;
-      is1 = t1.is;
-      is2 = t2.is;
-      is3 = t3.is;
-      is4 = t4.is;
-      parts = behind _ (dec_text t0.value) _ _ t0.parts (behind _ (decimal t1.value) _ _ t1.parts (behind _ (decimal t2.value) _ _ t2.parts (behind _ (decimal t3.value) _ _ t3.parts (t4.parts))));
-      goes_on = t4.goes_on;
-    }
+abbrev first_text : FirstFive → List ℕ → List ℕ
+first_text x rest = dec_text x.c ++ 58 ∷ (decimal x.dt ++ 58 ∷ (decimal x.ud0 ++ 58 ∷ (decimal x.sig_period ++ 58 ∷ (decimal x.sig_stock ++ 58 ∷ rest))))
 
-record Five1 (c : Dec) (dt : ℕ) (ud0 : ℕ) (sig_period : ℕ) (sig_stock : ℕ) (text : List ℕ) (p : Params) : Type 0 where
-  v0 : ℕ
-  v1 : ℕ
-  v2 : ℕ
-  v3 : ℕ
-  v4 : ℕ
-  rest : List ℕ
-  is0 : v0 < 2 ^ 53
-  is1 : v1 < 2 ^ 53
-  is2 : v2 < 2 ^ 53
-  is3 : v3 < 2 ^ 53
-  is4 : v4 < 2 ^ 53
-  parts : text ≡ decimal v0 ++ 58 ∷ (decimal v1 ++ 58 ∷ (decimal v2 ++ 58 ∷ (decimal v3 ++ 58 ∷ (decimal v4 ++ 58 ∷ (rest)))))
-  goes_on : after_ms_window c dt ud0 sig_period sig_stock v0 v1 v2 v3 v4 rest ≡ Some p
+abbrev IsFirstFive : FirstFive → Type 0
+IsFirstFive x = IsDec x.c × IsNumber x.dt × IsNumber x.ud0 × IsNumber x.sig_period × IsNumber x.sig_stock
 
-five1 : (c : Dec) (dt : ℕ) (ud0 : ℕ) (sig_period : ℕ) (sig_stock : ℕ) (text : List ℕ) (p : Params) → field 58 number_of text (after_sig_window c dt ud0 sig_period sig_stock) ≡ Some p → Five1 c dt ud0 sig_period sig_stock text p
-five1 c dt ud0 sig_period sig_stock text p e =
-    let t0 = took_number text (after_sig_window c dt ud0 sig_period sig_stock) p e in
-    let t1 = took_number t0.rest (after_sig_validity c dt ud0 sig_period sig_stock t0.value) p t0.goes_on in
-    let t2 = took_number t1.rest (after_sig_qty c dt ud0 sig_period sig_stock t0.value t1.value) p t1.goes_on in
-    let t3 = took_number t2.rest (after_idty_window c dt ud0 sig_period sig_stock t0.value t1.value t2.value) p t2.goes_on in
-    let t4 = took_number t3.rest (after_ms_window c dt ud0 sig_period sig_stock t0.value t1.value t2.value t3.value) p t3.goes_on in
-    record {
-      v0 = t0.value;
-      v1 = t1.value;
-      v2 = t2.value;
-      v3 = t3.value;
-      v4 = t4.value;
-      rest = t4.rest;
-      is0 = t0.is;
-      is1 = t1.is;
-      is2 = t2.is;
-      is3 = t3.is;
-      is4 = t4.is;
-      parts = behind _ (decimal t0.value) _ _ t0.parts (behind _ (decimal t1.value) _ _ t1.parts (behind _ (decimal t2.value) _ _ t2.parts (behind _ (decimal t3.value) _ _ t3.parts (t4.parts))));
-      goes_on = t4.goes_on;
-    }
+first_found : (text : List ℕ) (x : FirstFive) (rest : List ℕ) → first_at text ≡ Some (x, rest) → IsFirstFive x × (text ≡ first_text x rest)
+unfolding first_at
+first_found text x rest e =
+    let t0 = dec_step text _ _ e in
+    let t1 = number_step t0.rest _ _ t0.goes_on in
+    let t2 = number_step t1.rest _ _ t1.goes_on in
+    let t3 = number_step t2.rest _ _ t2.goes_on in
+    let t4 = number_step t3.rest _ _ t3.goes_on in
+    let got : FirstFive × List ℕ = (record { c = t0.value; dt = t1.value; ud0 = t2.value; sig_period = t3.value; sig_stock = t4.value }, t4.rest) in
+    let whole : text ≡ first_text got.0 got.1 = behind _ (dec_text t0.value) _ _ t0.parts (behind _ (decimal t1.value) _ _ t1.parts (behind _ (decimal t2.value) _ _ t2.parts (behind _ (decimal t3.value) _ _ t3.parts (t4.parts)))) in
+    subst (λ (y : FirstFive × List ℕ). IsFirstFive y.0 × (text ≡ first_text y.0 y.1)) (some_is got (x, rest) t4.goes_on) ((t0.is, t1.is, t2.is, t3.is, t4.is), whole)
 
-record Five2 (c : Dec) (dt : ℕ) (ud0 : ℕ) (sig_period : ℕ) (sig_stock : ℕ) (sig_window : ℕ) (sig_validity : ℕ) (sig_qty : ℕ) (idty_window : ℕ) (ms_window : ℕ) (text : List ℕ) (p : Params) : Type 0 where
-  v0 : Dec
-  v1 : ℕ
-  v2 : ℕ
-  v3 : ℕ
-  v4 : ℕ
-  rest : List ℕ
-  is0 : IsDec v0
-  is1 : v1 < 2 ^ 53
-  is2 : v2 < 2 ^ 53
-  is3 : v3 < 2 ^ 53
-  is4 : v4 < 2 ^ 53
-  parts : text ≡ dec_text v0 ++ 58 ∷ (decimal v1 ++ 58 ∷ (decimal v2 ++ 58 ∷ (decimal v3 ++ 58 ∷ (decimal v4 ++ 58 ∷ (rest)))))
-  goes_on : after_avg_gen_time c dt ud0 sig_period sig_stock sig_window sig_validity sig_qty idty_window ms_window v0 v1 v2 v3 v4 rest ≡ Some p
+first_again : (x : FirstFive) (rest : List ℕ) → IsFirstFive x → first_at (first_text x rest) ≡ Some (x, rest)
+unfolding first_at
+first_again x rest is =
+    rw (dec_field x.c _ is.0, number_field x.dt _ is.1, number_field x.ud0 _ is.2, number_field x.sig_period _ is.3, number_field x.sig_stock _ is.4) refl
 
-five2 : (c : Dec) (dt : ℕ) (ud0 : ℕ) (sig_period : ℕ) (sig_stock : ℕ) (sig_window : ℕ) (sig_validity : ℕ) (sig_qty : ℕ) (idty_window : ℕ) (ms_window : ℕ) (text : List ℕ) (p : Params) → field 58 dec_of text (after_xpercent c dt ud0 sig_period sig_stock sig_window sig_validity sig_qty idty_window ms_window) ≡ Some p → Five2 c dt ud0 sig_period sig_stock sig_window sig_validity sig_qty idty_window ms_window text p
-five2 c dt ud0 sig_period sig_stock sig_window sig_validity sig_qty idty_window ms_window text p e =
-    let t0 = took_dec text (after_xpercent c dt ud0 sig_period sig_stock sig_window sig_validity sig_qty idty_window ms_window) p e in
-    let t1 = took_number t0.rest (after_ms_validity c dt ud0 sig_period sig_stock sig_window sig_validity sig_qty idty_window ms_window t0.value) p t0.goes_on in
-    let t2 = took_number t1.rest (after_step_max c dt ud0 sig_period sig_stock sig_window sig_validity sig_qty idty_window ms_window t0.value t1.value) p t1.goes_on in
-    let t3 = took_number t2.rest (after_median_time_blocks c dt ud0 sig_period sig_stock sig_window sig_validity sig_qty idty_window ms_window t0.value t1.value t2.value) p t2.goes_on in
-    let t4 = took_number t3.rest (after_avg_gen_time c dt ud0 sig_period sig_stock sig_window sig_validity sig_qty idty_window ms_window t0.value t1.value t2.value t3.value) p t3.goes_on in
-    record {
-      v0 = t0.value;
-      v1 = t1.value;
-      v2 = t2.value;
-      v3 = t3.value;
-      v4 = t4.value;
-      rest = t4.rest;
-      is0 = t0.is;
-      is1 = t1.is;
-      is2 = t2.is;
-      is3 = t3.is;
-      is4 = t4.is;
-      parts = behind _ (dec_text t0.value) _ _ t0.parts (behind _ (decimal t1.value) _ _ t1.parts (behind _ (decimal t2.value) _ _ t2.parts (behind _ (decimal t3.value) _ _ t3.parts (t4.parts))));
-      goes_on = t4.goes_on;
-    }
+-- ---- the second five
 
-record Five3 (c : Dec) (dt : ℕ) (ud0 : ℕ) (sig_period : ℕ) (sig_stock : ℕ) (sig_window : ℕ) (sig_validity : ℕ) (sig_qty : ℕ) (idty_window : ℕ) (ms_window : ℕ) (xpercent : Dec) (ms_validity : ℕ) (step_max : ℕ) (median_time_blocks : ℕ) (avg_gen_time : ℕ) (text : List ℕ) (p : Params) : Type 0 where
-  v0 : ℕ
-  v1 : Dec
-  v2 : ℕ
-  v3 : ℕ
-  v4 : ℕ
-  is0 : v0 < 2 ^ 53
-  is1 : IsDec v1
-  is2 : v2 < 2 ^ 53
-  is3 : v3 < 2 ^ 53
-  is4 : v4 < 2 ^ 53
-  parts : text ≡ decimal v0 ++ 58 ∷ (dec_text v1 ++ 58 ∷ (decimal v2 ++ 58 ∷ (decimal v3 ++ 58 ∷ (decimal v4))))
-  goes_on : made c dt ud0 sig_period sig_stock sig_window sig_validity sig_qty idty_window ms_window xpercent ms_validity step_max median_time_blocks avg_gen_time v0 v1 v2 v3 v4 ≡ Some p
+abbrev second_text : SecondFive → List ℕ → List ℕ
+second_text x rest = decimal x.sig_window ++ 58 ∷ (decimal x.sig_validity ++ 58 ∷ (decimal x.sig_qty ++ 58 ∷ (decimal x.idty_window ++ 58 ∷ (decimal x.ms_window ++ 58 ∷ rest))))
 
-five3 : (c : Dec) (dt : ℕ) (ud0 : ℕ) (sig_period : ℕ) (sig_stock : ℕ) (sig_window : ℕ) (sig_validity : ℕ) (sig_qty : ℕ) (idty_window : ℕ) (ms_window : ℕ) (xpercent : Dec) (ms_validity : ℕ) (step_max : ℕ) (median_time_blocks : ℕ) (avg_gen_time : ℕ) (text : List ℕ) (p : Params) → field 58 number_of text (after_dt_diff_eval c dt ud0 sig_period sig_stock sig_window sig_validity sig_qty idty_window ms_window xpercent ms_validity step_max median_time_blocks avg_gen_time) ≡ Some p → Five3 c dt ud0 sig_period sig_stock sig_window sig_validity sig_qty idty_window ms_window xpercent ms_validity step_max median_time_blocks avg_gen_time text p
-five3 c dt ud0 sig_period sig_stock sig_window sig_validity sig_qty idty_window ms_window xpercent ms_validity step_max median_time_blocks avg_gen_time text p e =
-    let t0 = took_number text (after_dt_diff_eval c dt ud0 sig_period sig_stock sig_window sig_validity sig_qty idty_window ms_window xpercent ms_validity step_max median_time_blocks avg_gen_time) p e in
-    let t1 = took_dec t0.rest (after_percent_rot c dt ud0 sig_period sig_stock sig_window sig_validity sig_qty idty_window ms_window xpercent ms_validity step_max median_time_blocks avg_gen_time t0.value) p t0.goes_on in
-    let t2 = took_number t1.rest (after_ud_time0 c dt ud0 sig_period sig_stock sig_window sig_validity sig_qty idty_window ms_window xpercent ms_validity step_max median_time_blocks avg_gen_time t0.value t1.value) p t1.goes_on in
-    let t3 = took_number t2.rest (after_ud_reeval_time0 c dt ud0 sig_period sig_stock sig_window sig_validity sig_qty idty_window ms_window xpercent ms_validity step_max median_time_blocks avg_gen_time t0.value t1.value t2.value) p t2.goes_on in
-    let z = bind_some (number_of t3.rest) (made c dt ud0 sig_period sig_stock sig_window sig_validity sig_qty idty_window ms_window xpercent ms_validity step_max median_time_blocks avg_gen_time t0.value t1.value t2.value t3.value) p t3.goes_on in
+abbrev IsSecondFive : SecondFive → Type 0
+IsSecondFive x = IsNumber x.sig_window × IsNumber x.sig_validity × IsNumber x.sig_qty × IsNumber x.idty_window × IsNumber x.ms_window
+
+second_found : (text : List ℕ) (x : SecondFive) (rest : List ℕ) → second_at text ≡ Some (x, rest) → IsSecondFive x × (text ≡ second_text x rest)
+unfolding second_at
+second_found text x rest e =
+    let t0 = number_step text _ _ e in
+    let t1 = number_step t0.rest _ _ t0.goes_on in
+    let t2 = number_step t1.rest _ _ t1.goes_on in
+    let t3 = number_step t2.rest _ _ t2.goes_on in
+    let t4 = number_step t3.rest _ _ t3.goes_on in
+    let got : SecondFive × List ℕ = (record { sig_window = t0.value; sig_validity = t1.value; sig_qty = t2.value; idty_window = t3.value; ms_window = t4.value }, t4.rest) in
+    let whole : text ≡ second_text got.0 got.1 = behind _ (decimal t0.value) _ _ t0.parts (behind _ (decimal t1.value) _ _ t1.parts (behind _ (decimal t2.value) _ _ t2.parts (behind _ (decimal t3.value) _ _ t3.parts (t4.parts)))) in
+    subst (λ (y : SecondFive × List ℕ). IsSecondFive y.0 × (text ≡ second_text y.0 y.1)) (some_is got (x, rest) t4.goes_on) ((t0.is, t1.is, t2.is, t3.is, t4.is), whole)
+
+second_again : (x : SecondFive) (rest : List ℕ) → IsSecondFive x → second_at (second_text x rest) ≡ Some (x, rest)
+unfolding second_at
+second_again x rest is =
+    rw (number_field x.sig_window _ is.0, number_field x.sig_validity _ is.1, number_field x.sig_qty _ is.2, number_field x.idty_window _ is.3, number_field x.ms_window _ is.4) refl
+
+-- ---- the third five
+
+abbrev third_text : ThirdFive → List ℕ → List ℕ
+third_text x rest = dec_text x.xpercent ++ 58 ∷ (decimal x.ms_validity ++ 58 ∷ (decimal x.step_max ++ 58 ∷ (decimal x.median_time_blocks ++ 58 ∷ (decimal x.avg_gen_time ++ 58 ∷ rest))))
+
+abbrev IsThirdFive : ThirdFive → Type 0
+IsThirdFive x = IsDec x.xpercent × IsNumber x.ms_validity × IsNumber x.step_max × IsNumber x.median_time_blocks × IsNumber x.avg_gen_time
+
+third_found : (text : List ℕ) (x : ThirdFive) (rest : List ℕ) → third_at text ≡ Some (x, rest) → IsThirdFive x × (text ≡ third_text x rest)
+unfolding third_at
+third_found text x rest e =
+    let t0 = dec_step text _ _ e in
+    let t1 = number_step t0.rest _ _ t0.goes_on in
+    let t2 = number_step t1.rest _ _ t1.goes_on in
+    let t3 = number_step t2.rest _ _ t2.goes_on in
+    let t4 = number_step t3.rest _ _ t3.goes_on in
+    let got : ThirdFive × List ℕ = (record { xpercent = t0.value; ms_validity = t1.value; step_max = t2.value; median_time_blocks = t3.value; avg_gen_time = t4.value }, t4.rest) in
+    let whole : text ≡ third_text got.0 got.1 = behind _ (dec_text t0.value) _ _ t0.parts (behind _ (decimal t1.value) _ _ t1.parts (behind _ (decimal t2.value) _ _ t2.parts (behind _ (decimal t3.value) _ _ t3.parts (t4.parts)))) in
+    subst (λ (y : ThirdFive × List ℕ). IsThirdFive y.0 × (text ≡ third_text y.0 y.1)) (some_is got (x, rest) t4.goes_on) ((t0.is, t1.is, t2.is, t3.is, t4.is), whole)
+
+third_again : (x : ThirdFive) (rest : List ℕ) → IsThirdFive x → third_at (third_text x rest) ≡ Some (x, rest)
+unfolding third_at
+third_again x rest is =
+    rw (dec_field x.xpercent _ is.0, number_field x.ms_validity _ is.1, number_field x.step_max _ is.2, number_field x.median_time_blocks _ is.3, number_field x.avg_gen_time _ is.4) refl
+
+-- ---- the last five
+
+abbrev last_text : LastFive → List ℕ
+last_text x = decimal x.dt_diff_eval ++ 58 ∷ (dec_text x.percent_rot ++ 58 ∷ (decimal x.ud_time0 ++ 58 ∷ (decimal x.ud_reeval_time0 ++ 58 ∷ (decimal x.dt_reeval))))
+
+abbrev IsLastFive : LastFive → Type 0
+IsLastFive x = IsNumber x.dt_diff_eval × IsDec x.percent_rot × IsNumber x.ud_time0 × IsNumber x.ud_reeval_time0 × IsNumber x.dt_reeval
+
+last_found : (text : List ℕ) (x : LastFive) → last_at text ≡ Some x → IsLastFive x × (text ≡ last_text x)
+unfolding last_at
+last_found text x e =
+    let t0 = number_step text _ _ e in
+    let t1 = dec_step t0.rest _ _ t0.goes_on in
+    let t2 = number_step t1.rest _ _ t1.goes_on in
+    let t3 = number_step t2.rest _ _ t2.goes_on in
+    let z = bind_some (number_of t3.rest) _ _ t3.goes_on in
     let n = number_found t3.rest z.0 z.1 in
-    record {
-      v0 = t0.value;
-      v1 = t1.value;
-      v2 = t2.value;
-      v3 = t3.value;
-      v4 = z.0;
-      is0 = t0.is;
-      is1 = t1.is;
-      is2 = t2.is;
-      is3 = t3.is;
-      is4 = n.0;
-      parts = behind _ (decimal t0.value) _ _ t0.parts (behind _ (dec_text t1.value) _ _ t1.parts (behind _ (decimal t2.value) _ _ t2.parts (behind _ (decimal t3.value) _ _ t3.parts (n.1))));
-      goes_on = z.2;
-    }
+    let got : LastFive = record { dt_diff_eval = t0.value; percent_rot = t1.value; ud_time0 = t2.value; ud_reeval_time0 = t3.value; dt_reeval = z.0 } in
+    let whole : text ≡ last_text got = behind _ (decimal t0.value) _ _ t0.parts (behind _ (dec_text t1.value) _ _ t1.parts (behind _ (decimal t2.value) _ _ t2.parts (behind _ (decimal t3.value) _ _ t3.parts (n.1)))) in
+    subst (λ (y : LastFive). IsLastFive y × (text ≡ last_text y)) (some_is got x z.2) ((t0.is, t1.is, t2.is, t3.is, n.0), whole)
 
--- five fields, and others behind them
-behind_five : (text a b c d e rest rest' : List ℕ) → text ≡ a ++ 58 ∷ (b ++ 58 ∷ (c ++ 58 ∷ (d ++ 58 ∷ (e ++ 58 ∷ rest)))) → rest ≡ rest' → text ≡ a ++ 58 ∷ (b ++ 58 ∷ (c ++ 58 ∷ (d ++ 58 ∷ (e ++ 58 ∷ rest'))))
-behind_five text a b c d e rest rest' p q = p ∙ ap (λ r. a ++ 58 ∷ (b ++ 58 ∷ (c ++ 58 ∷ (d ++ 58 ∷ (e ++ 58 ∷ r))))) q
+last_again : (x : LastFive) → IsLastFive x → last_at (last_text x) ≡ Some x
+unfolding last_at
+last_again x is =
+    rw (number_field x.dt_diff_eval _ is.0, dec_field x.percent_rot _ is.1, number_field x.ud_time0 _ is.2, number_field x.ud_reeval_time0 _ is.3, number_again x.dt_reeval is.4) refl
+
+-- ---- the parameters
+
+abbrev first_of : Params → FirstFive
+first_of p = record { c = p.c; dt = p.dt; ud0 = p.ud0; sig_period = p.sig_period; sig_stock = p.sig_stock }
+
+abbrev second_of : Params → SecondFive
+second_of p = record { sig_window = p.sig_window; sig_validity = p.sig_validity; sig_qty = p.sig_qty; idty_window = p.idty_window; ms_window = p.ms_window }
+
+abbrev third_of : Params → ThirdFive
+third_of p = record { xpercent = p.xpercent; ms_validity = p.ms_validity; step_max = p.step_max; median_time_blocks = p.median_time_blocks; avg_gen_time = p.avg_gen_time }
+
+abbrev last_of : Params → LastFive
+last_of p = record { dt_diff_eval = p.dt_diff_eval; percent_rot = p.percent_rot; ud_time0 = p.ud_time0; ud_reeval_time0 = p.ud_reeval_time0; dt_reeval = p.dt_reeval }
 
 pub params_found : (text : List ℕ) (p : Params) → params_of text ≡ Some p → IsParams p × (text ≡ params_text p)
 unfolding params_of
 params_found text p e =
-    let g0 = five0 text p e in
-    let g1 = five1 g0.v0 g0.v1 g0.v2 g0.v3 g0.v4 g0.rest p g0.goes_on in
-    let g2 = five2 g0.v0 g0.v1 g0.v2 g0.v3 g0.v4 g1.v0 g1.v1 g1.v2 g1.v3 g1.v4 g1.rest p g1.goes_on in
-    let g3 = five3 g0.v0 g0.v1 g0.v2 g0.v3 g0.v4 g1.v0 g1.v1 g1.v2 g1.v3 g1.v4 g2.v0 g2.v1 g2.v2 g2.v3 g2.v4 g2.rest p g2.goes_on in
-    let got : Params = record { c = g0.v0; dt = g0.v1; ud0 = g0.v2; sig_period = g0.v3; sig_stock = g0.v4; sig_window = g1.v0; sig_validity = g1.v1; sig_qty = g1.v2; idty_window = g1.v3; ms_window = g1.v4; xpercent = g2.v0; ms_validity = g2.v1; step_max = g2.v2; median_time_blocks = g2.v3; avg_gen_time = g2.v4; dt_diff_eval = g3.v0; percent_rot = g3.v1; ud_time0 = g3.v2; ud_reeval_time0 = g3.v3; dt_reeval = g3.v4 } in
-    let is : IsParams got = record { c = g0.is0; dt = g0.is1; ud0 = g0.is2; sig_period = g0.is3; sig_stock = g0.is4; sig_window = g1.is0; sig_validity = g1.is1; sig_qty = g1.is2; idty_window = g1.is3; ms_window = g1.is4; xpercent = g2.is0; ms_validity = g2.is1; step_max = g2.is2; median_time_blocks = g2.is3; avg_gen_time = g2.is4; dt_diff_eval = g3.is0; percent_rot = g3.is1; ud_time0 = g3.is2; ud_reeval_time0 = g3.is3; dt_reeval = g3.is4 } in
-    let whole : text ≡ params_text got = behind_five text (dec_text g0.v0) (decimal g0.v1) (decimal g0.v2) (decimal g0.v3) (decimal g0.v4) g0.rest _ g0.parts (behind_five g0.rest (decimal g1.v0) (decimal g1.v1) (decimal g1.v2) (decimal g1.v3) (decimal g1.v4) g1.rest _ g1.parts (behind_five g1.rest (dec_text g2.v0) (decimal g2.v1) (decimal g2.v2) (decimal g2.v3) (decimal g2.v4) g2.rest _ g2.parts (g3.parts))) in
-    subst (λ (x : Params). IsParams x × (text ≡ params_text x)) (some_is got p g3.goes_on) (is, whole)
+    let b0 = bind_some (first_at text) _ _ e in
+    let b1 = bind_some (second_at b0.0.1) _ _ b0.2 in
+    let b2 = bind_some (third_at b1.0.1) _ _ b1.2 in
+    let b3 = bind_some (last_at b2.0.1) _ _ b2.2 in
+    let f0 = first_found text b0.0.0 b0.0.1 b0.1 in
+    let f1 = second_found b0.0.1 b1.0.0 b1.0.1 b1.1 in
+    let f2 = third_found b1.0.1 b2.0.0 b2.0.1 b2.1 in
+    let f3 = last_found b2.0.1 b3.0 b3.1 in
+    let got : Params = made b0.0.0 b1.0.0 b2.0.0 b3.0 in
+    let is : IsParams got = record { c = f0.0.0; dt = f0.0.1; ud0 = f0.0.2; sig_period = f0.0.3; sig_stock = f0.0.4; sig_window = f1.0.0; sig_validity = f1.0.1; sig_qty = f1.0.2; idty_window = f1.0.3; ms_window = f1.0.4; xpercent = f2.0.0; ms_validity = f2.0.1; step_max = f2.0.2; median_time_blocks = f2.0.3; avg_gen_time = f2.0.4; dt_diff_eval = f3.0.0; percent_rot = f3.0.1; ud_time0 = f3.0.2; ud_reeval_time0 = f3.0.3; dt_reeval = f3.0.4 } in
+    let whole : text ≡ params_text got = f0.1 ∙ ap (first_text b0.0.0) (f1.1 ∙ ap (second_text b1.0.0) (f2.1 ∙ ap (third_text b2.0.0) f3.1)) in
+    subst (λ (x : Params). IsParams x × (text ≡ params_text x)) (some_is got p b3.2) (is, whole)
 
 pub params_again : (p : Params) → IsParams p → params_of (params_text p) ≡ Some p
 unfolding params_of
 params_again p is =
-    let x19 = decimal p.dt_reeval in
-    let x18 = decimal p.ud_reeval_time0 ++ 58 ∷ x19 in
-    let x17 = decimal p.ud_time0 ++ 58 ∷ x18 in
-    let x16 = dec_text p.percent_rot ++ 58 ∷ x17 in
-    let x15 = decimal p.dt_diff_eval ++ 58 ∷ x16 in
-    let x14 = decimal p.avg_gen_time ++ 58 ∷ x15 in
-    let x13 = decimal p.median_time_blocks ++ 58 ∷ x14 in
-    let x12 = decimal p.step_max ++ 58 ∷ x13 in
-    let x11 = decimal p.ms_validity ++ 58 ∷ x12 in
-    let x10 = dec_text p.xpercent ++ 58 ∷ x11 in
-    let x9 = decimal p.ms_window ++ 58 ∷ x10 in
-    let x8 = decimal p.idty_window ++ 58 ∷ x9 in
-    let x7 = decimal p.sig_qty ++ 58 ∷ x8 in
-    let x6 = decimal p.sig_validity ++ 58 ∷ x7 in
-    let x5 = decimal p.sig_window ++ 58 ∷ x6 in
-    let x4 = decimal p.sig_stock ++ 58 ∷ x5 in
-    let x3 = decimal p.sig_period ++ 58 ∷ x4 in
-    let x2 = decimal p.ud0 ++ 58 ∷ x3 in
-    let x1 = decimal p.dt ++ 58 ∷ x2 in
-    field_again 58 dec_of (dec_text p.c) x1 p.c after_c (dec_lacks_by 58 colon (λ e. omega arith) p.c is.c) (dec_again p.c is.c)
-    ∙ field_again 58 number_of (decimal p.dt) x2 p.dt (after_dt p.c) (number_lacks 58 colon p.dt is.dt) (number_again p.dt is.dt)
-    ∙ field_again 58 number_of (decimal p.ud0) x3 p.ud0 (after_ud0 p.c p.dt) (number_lacks 58 colon p.ud0 is.ud0) (number_again p.ud0 is.ud0)
-    ∙ field_again 58 number_of (decimal p.sig_period) x4 p.sig_period (after_sig_period p.c p.dt p.ud0) (number_lacks 58 colon p.sig_period is.sig_period) (number_again p.sig_period is.sig_period)
-    ∙ field_again 58 number_of (decimal p.sig_stock) x5 p.sig_stock (after_sig_stock p.c p.dt p.ud0 p.sig_period) (number_lacks 58 colon p.sig_stock is.sig_stock) (number_again p.sig_stock is.sig_stock)
-    ∙ field_again 58 number_of (decimal p.sig_window) x6 p.sig_window (after_sig_window p.c p.dt p.ud0 p.sig_period p.sig_stock) (number_lacks 58 colon p.sig_window is.sig_window) (number_again p.sig_window is.sig_window)
-    ∙ field_again 58 number_of (decimal p.sig_validity) x7 p.sig_validity (after_sig_validity p.c p.dt p.ud0 p.sig_period p.sig_stock p.sig_window) (number_lacks 58 colon p.sig_validity is.sig_validity) (number_again p.sig_validity is.sig_validity)
-    ∙ field_again 58 number_of (decimal p.sig_qty) x8 p.sig_qty (after_sig_qty p.c p.dt p.ud0 p.sig_period p.sig_stock p.sig_window p.sig_validity) (number_lacks 58 colon p.sig_qty is.sig_qty) (number_again p.sig_qty is.sig_qty)
-    ∙ field_again 58 number_of (decimal p.idty_window) x9 p.idty_window (after_idty_window p.c p.dt p.ud0 p.sig_period p.sig_stock p.sig_window p.sig_validity p.sig_qty) (number_lacks 58 colon p.idty_window is.idty_window) (number_again p.idty_window is.idty_window)
-    ∙ field_again 58 number_of (decimal p.ms_window) x10 p.ms_window (after_ms_window p.c p.dt p.ud0 p.sig_period p.sig_stock p.sig_window p.sig_validity p.sig_qty p.idty_window) (number_lacks 58 colon p.ms_window is.ms_window) (number_again p.ms_window is.ms_window)
-    ∙ field_again 58 dec_of (dec_text p.xpercent) x11 p.xpercent (after_xpercent p.c p.dt p.ud0 p.sig_period p.sig_stock p.sig_window p.sig_validity p.sig_qty p.idty_window p.ms_window) (dec_lacks_by 58 colon (λ e. omega arith) p.xpercent is.xpercent) (dec_again p.xpercent is.xpercent)
-    ∙ field_again 58 number_of (decimal p.ms_validity) x12 p.ms_validity (after_ms_validity p.c p.dt p.ud0 p.sig_period p.sig_stock p.sig_window p.sig_validity p.sig_qty p.idty_window p.ms_window p.xpercent) (number_lacks 58 colon p.ms_validity is.ms_validity) (number_again p.ms_validity is.ms_validity)
-    ∙ field_again 58 number_of (decimal p.step_max) x13 p.step_max (after_step_max p.c p.dt p.ud0 p.sig_period p.sig_stock p.sig_window p.sig_validity p.sig_qty p.idty_window p.ms_window p.xpercent p.ms_validity) (number_lacks 58 colon p.step_max is.step_max) (number_again p.step_max is.step_max)
-    ∙ field_again 58 number_of (decimal p.median_time_blocks) x14 p.median_time_blocks (after_median_time_blocks p.c p.dt p.ud0 p.sig_period p.sig_stock p.sig_window p.sig_validity p.sig_qty p.idty_window p.ms_window p.xpercent p.ms_validity p.step_max) (number_lacks 58 colon p.median_time_blocks is.median_time_blocks) (number_again p.median_time_blocks is.median_time_blocks)
-    ∙ field_again 58 number_of (decimal p.avg_gen_time) x15 p.avg_gen_time (after_avg_gen_time p.c p.dt p.ud0 p.sig_period p.sig_stock p.sig_window p.sig_validity p.sig_qty p.idty_window p.ms_window p.xpercent p.ms_validity p.step_max p.median_time_blocks) (number_lacks 58 colon p.avg_gen_time is.avg_gen_time) (number_again p.avg_gen_time is.avg_gen_time)
-    ∙ field_again 58 number_of (decimal p.dt_diff_eval) x16 p.dt_diff_eval (after_dt_diff_eval p.c p.dt p.ud0 p.sig_period p.sig_stock p.sig_window p.sig_validity p.sig_qty p.idty_window p.ms_window p.xpercent p.ms_validity p.step_max p.median_time_blocks p.avg_gen_time) (number_lacks 58 colon p.dt_diff_eval is.dt_diff_eval) (number_again p.dt_diff_eval is.dt_diff_eval)
-    ∙ field_again 58 dec_of (dec_text p.percent_rot) x17 p.percent_rot (after_percent_rot p.c p.dt p.ud0 p.sig_period p.sig_stock p.sig_window p.sig_validity p.sig_qty p.idty_window p.ms_window p.xpercent p.ms_validity p.step_max p.median_time_blocks p.avg_gen_time p.dt_diff_eval) (dec_lacks_by 58 colon (λ e. omega arith) p.percent_rot is.percent_rot) (dec_again p.percent_rot is.percent_rot)
-    ∙ field_again 58 number_of (decimal p.ud_time0) x18 p.ud_time0 (after_ud_time0 p.c p.dt p.ud0 p.sig_period p.sig_stock p.sig_window p.sig_validity p.sig_qty p.idty_window p.ms_window p.xpercent p.ms_validity p.step_max p.median_time_blocks p.avg_gen_time p.dt_diff_eval p.percent_rot) (number_lacks 58 colon p.ud_time0 is.ud_time0) (number_again p.ud_time0 is.ud_time0)
-    ∙ field_again 58 number_of (decimal p.ud_reeval_time0) x19 p.ud_reeval_time0 (after_ud_reeval_time0 p.c p.dt p.ud0 p.sig_period p.sig_stock p.sig_window p.sig_validity p.sig_qty p.idty_window p.ms_window p.xpercent p.ms_validity p.step_max p.median_time_blocks p.avg_gen_time p.dt_diff_eval p.percent_rot p.ud_time0) (number_lacks 58 colon p.ud_reeval_time0 is.ud_reeval_time0) (number_again p.ud_reeval_time0 is.ud_reeval_time0)
-    ∙ ap (λ (o : Option ℕ). o >>= made p.c p.dt p.ud0 p.sig_period p.sig_stock p.sig_window p.sig_validity p.sig_qty p.idty_window p.ms_window p.xpercent p.ms_validity p.step_max p.median_time_blocks p.avg_gen_time p.dt_diff_eval p.percent_rot p.ud_time0 p.ud_reeval_time0) (number_again p.dt_reeval is.dt_reeval)
+    rw (
+      first_again (first_of p) _ (is.c, is.dt, is.ud0, is.sig_period, is.sig_stock),
+      second_again (second_of p) _ (is.sig_window, is.sig_validity, is.sig_qty, is.idty_window, is.ms_window),
+      third_again (third_of p) _ (is.xpercent, is.ms_validity, is.step_max, is.median_time_blocks, is.avg_gen_time),
+      last_again (last_of p) (is.dt_diff_eval, is.percent_rot, is.ud_time0, is.ud_reeval_time0, is.dt_reeval),
+    ) refl
 
 pub params_is_found : (text : List ℕ) (o : Option Params) → o ≡ params_of text → IfSome o (λ p. IsParams p × (text ≡ params_text p))
 params_is_found text (Some p) e = params_found text p (sym e)

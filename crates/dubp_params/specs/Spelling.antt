@@ -1,31 +1,32 @@
 -- The one spelling of the twenty parameters, and which lists of values have one. Protocol: parameters.
 use Rattle.std.specs.Prelude.{ℕ, List, ◌∷◌, ◌++◌}
 use Rattle.std.specs.Fmt.{decimal}
+use Rattle.dubp_atoms.specs.Letters.{COLON}
 use Rattle.dubp_atoms.specs.Spelling.{IsNumber, IsDec, dec_text}
 use Rattle.dubp_params.specs.declared.params.Params.{Params}
 
 -- the fields in order, with `:` between
 abbrev pub params_text : Params → List ℕ
 params_text p =
-    dec_text p.c ++ 58 ∷ (
-    decimal p.dt ++ 58 ∷ (
-    decimal p.ud0 ++ 58 ∷ (
-    decimal p.sig_period ++ 58 ∷ (
-    decimal p.sig_stock ++ 58 ∷ (
-    decimal p.sig_window ++ 58 ∷ (
-    decimal p.sig_validity ++ 58 ∷ (
-    decimal p.sig_qty ++ 58 ∷ (
-    decimal p.idty_window ++ 58 ∷ (
-    decimal p.ms_window ++ 58 ∷ (
-    dec_text p.xpercent ++ 58 ∷ (
-    decimal p.ms_validity ++ 58 ∷ (
-    decimal p.step_max ++ 58 ∷ (
-    decimal p.median_time_blocks ++ 58 ∷ (
-    decimal p.avg_gen_time ++ 58 ∷ (
-    decimal p.dt_diff_eval ++ 58 ∷ (
-    dec_text p.percent_rot ++ 58 ∷ (
-    decimal p.ud_time0 ++ 58 ∷ (
-    decimal p.ud_reeval_time0 ++ 58 ∷ (
+    dec_text p.c ++ COLON ∷ (
+    decimal p.dt ++ COLON ∷ (
+    decimal p.ud0 ++ COLON ∷ (
+    decimal p.sig_period ++ COLON ∷ (
+    decimal p.sig_stock ++ COLON ∷ (
+    decimal p.sig_window ++ COLON ∷ (
+    decimal p.sig_validity ++ COLON ∷ (
+    decimal p.sig_qty ++ COLON ∷ (
+    decimal p.idty_window ++ COLON ∷ (
+    decimal p.ms_window ++ COLON ∷ (
+    dec_text p.xpercent ++ COLON ∷ (
+    decimal p.ms_validity ++ COLON ∷ (
+    decimal p.step_max ++ COLON ∷ (
+    decimal p.median_time_blocks ++ COLON ∷ (
+    decimal p.avg_gen_time ++ COLON ∷ (
+    decimal p.dt_diff_eval ++ COLON ∷ (
+    dec_text p.percent_rot ++ COLON ∷ (
+    decimal p.ud_time0 ++ COLON ∷ (
+    decimal p.ud_reeval_time0 ++ COLON ∷ (
     decimal p.dt_reeval)))))))))))))))))))
 
 pub record IsParams (p : Params) : Type 0 where

@@ -1,5 +1,6 @@
 ghost use Rattle.std.specs.Prelude.{◌≡◌, ◌+◌, ◌≤◌, ◌++◌, ◌∷◌, [], decimal};
 ghost use Rattle.arrayvec.specs.ArrayVec.{array_vec_len};
+ghost use Rattle.dubp_atoms.specs.Letters.{COLON};
 ghost use Rattle.dubp_atoms.specs.Spelling.{IsDec, IsNumber, dec_text};
 ghost use Rattle.dubp_params.specs.Spelling.{IsParams, params_text};
 
@@ -22,7 +23,7 @@ pub fn put_params(params: &Params, out: &mut Line)
 fn put_first_five(params: &Params, out: &mut Line)
     requires room { array_vec_len out.old + 155 ≤ 2048 }
     requires valid { IsParams params.now }
-    ensures text { out.new.items ≡ out.old.items ++ (dec_text params.now.c ++ 58 ∷ (decimal params.now.dt ++ 58 ∷ (decimal params.now.ud0 ++ 58 ∷ (decimal params.now.sig_period ++ 58 ∷ (decimal params.now.sig_stock ++ 58 ∷ ([])))))) }
+    ensures text { out.new.items ≡ out.old.items ++ (dec_text params.now.c ++ COLON ∷ (decimal params.now.dt ++ COLON ∷ (decimal params.now.ud0 ++ COLON ∷ (decimal params.now.sig_period ++ COLON ∷ (decimal params.now.sig_stock ++ COLON ∷ ([])))))) }
     ensures room { array_vec_len out.new ≤ array_vec_len out.old + 95 }
 {
     put_dec_field(&params.c, out);
@@ -35,7 +36,7 @@ fn put_first_five(params: &Params, out: &mut Line)
 fn put_second_five(params: &Params, out: &mut Line)
     requires room { array_vec_len out.old + 145 ≤ 2048 }
     requires valid { IsParams params.now }
-    ensures text { out.new.items ≡ out.old.items ++ (decimal params.now.sig_window ++ 58 ∷ (decimal params.now.sig_validity ++ 58 ∷ (decimal params.now.sig_qty ++ 58 ∷ (decimal params.now.idty_window ++ 58 ∷ (decimal params.now.ms_window ++ 58 ∷ ([])))))) }
+    ensures text { out.new.items ≡ out.old.items ++ (decimal params.now.sig_window ++ COLON ∷ (decimal params.now.sig_validity ++ COLON ∷ (decimal params.now.sig_qty ++ COLON ∷ (decimal params.now.idty_window ++ COLON ∷ (decimal params.now.ms_window ++ COLON ∷ ([])))))) }
     ensures room { array_vec_len out.new ≤ array_vec_len out.old + 85 }
 {
     put_number_field(params.sig_window, out);
@@ -48,7 +49,7 @@ fn put_second_five(params: &Params, out: &mut Line)
 fn put_third_five(params: &Params, out: &mut Line)
     requires room { array_vec_len out.old + 155 ≤ 2048 }
     requires valid { IsParams params.now }
-    ensures text { out.new.items ≡ out.old.items ++ (dec_text params.now.xpercent ++ 58 ∷ (decimal params.now.ms_validity ++ 58 ∷ (decimal params.now.step_max ++ 58 ∷ (decimal params.now.median_time_blocks ++ 58 ∷ (decimal params.now.avg_gen_time ++ 58 ∷ ([])))))) }
+    ensures text { out.new.items ≡ out.old.items ++ (dec_text params.now.xpercent ++ COLON ∷ (decimal params.now.ms_validity ++ COLON ∷ (decimal params.now.step_max ++ COLON ∷ (decimal params.now.median_time_blocks ++ COLON ∷ (decimal params.now.avg_gen_time ++ COLON ∷ ([])))))) }
     ensures room { array_vec_len out.new ≤ array_vec_len out.old + 95 }
 {
     put_dec_field(&params.xpercent, out);
@@ -61,7 +62,7 @@ fn put_third_five(params: &Params, out: &mut Line)
 fn put_last_five(params: &Params, out: &mut Line)
     requires room { array_vec_len out.old + 118 ≤ 2048 }
     requires valid { IsParams params.now }
-    ensures text { out.new.items ≡ out.old.items ++ (decimal params.now.dt_diff_eval ++ 58 ∷ (dec_text params.now.percent_rot ++ 58 ∷ (decimal params.now.ud_time0 ++ 58 ∷ (decimal params.now.ud_reeval_time0 ++ 58 ∷ (decimal params.now.dt_reeval))))) }
+    ensures text { out.new.items ≡ out.old.items ++ (decimal params.now.dt_diff_eval ++ COLON ∷ (dec_text params.now.percent_rot ++ COLON ∷ (decimal params.now.ud_time0 ++ COLON ∷ (decimal params.now.ud_reeval_time0 ++ COLON ∷ (decimal params.now.dt_reeval))))) }
     ensures room { array_vec_len out.new ≤ array_vec_len out.old + 94 }
 {
     put_number_field(params.dt_diff_eval, out);
@@ -75,7 +76,7 @@ fn put_last_five(params: &Params, out: &mut Line)
 fn put_number_field(n: u64, out: &mut Line)
     requires room { array_vec_len out.old + 41 ≤ 2048 }
     requires valid { IsNumber n }
-    ensures text { out.new.items ≡ out.old.items ++ (decimal n ++ 58 ∷ []) }
+    ensures text { out.new.items ≡ out.old.items ++ (decimal n ++ COLON ∷ []) }
     ensures room { array_vec_len out.new ≤ array_vec_len out.old + 17 }
 {
     put_number(n as u128, out);
@@ -86,7 +87,7 @@ fn put_number_field(n: u64, out: &mut Line)
 fn put_dec_field(dec: &Dec, out: &mut Line)
     requires room { array_vec_len out.old + 61 ≤ 2048 }
     requires valid { IsDec dec.now }
-    ensures text { out.new.items ≡ out.old.items ++ (dec_text dec.now ++ 58 ∷ []) }
+    ensures text { out.new.items ≡ out.old.items ++ (dec_text dec.now ++ COLON ∷ []) }
     ensures room { array_vec_len out.new ≤ array_vec_len out.old + 27 }
 {
     dec.put(out);

@@ -12,5 +12,5 @@ returns-in-Ok-clause-found c =
 pub returns-in-Ok-clause-only : goal.returns-in-Ok-clause-only
 returns-in-Ok-clause-only c = λ b is e. same_read c.in-Ok.block b (block_of (split c.args.text.now)) c.in-Ok.ensures.exact (ap (λ t. block_of (split t)) e ∙ text_again b is)
 
-pub returns-in-Err-Left-clause-only : goal.returns-in-Err-Left-clause-only
-returns-in-Err-Left-clause-only c = λ b is e. absurd (no_error b c.in-Err-Left.field-0-0 (block_of (split c.args.text.now)) (ap (λ t. block_of (split t)) e ∙ text_again b is) (rw c.in-Err-Left.field-0-is at c.in-Err-Left.ensures.exact))
+pub returns-in-Err-clause-only : goal.returns-in-Err-clause-only
+returns-in-Err-clause-only c = λ b is e. absurd (no_error b c.in-Err.field-0.left (block_of (split c.args.text.now)) (ap (λ t. block_of (split t)) e ∙ text_again b is) c.in-Err.ensures.exact)
