@@ -4,6 +4,7 @@ pub mod Lists
 pub mod View
 pub mod Nesting
 pub mod Joined
+pub mod TextOf
 pub mod Conditions
 pub mod Truth
 pub mod Sources

@@ -17,6 +17,7 @@
 
 mod copying;
 mod cursor;
+mod front;
 pub mod laws;
 mod memory;
 mod output;
