@@ -1,6 +1,6 @@
 -- What a reading that is the inverse of a spelling gives: the three clauses of a reader, and that different values have
 -- different texts.
-use Rattle.std.proofs.Common.{◌≡◌, ℕ, List, Option, Some, None, Result, Ok, Err, IfOk, refl, sym, ap, ◌∙◌}
+use Rattle.std.proofs.Common.{◌≡◌, ℕ, List, Bool, ◌↔◌, Option, Some, None, is_some, IsTrue, Result, Ok, Err, IfOk, refl, sym, ap, ◌∙◌}
 use Rattle.std.specs.Prelude.{IfSome, IsSome, OnErr}
 use Rattle.dubp_atoms.proofs.Numbers.{some_is}
 use Rattle.dubp_cond.specs.TextOf.{IsTextOf}
@@ -33,6 +33,11 @@ module _ {A : Type 0} (read : List ℕ → Option A) (spell : A → List ℕ) (G
       seen : (o : Option A) → read text ≡ o → IsSome o → IsTextOf Good spell text
       seen (Some x) is h = let f = finds text x is in (x, f.0, f.1)
       seen None is h = absurd cc
+
+  -- and only there
+  pub is_told : ((t : List ℕ) (x : A) → read t ≡ Some x → Good x × (t ≡ spell x)) → ((x : A) → Good x → read (spell x) ≡ Some x) → (text : List ℕ) (told : Bool) → told ≡ is_some (read text) →
+      IsTrue told ↔ IsTextOf Good spell text
+  is_told finds again text told e = (λ h. is_text finds text (sym e ∙ h), λ p. e ∙ ap is_some (ap read p.2 ∙ again p.0 p.1))
 
   pub is_lacked : {X E : Type 0} → ((t : List ℕ) (x : A) → read t ≡ Some x → Good x × (t ≡ spell x)) → (text : List ℕ) (r : Result X E) → OnErr r (IsSome (read text)) → OnErr r (IsTextOf Good spell text)
   is_lacked finds text (Ok o) h = tt

@@ -1,4 +1,4 @@
-ghost use Rattle.std.specs.Prelude.{◌≡◌, ◌+◌, ◌≤◌, ◌++◌, map, codes, option_map, is_some, Some, true, length, IfOk, IfSome, IsSome, OnErr};
+ghost use Rattle.std.specs.Prelude.{◌≡◌, ◌+◌, ◌≤◌, ◌++◌, ◌↔◌, map, codes, option_map, is_some, Some, true, length, IfOk, IfSome, IsSome, IsTrue, OnErr};
 ghost use Rattle.std.specs.List.{list_all};
 ghost use Rattle.arrayvec.specs.ArrayVec.{array_vec_len};
 ghost use Rattle.dubp_cond.specs.Joined.{joined};
@@ -147,6 +147,27 @@ fn read_unlocks(alloc: Global, text: &[u8]) -> Result<Option<Items<Unlock>>, NoM
         return Ok(None);
     }
     Ok(Some(Items::from_vec(list)))
+}
+
+#[tactic(auto, unfolding(crate::specs::ReadingLines::unlock_line_of))]
+fn pass_line(line: &[u8]) -> bool
+    ensures { result ≡ is_some (unlock_line_of line.now) }
+{
+    if line.len() > MAX_CHARACTERS {
+        return false;
+    }
+    let Some((input, list)) = cut(line, b':') else {
+        return false;
+    };
+    read_number(input).is_some() && are_unlocks(list)
+}
+
+/// Whether the line is that of unlocks: of at most 1,000 characters, with 1 to 8 functions. It takes no memory.
+pub fn is_unlock(line: &[u8]) -> bool
+    ensures text { IsTrue result ↔ IsTextOf IsUnlockLine unlock_line_text line.now }
+    ensures exact { result ≡ is_some (unlock_line_of line.now) }
+{
+    pass_line(line)
 }
 
 #[tactic(auto, unfolding(crate::specs::ReadingLines::unlock_line_of))]
