@@ -70,6 +70,7 @@ fn conditions_hold_at_their_time(rt: HostRuntime) -> Result<(), Fail> {
         (b"CLTV(1000) && CSV(0)", b"0:SIG(0)", first, 1000, 0, true),
     ];
     for (cond, unlocks, issuers, now, written, is) in rows {
+        assert!(rt; written <= now);
         let Ok(Some(cond)) = read_cond(rt.alloc(), cond) else {
             return Err(Fail::from("no condition"));
         };
