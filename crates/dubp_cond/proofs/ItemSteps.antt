@@ -11,8 +11,8 @@ use Rattle.dubp_cond.specs.Gives.{Gives, left_of, Passes, front_view}
 use Rattle.dubp_cond.specs.declared.tree.Item.{Item}
 use Rattle.dubp_cond.specs.declared.tree.Item.TheVariants.{Group as group_item}
 use Rattle.dubp_cond.specs.declared.tree.Cond.{Cond}
-use Rattle.dubp_cond.specs.declared.reading.Front.{Front}
-use Rattle.dubp_cond.specs.declared.reading.Front.TheVariants.{Leaf}
+use Rattle.dubp_cond.specs.declared.front.Front.{Front}
+use Rattle.dubp_cond.specs.declared.front.Front.TheVariants.{Leaf}
 use Rattle.dubp_cond.proofs.Turns.{Shrinks, shrinks}
 use Rattle.dubp_cond.proofs.Loops.{word_absent, word_there, given_none, given_some, no_value, a_value}
 use Rattle.dubp_cond.proofs.Items.{GoodItem}

@@ -13,3 +13,4 @@ pub mod ItemSteps
 pub mod UpToLoops
 pub mod Tails
 pub mod LineEnds
+pub mod Checks

@@ -65,7 +65,7 @@ module _ {X A B : Type 0} (read : Read A) (short : Shrinks read) (word : List �
 
 -- ---- passing is reading without the value
 
-left_of-map : {A B : Type 0} (f : A → B) (r : Option (A × List ℕ)) → left_of (read_map f r) ≡ left_of r
+pub left_of-map : {A B : Type 0} (f : A → B) (r : Option (A × List ℕ)) → left_of (read_map f r) ≡ left_of r
 left_of-map f None = refl
 left_of-map f (Some p) = refl
 

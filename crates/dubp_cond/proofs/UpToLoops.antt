@@ -1,8 +1,8 @@
 -- What a loop that takes at most so many values with a word between each two knows of `separated_up_to`.
 use Rattle.std.proofs.Common.{◌≡◌, ℕ, suc, Bool, true, false, List, [], ◌∷◌, ◌++◌, Option, Some, None, refl, sym, ap, ◌∙◌, if◌then◌else◌}
 use Rattle.dubp_cond.specs.Separated.{Read, after, read_map, separated_up_to}
-use Rattle.dubp_cond.specs.Gives.{Gives}
-use Rattle.dubp_cond.proofs.Loops.{word_absent, word_there, given_none, given_some, joined_maps}
+use Rattle.dubp_cond.specs.Gives.{Gives, left_of}
+use Rattle.dubp_cond.proofs.Loops.{word_absent, word_there, given_none, given_some, joined_maps, left_of-map}
 
 same : {A : Type 0} → A → A
 same x = x
@@ -32,3 +32,27 @@ module _ {A : Type 0} (read : Read A) (word : List ℕ) (front : List A) (at : L
   turn_goes n m e so_far o x rest next taken items gives is listed word_is more =
       rw listed (joined_maps front x (separated_up_to read word m next)
       ∙ ap (read_map (λ xs. front ++ xs)) (sym (rw (e, given_some (λ x. x) o x rest (read at) gives is, word_there taken next (after word rest) word_is more) refl)) ∙ so_far)
+
+-- the same for a loop that passes over the values
+module _ {A : Type 0} (read : Read A) (word at : List ℕ) (all : Option (List ℕ)) where
+  abbrev pub PassesLeft : ℕ → Type 0
+  PassesLeft n = left_of (separated_up_to read word n at) ≡ all
+
+  pub pass_none : (n : ℕ) → n ≡ 0 → PassesLeft n → all ≡ None
+  unfolding separated_up_to
+  pass_none n z so_far = sym so_far ∙ rw z refl
+
+  pub pass_stops : (n m : ℕ) → n ≡ suc m → PassesLeft n → read at ≡ None → all ≡ None
+  unfolding separated_up_to
+  pass_stops n m e so_far none = sym so_far ∙ rw (e, none) refl
+
+  pub pass_last : (n m : ℕ) → n ≡ suc m → PassesLeft n → (x : A) (rest next : List ℕ) (taken : Bool) → read at ≡ Some (x, rest) →
+      (if taken then Some next else None) ≡ after word rest → taken ≡ false → (taken ≡ false → next ≡ rest) → all ≡ Some next
+  unfolding separated_up_to
+  pass_last n m e so_far x rest next taken is word_is no_more kept = sym so_far ∙ rw (e, is, word_absent taken next (after word rest) word_is no_more, kept no_more) refl
+
+  pub pass_more : (n m : ℕ) → n ≡ suc m → PassesLeft n → (x : A) (rest next : List ℕ) (taken : Bool) → read at ≡ Some (x, rest) →
+      (if taken then Some next else None) ≡ after word rest → taken ≡ true → left_of (separated_up_to read word m next) ≡ all
+  unfolding separated_up_to
+  pass_more n m e so_far x rest next taken is word_is more =
+      sym (left_of-map (λ xs. x ∷ xs) (separated_up_to read word m next)) ∙ ap left_of (sym (rw (e, is, word_there taken next (after word rest) word_is more) refl)) ∙ so_far

@@ -2,8 +2,12 @@
 use Rattle.std.specs.Prelude.{ℕ, ◌≡◌, List, Option, Some, None, option_map, Bool, if◌then◌else◌}
 use Rattle.dubp_cond.specs.Tree.{ItemTree}
 use Rattle.dubp_cond.specs.View.{item_tree}
-use Rattle.dubp_cond.specs.declared.reading.Front.{Front}
-use Rattle.dubp_cond.specs.declared.reading.Front.TheVariants.{Leaf, Group}
+use Rattle.dubp_cond.specs.declared.unlock.Unlock.{Unlock}
+use Rattle.dubp_cond.specs.declared.unlock.Unlock.TheVariants as unlock
+use Rattle.dubp_cond.specs.declared.unlock.Spelled.{Spelled}
+use Rattle.dubp_cond.specs.declared.unlock.Spelled.TheVariants.{Sig, Xhx}
+use Rattle.dubp_cond.specs.declared.front.Front.{Front}
+use Rattle.dubp_cond.specs.declared.front.Front.TheVariants.{Leaf, Group}
 
 -- the value, seen by its view, and what is left, where something was read
 abbrev pub Gives : {X A : Type 0} → (X → A) → Option X → List ℕ → Option (A × List ℕ) → Type 0
@@ -21,3 +25,7 @@ Passes passed rest read = left_of read ≡ (if passed then Some rest else None)
 abbrev pub front_view : Front → Option ItemTree
 front_view (Leaf item) = Some (item_tree item)
 front_view Group = None
+
+abbrev pub spelled_unlock : Spelled → Unlock
+spelled_unlock (Sig issuer) = unlock.Sig issuer
+spelled_unlock (Xhx password) = unlock.Xhx password.now

@@ -3,7 +3,9 @@ pub mod TreeCode
 pub mod Lists
 pub mod View
 pub mod Nesting
+pub mod Signs
 pub mod Joined
+pub mod TextOf
 pub mod Conditions
 pub mod Truth
 pub mod Sources

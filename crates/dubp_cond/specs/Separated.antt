@@ -1,6 +1,7 @@
 -- Reading from the front of a text: what is read, and what is left of the text. It mirrors code.
 use Rattle.std.specs.Prelude.{ℕ, zero, suc, ◌==◌, List, [], ◌∷◌, length, Option, Some, None, option_map, if◌then◌else◌}
 use Rattle.dubp_atoms.specs.Reading.{◌>>=◌, field}
+use Rattle.dubp_cond.specs.Signs.{RIGHT_PARENTHESIS}
 
 abbrev pub Read : Type 0 → Type 0
 Read A = List ℕ → Option (A × List ℕ)
@@ -21,7 +22,7 @@ read_map f r = option_map (λ p. (f p.0, p.1)) r
 
 -- a value that ends at the next `)`
 abbrev pub closed : {A : Type 0} → (List ℕ → Option A) → Read A
-closed read text = field 41 read text (λ x rest. Some (x, rest))
+closed read text = field RIGHT_PARENTHESIS read text (λ x rest. Some (x, rest))
 
 -- the value, where nothing is left
 abbrev pub if_last : {A : Type 0} → A × List ℕ → Option A

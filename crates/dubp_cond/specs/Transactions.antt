@@ -1,8 +1,9 @@
 -- Which transactions are in range. Protocol: transactions.
 use Rattle.std.specs.Prelude.{ℕ, ◌≤◌, ◌≡◌, Bool, true, ◌&&◌, nat_le, List, length, All}
 use Rattle.std.specs.List.{list_all}
-use Rattle.dubp_atoms.specs.Letters.{is_between, is_key, is_sig}
+use Rattle.dubp_atoms.specs.Letters.{SPACE, is_between, is_key, is_sig}
 use Rattle.dubp_atoms.specs.Spelling.{IsNumber, IsStamp}
+use Rattle.dubp_cond.specs.Signs.{TILDE}
 use Rattle.dubp_cond.specs.Sources.{IsInput}
 use Rattle.dubp_cond.specs.Unlocks.{IsUnlockLine}
 use Rattle.dubp_cond.specs.Outputs.{IsOutput}
@@ -10,7 +11,7 @@ use Rattle.dubp_cond.specs.declared.tx.Tx.{Tx}
 
 -- COMMENT: 0 to 255 characters from the space to `~`
 abbrev pub is_comment_letter : ℕ → Bool
-is_comment_letter c = is_between 32 126 c
+is_comment_letter c = is_between SPACE TILDE c
 
 unfoldable pub is_comment : List ℕ → Bool
 is_comment text = nat_le (length text) 255 && list_all is_comment_letter text

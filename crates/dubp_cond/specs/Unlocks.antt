@@ -1,8 +1,9 @@
 -- The one spelling of an UNLOCK line, and which lines have one. Protocol: unlocks.
 use Rattle.std.specs.Prelude.{ℕ, ◌≤◌, ◌≡◌, Bool, true, not, ◌&&◌, List, ◌∷◌, ◌++◌, length, map, codes, decimal, All}
 use Rattle.std.specs.List.{list_all}
-use Rattle.dubp_atoms.specs.Letters.{is_between}
+use Rattle.dubp_atoms.specs.Letters.{COLON, is_between}
 use Rattle.dubp_atoms.specs.Spelling.{IsNumber}
+use Rattle.dubp_cond.specs.Signs.{LEFT_PARENTHESIS, RIGHT_PARENTHESIS, EXCLAMATION_MARK, TILDE}
 use Rattle.dubp_cond.specs.Joined.{joined}
 use Rattle.dubp_cond.specs.declared.unlock.Unlock.{Unlock}
 use Rattle.dubp_cond.specs.declared.unlock.Unlock.TheVariants.{Sig, Xhx}
@@ -10,7 +11,7 @@ use Rattle.dubp_cond.specs.declared.unlock.UnlockLine.{UnlockLine}
 
 -- `!` to `~` other than `(` and `)`
 abbrev pub is_password_letter : ℕ → Bool
-is_password_letter c = is_between 33 126 c && not (is_between 40 41 c)
+is_password_letter c = is_between EXCLAMATION_MARK TILDE c && not (is_between LEFT_PARENTHESIS RIGHT_PARENTHESIS c)
 
 -- PASSWORD: 1 to 255 of these characters
 unfoldable pub is_password : List ℕ → Bool
@@ -27,7 +28,7 @@ IsUnlock (Xhx password) = is_password password ≡ true
 
 -- UNLOCK: NUM, `:`, and the functions with one space between
 abbrev pub unlock_line_text : UnlockLine → List ℕ
-unlock_line_text l = decimal l.input ++ 58 ∷ joined (codes " ") (map unlock_text l.list)
+unlock_line_text l = decimal l.input ++ COLON ∷ joined (codes " ") (map unlock_text l.list)
 
 -- 1 to 8 functions, and at most 1,000 characters
 pub record IsUnlockLine (l : UnlockLine) : Type 0 where

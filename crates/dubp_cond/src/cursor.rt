@@ -1,5 +1,6 @@
 ghost use Rattle.std.specs.Prelude.{◌≡◌, ◌==◌, ◌+◌, ◌<◌, Some, None, length, option_map, true, false, IfSome, OnSome, if◌then◌else◌};
 ghost use Rattle.dubp_atoms.specs.Reading.{cut_at};
+ghost use Rattle.dubp_cond.specs.Signs.{RIGHT_PARENTHESIS};
 ghost use Rattle.dubp_cond.specs.Separated.{after};
 
 use dubp_atoms::cut;
@@ -59,7 +60,7 @@ impl<'a> Cursor<'a> {
 
     /// Takes the text up to the next `)`, and the `)`.
     pub fn take_field(&mut self) -> Option<&'a [u8]>
-        ensures taken { option_map (λ front. (front.now, self.new)) result ≡ cut_at 41 self.old }
+        ensures taken { option_map (λ front. (front.now, self.new)) result ≡ cut_at RIGHT_PARENTHESIS self.old }
         ensures shorter { OnSome result (length self.new < length self.old) }
     {
         let (front, rest) = cut(self.rest, b')')?;

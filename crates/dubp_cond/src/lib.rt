@@ -17,6 +17,7 @@
 
 mod copying;
 mod cursor;
+mod front;
 pub mod laws;
 mod memory;
 mod output;
@@ -32,12 +33,12 @@ mod unlock;
 mod writing;
 
 pub use copying::{copy_cond, copy_tx};
-pub use output::{Output, put_output, read_output};
+pub use output::{Output, is_output, put_output, read_output};
 pub use passing::is_cond;
 pub use reading::read_cond;
 pub use source::{Input, SourceId, put_input, read_input};
 pub use tree::{All, Cond, CondText, Item};
 pub use truth::holds;
 pub use tx::Tx;
-pub use unlock::{Unlock, UnlockLine, put_unlock, read_unlock};
+pub use unlock::{Unlock, UnlockLine, is_unlock, put_unlock, read_unlock};
 pub use writing::put_cond;

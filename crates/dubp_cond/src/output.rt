@@ -1,10 +1,12 @@
-ghost use Rattle.std.specs.Prelude.{◌≡◌, ◌+◌, ◌≤◌, ◌++◌, Some, IfOk, IfSome};
+ghost use Rattle.std.specs.Prelude.{◌≡◌, ◌+◌, ◌≤◌, ◌++◌, ◌↔◌, is_some, Some, IfOk, IfSome, IsSome, IsTrue, OnErr};
 ghost use Rattle.arrayvec.specs.ArrayVec.{array_vec_len};
 ghost use Rattle.dubp_cond.specs.Outputs.{output_text, IsOutput};
+ghost use Rattle.dubp_cond.specs.TextOf.{IsTextOf};
 ghost use Rattle.dubp_cond.specs.ReadingLines.{output_of};
 ghost use Rattle.dubp_cond.specs.declared.output.Output.{Output as OutputValue};
 
-use crate::reading::read_cond;
+use crate::passing::pass_whole;
+use crate::reading::read_whole;
 use crate::source::read_base;
 use crate::tree::Cond;
 use crate::writing::put_cond;
@@ -23,7 +25,8 @@ pub struct Output {
 
 #[tactic(auto, unfolding(crate::specs::ReadingLines::output_of))]
 fn read_parts(alloc: Global, line: &[u8]) -> Result<Option<Output>, NoMemory>
-    ensures { IfOk result (λ found. found ≡ output_of line.now) }
+    ensures exact { IfOk result (λ found. found ≡ output_of line.now) }
+    ensures lacked { OnErr result (IsSome (output_of line.now)) }
 {
     let Some((amount, rest)) = cut(line, b':') else {
         return Ok(None);
@@ -37,16 +40,39 @@ fn read_parts(alloc: Global, line: &[u8]) -> Result<Option<Output>, NoMemory>
     let Some(base) = read_base(base) else {
         return Ok(None);
     };
-    let Some(cond) = read_cond(alloc, cond)? else {
+    let Some(cond) = read_whole(alloc, cond)? else {
         return Ok(None);
     };
     Ok(Some(Output { amount, base, cond }))
 }
 
-/// The output that this line is. None exactly where it is the text of none. `NoMemory` where there is no room for it.
+#[tactic(auto, unfolding(crate::specs::ReadingLines::output_of))]
+fn pass_parts(line: &[u8]) -> bool
+    ensures { result ≡ is_some (output_of line.now) }
+{
+    let Some((amount, rest)) = cut(line, b':') else {
+        return false;
+    };
+    let Some((base, cond)) = cut(rest, b':') else {
+        return false;
+    };
+    read_number(amount).is_some() && read_base(base).is_some() && pass_whole(cond)
+}
+
+/// Whether the line is that of an output. It takes no memory.
+pub fn is_output(line: &[u8]) -> bool
+    ensures text { IsTrue result ↔ IsTextOf IsOutput output_text line.now }
+    ensures exact { result ≡ is_some (output_of line.now) }
+{
+    pass_parts(line)
+}
+
+/// The output that this line is. None exactly where it is the text of none. `NoMemory` only where it is an output's text and
+/// there is no room for the output.
 pub fn read_output(alloc: Global, line: &[u8]) -> Result<Option<Output>, NoMemory>
     ensures found { IfOk result (λ found. IfSome found (λ o. IsOutput o × (line.now ≡ output_text o))) }
     ensures only { (o : OutputValue) → IsOutput o → line.now ≡ output_text o → IfOk result (λ found. found ≡ Some o) }
+    ensures lacked { OnErr result (IsTextOf IsOutput output_text line.now) }
     ensures exact { IfOk result (λ found. found ≡ output_of line.now) }
 {
     read_parts(alloc, line)

@@ -1,11 +1,17 @@
-ghost use Rattle.std.specs.Prelude.{◌≡◌, ◌<◌, ◌↔◌, true, length, is_some, IsTrue};
-ghost use Rattle.dubp_cond.specs.Tree.{CondTree};
+ghost use Rattle.std.specs.Prelude.{◌≡◌, ◌<◌, ◌≤◌, ◌↔◌, true, length, is_some, IsTrue};
 ghost use Rattle.dubp_cond.specs.Conditions.{cond_text, IsCond};
+ghost use Rattle.dubp_cond.specs.TextOf.{IsTextOf};
 ghost use Rattle.dubp_cond.specs.Gives.{Passes};
 ghost use Rattle.dubp_cond.specs.Reading.{item_at, all_at, cond_at, cond_of_text};
 
 use crate::cursor::Cursor;
-use crate::reading::{Front, MAX_CHARACTERS, MAX_GROUPS, take_front};
+use crate::front::{Front, take_front};
+
+/// The most groups that are open at once.
+pub const MAX_GROUPS: usize = 64;
+
+/// The most characters of a condition.
+const MAX_CHARACTERS: usize = 1000;
 
 /// Passes over an item, in which at most `groups` groups are open at once.
 #[cycle(pass)]
@@ -61,8 +67,9 @@ fn pass_cond(cursor: &mut Cursor<'_>, groups: usize) -> bool
 }
 
 #[tactic(auto, unfolding(crate::specs::Reading::cond_of_text))]
-fn pass_whole(text: &[u8]) -> bool
-    ensures { result ≡ is_some (cond_of_text text.now) }
+pub fn pass_whole(text: &[u8]) -> bool
+    ensures passed { result ≡ is_some (cond_of_text text.now) }
+    ensures short { result ≡ true → length text.now ≤ 1000 }
 {
     if text.len() > MAX_CHARACTERS {
         return false;
@@ -74,7 +81,7 @@ fn pass_whole(text: &[u8]) -> bool
 /// Whether the text is that of a condition, of at most 1,000 characters and with at most 64 groups open at once. It takes no
 /// memory, and a longer text is refused by its length alone.
 pub fn is_cond(text: &[u8]) -> bool
-    ensures { IsTrue result ↔ ((c : CondTree) × IsCond c × (text.now ≡ cond_text c)) }
+    ensures { IsTrue result ↔ IsTextOf IsCond cond_text text.now }
 {
     pass_whole(text)
 }

@@ -1,55 +1,18 @@
-ghost use Rattle.std.specs.Prelude.{◌≡◌, ◌<◌, Some, length, option_map, IfOk, IfSome, OnSome};
+ghost use Rattle.std.specs.Prelude.{◌≡◌, ◌<◌, ◌≤◌, Some, length, IfOk, IfSome, IsSome, OnErr, OnSome};
 ghost use Rattle.dubp_cond.specs.Tree.{CondTree};
 ghost use Rattle.dubp_cond.specs.Conditions.{cond_text, IsCond};
 ghost use Rattle.dubp_cond.specs.View.{item_tree, all_tree};
-ghost use Rattle.dubp_cond.specs.Gives.{Gives, front_view};
-ghost use Rattle.dubp_cond.specs.Reading.{front_at, item_at, all_at, cond_at, cond_of_text};
+ghost use Rattle.dubp_cond.specs.TextOf.{IsTextOf};
+ghost use Rattle.dubp_cond.specs.Gives.{Gives};
+ghost use Rattle.dubp_cond.specs.Reading.{item_at, all_at, cond_at, cond_of_text};
 
 use crate::cursor::Cursor;
+use crate::front::{Front, take_front};
 use crate::memory::{boxed, push};
+use crate::passing::{MAX_GROUPS, pass_whole};
 use crate::tree::{All, Cond, Item};
-use dubp_atoms::{Hash, Key, NoMemory, read_number};
+use dubp_atoms::NoMemory;
 use std::alloc::Global;
-
-/// The most groups that are open at once.
-pub const MAX_GROUPS: usize = 64;
-
-/// The most characters of a condition.
-pub const MAX_CHARACTERS: usize = 1000;
-
-/// What stands where an item begins: an item that is no group, or the `(` of a group.
-#[derive(Drop)]
-pub enum Front {
-    Leaf(Item),
-    Group,
-}
-
-/// Takes an item that is no group, or the `(` of a group.
-pub fn take_front(cursor: &mut Cursor<'_>) -> Option<Front>
-    ensures taken { option_map (λ front. (front_view front, cursor.new)) result ≡ front_at cursor.old }
-    ensures shorter { OnSome result (length cursor.new < length cursor.old) }
-{
-    if cursor.take_word(b"SIG(") {
-        let key = Key::read(cursor.take_field()?)?;
-        return Some(Front::Leaf(Item::Sig(key)));
-    }
-    if cursor.take_word(b"XHX(") {
-        let hash = Hash::read(cursor.take_field()?)?;
-        return Some(Front::Leaf(Item::Xhx(hash)));
-    }
-    if cursor.take_word(b"CSV(") {
-        let seconds = read_number(cursor.take_field()?)?;
-        return Some(Front::Leaf(Item::Csv(seconds)));
-    }
-    if cursor.take_word(b"CLTV(") {
-        let time = read_number(cursor.take_field()?)?;
-        return Some(Front::Leaf(Item::Cltv(time)));
-    }
-    if cursor.take_word(b"(") {
-        return Some(Front::Group);
-    }
-    None
-}
 
 /// Takes an item, in which at most `groups` groups are open at once.
 #[cycle(read)]
@@ -120,12 +83,10 @@ fn take_cond(
 }
 
 #[tactic(auto, unfolding(crate::specs::Reading::cond_of_text))]
-fn read_whole(alloc: Global, text: &[u8]) -> Result<Option<Cond>, NoMemory>
+fn build_whole(alloc: Global, text: &[u8]) -> Result<Option<Cond>, NoMemory>
+    requires { length text.now ≤ 1000 }
     ensures { IfOk result (λ found. found ≡ cond_of_text text.now) }
 {
-    if text.len() > MAX_CHARACTERS {
-        return Ok(None);
-    }
     let mut cursor = Cursor::new(text);
     let Some(cond) = take_cond(alloc, &mut cursor, MAX_GROUPS)? else {
         return Ok(None);
@@ -136,11 +97,24 @@ fn read_whole(alloc: Global, text: &[u8]) -> Result<Option<Cond>, NoMemory>
     Ok(Some(cond))
 }
 
+/// Passes over the text first, so that memory is asked for only where it is a condition's.
+pub fn read_whole(alloc: Global, text: &[u8]) -> Result<Option<Cond>, NoMemory>
+    ensures exact { IfOk result (λ found. found ≡ cond_of_text text.now) }
+    ensures lacked { OnErr result (IsSome (cond_of_text text.now)) }
+{
+    if !pass_whole(text) {
+        return Ok(None);
+    }
+    build_whole(alloc, text)
+}
+
 /// The condition that this text is. None exactly where it is the text of none: it is not spelled as one, has more than 1,000
-/// characters, or opens more than 64 groups at once. `NoMemory` where there is no room for it.
+/// characters, or opens more than 64 groups at once. `NoMemory` only where it is a condition's text and there is no room for
+/// the condition.
 pub fn read_cond(alloc: Global, text: &[u8]) -> Result<Option<Cond>, NoMemory>
     ensures found { IfOk result (λ found. IfSome found (λ c. IsCond c × (text.now ≡ cond_text c))) }
     ensures only { (c : CondTree) → IsCond c → text.now ≡ cond_text c → IfOk result (λ found. found ≡ Some c) }
+    ensures lacked { OnErr result (IsTextOf IsCond cond_text text.now) }
     ensures exact { IfOk result (λ found. found ≡ cond_of_text text.now) }
 {
     read_whole(alloc, text)

@@ -1,10 +1,10 @@
-ghost use Rattle.std.specs.Prelude.{◌≡◌, ◌+◌, ◌≤◌, ◌++◌, map, codes, Some, true, length, IfOk, IfSome};
+ghost use Rattle.std.specs.Prelude.{◌≡◌, ◌+◌, ◌≤◌, ◌++◌, ◌↔◌, map, codes, option_map, is_some, Some, true, length, IfOk, IfSome, IsSome, IsTrue, OnErr};
 ghost use Rattle.std.specs.List.{list_all};
 ghost use Rattle.arrayvec.specs.ArrayVec.{array_vec_len};
-ghost use Rattle.dubp_atoms.specs.Reading.{text_if};
 ghost use Rattle.dubp_cond.specs.Joined.{joined};
+ghost use Rattle.dubp_cond.specs.TextOf.{IsTextOf};
 ghost use Rattle.dubp_cond.specs.Unlocks.{is_password_letter, is_password, unlock_text, unlock_line_text, IsUnlockLine};
-ghost use Rattle.dubp_cond.specs.Gives.{Gives};
+ghost use Rattle.dubp_cond.specs.Gives.{Gives, Passes, spelled_unlock};
 ghost use Rattle.dubp_cond.specs.ReadingLines.{unlock_at, unlocks_at, unlocks_of, unlock_line_of};
 ghost use Rattle.dubp_cond.specs.declared.unlock.UnlockLine.{UnlockLine as UnlockLineValue};
 
@@ -53,39 +53,65 @@ fn is_password_text(text: &[u8]) -> bool
     !text.is_empty() && text.len() <= MAX_PASSWORD && all_password_letters(text)
 }
 
-fn read_password(alloc: Global, text: &[u8]) -> Result<Option<Items<u8>>, NoMemory>
-    ensures { IfOk result (λ found. found ≡ text_if is_password text.now) }
+/// A function as it stands in a line.
+#[derive(Clone, Copy)]
+enum Spelled<'a> {
+    Sig(u64),
+    Xhx(&'a [u8]),
+}
+
+/// Takes a function, without memory.
+fn take_spelled<'a>(cursor: &mut Cursor<'a>) -> Option<Spelled<'a>>
+    ensures { option_map (λ spelled. (spelled_unlock spelled, cursor.new)) result ≡ unlock_at cursor.old }
 {
-    if !is_password_text(text) {
-        return Ok(None);
+    if cursor.take_word(b"SIG(") {
+        let issuer = read_number(cursor.take_field()?)?;
+        return Some(Spelled::Sig(issuer));
     }
-    let password = copied(alloc, text)?;
-    Ok(Some(Items::from_vec(password)))
+    if !cursor.take_word(b"XHX(") {
+        return None;
+    }
+    let password = cursor.take_field()?;
+    if !is_password_text(password) {
+        return None;
+    }
+    Some(Spelled::Xhx(password))
+}
+
+/// Passes over 1 to 8 functions with one space between, without memory.
+fn pass_unlocks(cursor: &mut Cursor<'_>) -> bool
+    ensures { Passes result cursor.new (unlocks_at 8 cursor.old) }
+{
+    'functions: for _ in 0..MAX_FUNCTIONS {
+        let Some(_) = take_spelled(cursor) else {
+            return false;
+        };
+        if !cursor.take_word(b" ") {
+            return true;
+        }
+    }
+    false
+}
+
+/// Whether the text is 1 to 8 functions and nothing behind them.
+fn are_unlocks(text: &[u8]) -> bool
+    ensures { result ≡ is_some (unlocks_of text.now) }
+{
+    let mut cursor = Cursor::new(text);
+    pass_unlocks(&mut cursor) && cursor.is_done()
 }
 
 /// Takes a function.
 fn take_unlock(alloc: Global, cursor: &mut Cursor<'_>) -> Result<Option<Unlock>, NoMemory>
     ensures { IfOk result (λ found. Gives (λ u. u) found cursor.new (unlock_at cursor.old)) }
 {
-    if cursor.take_word(b"SIG(") {
-        let Some(issuer) = cursor.take_field() else {
-            return Ok(None);
-        };
-        let Some(issuer) = read_number(issuer) else {
-            return Ok(None);
-        };
-        return Ok(Some(Unlock::Sig(issuer)));
-    }
-    if !cursor.take_word(b"XHX(") {
-        return Ok(None);
-    }
-    let Some(password) = cursor.take_field() else {
-        return Ok(None);
-    };
-    let Some(password) = read_password(alloc, password)? else {
-        return Ok(None);
-    };
-    Ok(Some(Unlock::Xhx(password)))
+    Ok(match take_spelled(cursor) {
+        None => None,
+        Some(Spelled::Sig(issuer)) => Some(Unlock::Sig(issuer)),
+        Some(Spelled::Xhx(password)) => {
+            Some(Unlock::Xhx(Items::from_vec(copied(alloc, password)?)))
+        }
+    })
 }
 
 /// Takes 1 to 8 functions with one space between.
@@ -105,9 +131,14 @@ fn take_unlocks(alloc: Global, cursor: &mut Cursor<'_>) -> Result<Option<Vec<Unl
     Ok(None)
 }
 
+/// Passes over the text first, so that memory is asked for only where it is of functions.
 fn read_unlocks(alloc: Global, text: &[u8]) -> Result<Option<Items<Unlock>>, NoMemory>
-    ensures { IfOk result (λ found. found ≡ unlocks_of text.now) }
+    ensures exact { IfOk result (λ found. found ≡ unlocks_of text.now) }
+    ensures lacked { OnErr result (IsSome (unlocks_of text.now)) }
 {
+    if !are_unlocks(text) {
+        return Ok(None);
+    }
     let mut cursor = Cursor::new(text);
     let Some(list) = take_unlocks(alloc, &mut cursor)? else {
         return Ok(None);
@@ -119,8 +150,30 @@ fn read_unlocks(alloc: Global, text: &[u8]) -> Result<Option<Items<Unlock>>, NoM
 }
 
 #[tactic(auto, unfolding(crate::specs::ReadingLines::unlock_line_of))]
+fn pass_line(line: &[u8]) -> bool
+    ensures { result ≡ is_some (unlock_line_of line.now) }
+{
+    if line.len() > MAX_CHARACTERS {
+        return false;
+    }
+    let Some((input, list)) = cut(line, b':') else {
+        return false;
+    };
+    read_number(input).is_some() && are_unlocks(list)
+}
+
+/// Whether the line is that of unlocks: of at most 1,000 characters, with 1 to 8 functions. It takes no memory.
+pub fn is_unlock(line: &[u8]) -> bool
+    ensures text { IsTrue result ↔ IsTextOf IsUnlockLine unlock_line_text line.now }
+    ensures exact { result ≡ is_some (unlock_line_of line.now) }
+{
+    pass_line(line)
+}
+
+#[tactic(auto, unfolding(crate::specs::ReadingLines::unlock_line_of))]
 fn read_line(alloc: Global, line: &[u8]) -> Result<Option<UnlockLine>, NoMemory>
-    ensures { IfOk result (λ found. found ≡ unlock_line_of line.now) }
+    ensures exact { IfOk result (λ found. found ≡ unlock_line_of line.now) }
+    ensures lacked { OnErr result (IsSome (unlock_line_of line.now)) }
 {
     if line.len() > MAX_CHARACTERS {
         return Ok(None);
@@ -137,10 +190,12 @@ fn read_line(alloc: Global, line: &[u8]) -> Result<Option<UnlockLine>, NoMemory>
     Ok(Some(UnlockLine { input, list }))
 }
 
-/// The unlock line that this line is. None exactly where it is the text of none. `NoMemory` where there is no room for it.
+/// The unlock line that this line is. None exactly where it is the text of none. `NoMemory` only where it is an unlock line's
+/// text and there is no room for the value.
 pub fn read_unlock(alloc: Global, line: &[u8]) -> Result<Option<UnlockLine>, NoMemory>
     ensures found { IfOk result (λ found. IfSome found (λ l. IsUnlockLine l × (line.now ≡ unlock_line_text l))) }
     ensures only { (l : UnlockLineValue) → IsUnlockLine l → line.now ≡ unlock_line_text l → IfOk result (λ found. found ≡ Some l) }
+    ensures lacked { OnErr result (IsTextOf IsUnlockLine unlock_line_text line.now) }
     ensures exact { IfOk result (λ found. found ≡ unlock_line_of line.now) }
 {
     read_line(alloc, line)

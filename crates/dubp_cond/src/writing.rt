@@ -1,6 +1,6 @@
 ghost use Rattle.std.specs.Prelude.{◌≡◌, ◌+◌, ◌≤◌, ◌++◌, length, codes, decimal};
 ghost use Rattle.arrayvec.specs.ArrayVec.{array_vec_len};
-ghost use Rattle.dubp_cond.specs.Conditions.{item_text, all_text, cond_text, IsCond};
+ghost use Rattle.dubp_cond.specs.Conditions.{item_text, all_text, cond_text};
 ghost use Rattle.dubp_cond.specs.View.{item_tree, all_tree};
 
 use crate::tree::{All, Cond, Item};
@@ -77,12 +77,13 @@ fn put_alls(cond: &Cond, out: &mut Line)
     }
 }
 
-/// Appends the condition's text. The condition is in range, and `out` has 1,000 free places. It takes no memory.
+/// Appends the condition's text, whatever its numbers are. The text has at most 1,000 characters, and `out` has 1,000 free
+/// places, of which it uses as many as the text has characters. It takes no memory.
 pub fn put_cond(cond: &Cond, out: &mut Line)
-    requires valid { IsCond cond.now }
+    requires short { length (cond_text cond.now) ≤ 1000 }
     requires room { array_vec_len out.old + 1000 ≤ 2048 }
     ensures text { out.new.items ≡ out.old.items ++ cond_text cond.now }
-    ensures room { array_vec_len out.new ≤ array_vec_len out.old + 1000 }
+    ensures room { array_vec_len out.new ≡ array_vec_len out.old + length (cond_text cond.now) }
 {
     put_alls(cond, out);
 }

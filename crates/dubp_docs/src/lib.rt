@@ -1,13 +1,15 @@
 //! Documents: what people sign, and the text that they sign.
-//!
-//! Contracts see a `Doc` as the record of its fields. `specs/Spelling` has the text of each document, the part of it that is
-//! signed, and which documents have one. Protocol: documents.
-//!
-//! ```text
-//! let doc = Doc::Identity(IdentityDoc { currency, issuer, unique_id, timestamp, sig });
-//! ```
 #![tactic(auto)]
 
 mod doc;
+mod hashing;
+mod put_text;
+mod signing;
+mod writing;
 
 pub use doc::{CertificationDoc, Doc, IdentityDoc, MembershipDoc, RevocationDoc, TxDoc};
+pub use hashing::{
+    TxHashes, certification_hash, identity_hash, membership_hash, revocation_hash, tx_hash,
+    tx_hashes,
+};
+pub use writing::{put_doc, signed_text, signed_tx};
