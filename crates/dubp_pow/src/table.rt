@@ -1,10 +1,10 @@
 ghost use Rattle.std.specs.Prelude.{◌≡◌, length};
-ghost use Rattle.dubp_pow.specs.Ladder.{AreRungs};
+ghost use Rattle.dubp_pow.specs.Ladder.{AreTableRows};
 
 use crate::ladders::Ladder;
 
-/// Rows 0 to 64 of the table: each one is the row before × 1.189, rounded up.
-const RUNGS: [u64; 65] = [
+/// The table of handicaps, T(0) to T(64), in millionths: each value is the one before × 1.189, rounded up.
+const ROWS: [u64; 65] = [
     1_000_000,
     1_189_000,
     1_413_721,
@@ -72,10 +72,10 @@ const RUNGS: [u64; 65] = [
     64_809_621_063,
 ];
 
-/// The rows of the handicaps 0 to 64. It takes no memory.
+/// The table of handicaps, from T(0) to T(64). It takes no memory.
 pub fn ladder() -> Ladder<65>
     ensures count { length result ≡ 65 }
-    ensures rows { AreRungs result }
+    ensures rows { AreTableRows result }
 {
-    Ladder { rungs: RUNGS }
+    Ladder { rows: ROWS }
 }
