@@ -8,6 +8,8 @@ pub record PlainSinkState : Type 0 where
   pub held : List ℕ
   -- how often it has failed
   pub faults : ℕ
+  -- how many bytes fit the memory that it took: a call that takes no memory leaves it as it was
+  pub capacity : ℕ
 
 pub record MemSourceState : Type 0 where
   pub left : List ℕ
@@ -26,6 +28,7 @@ pub record MemSinkState : Type 0 where
   pub fails : List ℕ
   pub calls : ℕ
   pub faults : ℕ
+  pub capacity : ℕ
 
 -- the number of the call after this one: past the greatest u64 it stays at 2 ^ 64, which stands in no list of u64
 abbrev pub next_call : ℕ → ℕ
@@ -43,7 +46,12 @@ taken_count s piece = min s.most (length piece)
 abbrev pub FailsAt : MemSinkState → List ℕ → Type 0
 FailsAt s piece = Contains s.fails s.calls ⊎ (s.room < length s.held + taken_count s piece)
 
--- ---- for the code that counts calls
+-- ---- for the code that holds bytes and counts calls
+
+pub record HeldState : Type 0 where
+  pub room : ℕ
+  pub bytes : List ℕ
+  pub capacity : ℕ
 
 pub record ScheduleState : Type 0 where
   pub fails : List ℕ

@@ -19,6 +19,7 @@
 
 mod copying;
 mod errors;
+mod held;
 mod memory;
 mod plain;
 mod schedule;

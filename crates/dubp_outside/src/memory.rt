@@ -6,6 +6,7 @@ ghost use Rattle.dubp_outside.specs.Causes.{HasCause, raised_count};
 ghost use Rattle.dubp_outside.specs.Memory.{FailsAt, given_count, next_call, taken_count};
 
 use crate::errors::{Failed, NoMemory};
+use crate::held::Held;
 use crate::schedule::Schedule;
 use crate::sink::Sink;
 use crate::source::Source;
@@ -110,29 +111,29 @@ impl Source for MemSource {
 /// was made, so that writing takes no memory.
 #[derive(Drop)]
 pub struct MemSink {
-    held: Vec<u8>,
-    room: usize,
+    held: Held,
     most: usize,
     schedule: Schedule,
     faults: u64,
 }
 
 impl Model for MemSink {
-    ghost use Rattle.std.specs.Prelude.{◌≤◌, ◌<◌, vec_len, vec_capacity};
+    ghost use Rattle.std.specs.Prelude.{◌<◌};
     ghost use Rattle.dubp_outside.specs.Memory.{MemSinkState};
 
     ghost Value = { MemSinkState };
 
     ghost view = { λ s. record {
-      room = s.room;
-      held = s.held.items;
+      room = s.held.room;
+      held = s.held.bytes;
       most = s.most;
       fails = s.schedule.fails;
       calls = s.schedule.calls;
       faults = s.faults;
+      capacity = s.held.capacity;
     } };
 
-    ghost invariant = { λ s. (vec_len s.held ≤ s.room) × (s.room ≤ vec_capacity s.held) × (0 < s.most) };
+    ghost invariant = { λ s. 0 < s.most };
 }
 
 impl MemSink {
@@ -154,13 +155,11 @@ impl MemSink {
           fails = fails.items;
           calls = 0;
           faults = 0;
+          capacity = sink.capacity;
         }) }
     {
-        let mut held = Vec::new(alloc);
-        held.reserve_exact(room).map_err(|_| NoMemory)?;
         Ok(MemSink {
-            held,
-            room,
+            held: Held::new(alloc, room)?,
             most,
             schedule: Schedule::new(fails),
             faults: 0,
@@ -171,7 +170,7 @@ impl MemSink {
     pub fn held(&self) -> &[u8]
         ensures { result.now ≡ self.now.held }
     {
-        &self.held
+        self.held.as_slice()
     }
 
     /// How often it has failed.
@@ -207,11 +206,11 @@ impl Sink for MemSink {
     {
         let listed = self.schedule.next_fails();
         let count = self.most.min(piece.len());
-        if listed || count > self.room - self.held.len() {
+        if listed || count > self.held.room_left() {
             self.faults = self.faults.saturating_add(1);
             return Err(Failed);
         }
-        self.held.extend_from_slice(&piece[..count]).unwrap();
+        self.held.append(&piece[..count]);
         Ok(count)
     }
 }

@@ -5,6 +5,7 @@ ghost use Rattle.std.specs.Io.KnownBytes.{ReadConsumes, WriteAppends};
 ghost use Rattle.dubp_outside.specs.Causes.{HasCause, raised_count};
 
 use crate::errors::{Failed, NoMemory};
+use crate::held::Held;
 use crate::sink::Sink;
 use crate::source::Source;
 use crate::unread::Unread;
@@ -72,32 +73,35 @@ impl Source for PlainSource {
 /// when it was made, so that writing takes no memory.
 #[derive(Drop)]
 pub struct PlainSink {
-    held: Vec<u8>,
-    room: usize,
+    held: Held,
     faults: u64,
 }
 
 impl Model for PlainSink {
-    ghost use Rattle.std.specs.Prelude.{◌≤◌, vec_capacity, vec_len};
     ghost use Rattle.dubp_outside.specs.Memory.{PlainSinkState};
 
     ghost Value = { PlainSinkState };
 
-    ghost view = { λ s. record { room = s.room; held = s.held.items; faults = s.faults } };
-
-    ghost invariant = { λ s. (vec_len s.held ≤ s.room) × (s.room ≤ vec_capacity s.held) };
+    ghost view = { λ s. record {
+      room = s.held.room;
+      held = s.held.bytes;
+      faults = s.faults;
+      capacity = s.held.capacity;
+    } };
 }
 
 impl PlainSink {
     /// An empty sink with room for `most` bytes, which it takes at once. `NoMemory` where there is no room for them.
     pub fn new(alloc: Global, most: usize) -> Result<PlainSink, NoMemory>
-        ensures { IfOk result (λ sink. sink ≡ record { room = most; held = []; faults = 0 }) }
+        ensures { IfOk result (λ sink. sink ≡ record {
+          room = most;
+          held = [];
+          faults = 0;
+          capacity = sink.capacity;
+        }) }
     {
-        let mut held = Vec::new(alloc);
-        held.reserve_exact(most).map_err(|_| NoMemory)?;
         Ok(PlainSink {
-            held,
-            room: most,
+            held: Held::new(alloc, most)?,
             faults: 0,
         })
     }
@@ -106,7 +110,7 @@ impl PlainSink {
     pub fn held(&self) -> &[u8]
         ensures { result.now ≡ self.now.held }
     {
-        &self.held
+        self.held.as_slice()
     }
 
     /// How often it has failed.
@@ -134,11 +138,11 @@ impl Sink for PlainSink {
         ensures ok { OnOk result (self.new ≡ record self.old { held = self.old.held ++ piece.now }) }
         ensures err { OnErr result (self.new ≡ record self.old { faults = raised_count self.old.faults }) }
     {
-        if piece.len() > self.room - self.held.len() {
+        if piece.len() > self.held.room_left() {
             self.faults = self.faults.saturating_add(1);
             return Err(Failed);
         }
-        self.held.extend_from_slice(piece).unwrap();
+        self.held.append(piece);
         Ok(piece.len())
     }
 }

@@ -3,6 +3,7 @@ ghost use Rattle.std.specs.Io.KnownBytes.{Appends, Consumes, IsAtEnd};
 ghost use Rattle.dubp_outside.specs.Causes.{Rose};
 
 use super::*;
+use std::alloc::{AllocError, Global};
 use std::io;
 use std::io::{ErrorKind, Read, Write};
 use std::test::Fail;
@@ -39,13 +40,64 @@ fn copy_all<S: Source, K: Sink>(
     Ok(false)
 }
 
-/// A reader whose every read is interrupted.
+/// The sizes of the pieces that are read and written, from one byte to a megabyte.
+const SIZES: [usize; 4] = [1, 8, 65_537, 1 << 20];
+
+/// Of each call of the reader and of the writer below: whether it succeeds, the count of faults behind it, and the number of
+/// the last call that succeeded.
+const CALLS: [(bool, u64, u8); 6] = [
+    (true, 0, 1),
+    (true, 0, 2),
+    (false, 1, 2),
+    (true, 1, 4),
+    (false, 2, 4),
+    (true, 2, 6),
+];
+
+fn answer(succeeds: bool, count: usize) -> Result<usize, Failed> {
+    if succeeds { Ok(count) } else { Err(Failed) }
+}
+
+fn zeros(alloc: Global, count: usize) -> Result<Vec<u8>, AllocError> {
+    vec![in alloc; 0; count]
+}
+
+/// A reader whose third and fifth calls are interrupted. Each other call fills the buffer with the call's number.
 #[derive(Drop)]
-struct InterruptedReader;
+struct InterruptedReader {
+    calls: u8,
+}
 
 impl Read for InterruptedReader {
-    fn read(&mut self, _buf: &mut [u8]) -> io::Result<usize> {
-        Err(io::Error::from(ErrorKind::Interrupted))
+    fn read(&mut self, buf: &mut [u8]) -> io::Result<usize> {
+        self.calls = self.calls.wrapping_add(1);
+        if self.calls == 3 || self.calls == 5 {
+            return Err(io::Error::from(ErrorKind::Interrupted));
+        }
+        buf.fill(self.calls);
+        Ok(buf.len())
+    }
+}
+
+/// A writer whose third and fifth calls are interrupted. Each other call takes the whole piece.
+#[derive(Drop)]
+struct InterruptedWriter {
+    calls: u8,
+    taken: usize,
+}
+
+impl Write for InterruptedWriter {
+    fn write(&mut self, buf: &[u8]) -> io::Result<usize> {
+        self.calls = self.calls.wrapping_add(1);
+        if self.calls == 3 || self.calls == 5 {
+            return Err(io::Error::from(ErrorKind::Interrupted));
+        }
+        self.taken = self.taken.wrapping_add(buf.len());
+        Ok(buf.len())
+    }
+
+    fn flush(&mut self) -> io::Result<()> {
+        Ok(())
     }
 }
 
@@ -172,14 +224,38 @@ fn copies_over_streams(rt: HostRuntime) -> Result<(), Fail> {
 }
 
 #[test]
-fn counts_faults_of_streams(rt: HostRuntime) {
-    let mut piece = *b"as before";
-    let mut source = ReadSource::new(InterruptedReader);
-    assert_eq!(rt; source.read(&mut piece), Err(Failed));
-    assert_eq!(rt; source.read(&mut piece), Err(Failed));
-    assert_eq!(rt; source.faults(), 2);
-    assert_eq!(rt; piece, *b"as before");
+fn reads_go_on_after_a_fault(rt: HostRuntime) -> Result<(), Fail> {
+    for size in SIZES {
+        let mut buffer = zeros(rt.alloc(), size)?;
+        let mut source = ReadSource::new(InterruptedReader { calls: 0 });
+        for (succeeds, faults, filled) in CALLS {
+            let expected = answer(succeeds, size.min(65_536));
+            assert_eq!(rt; source.read(&mut buffer), expected, "{size} bytes");
+            assert_eq!(rt; source.faults(), faults);
+            assert_eq!(rt; buffer.first(), Some(&filled));
+        }
+    }
+    Ok(())
+}
 
+#[test]
+fn writes_go_on_after_a_fault(rt: HostRuntime) -> Result<(), Fail> {
+    for size in SIZES {
+        let piece = zeros(rt.alloc(), size)?;
+        let mut writer = InterruptedWriter { calls: 0, taken: 0 };
+        let mut sink = WriteSink::new(&mut writer);
+        for (succeeds, faults, _) in CALLS {
+            assert_eq!(rt; sink.write(&piece), answer(succeeds, size), "{size} bytes");
+            assert_eq!(rt; sink.faults(), faults);
+        }
+        drop(sink);
+        assert_eq!(rt; writer.taken / 4, size);
+    }
+    Ok(())
+}
+
+#[test]
+fn full_writer_fails(rt: HostRuntime) {
     let mut sink = WriteSink::new(FullWriter);
     assert_eq!(rt; sink.write(b""), Ok(0));
     assert_eq!(rt; sink.faults(), 0);

@@ -2,28 +2,28 @@
 use Rattle.std.proofs.Common.{◌≡◌, ℕ, zero, suc, ◌+◌, ◌<◌, ◌≤◌, List, [], ◌∷◌, length, true, refl, ap, ◌∙◌, arith, add-zero, add-suc}
 use Rattle.std.specs.Prelude.{slice_index}
 use Rattle.std.proofs.lemmas.Bool.Decides.{nat_tests}
-use Rattle.dubp_pow.specs.Ladder.{rung, next_rung, climbs_from, is_ladder, AreRungs}
+use Rattle.dubp_pow.specs.Ladder.{table_row, row_after, is_table_from, is_table, AreTableRows}
 
-rung-suc : (h : ℕ) → rung (suc h) ≡ next_rung (rung h)
-unfolding rung
-rung-suc h = refl
+table_row-suc : (h : ℕ) → table_row (suc h) ≡ row_after (table_row h)
+unfolding table_row
+table_row-suc h = refl
 
 -- each row of a table that passes the test from row k on
-climbs_from-rung : (k : ℕ) (rows : List ℕ) → climbs_from (rung k) rows ≡ true → (h : ℕ) → h < length rows → slice_index rows h ≡ rung (k + h)
-climbs_from-rung k [] test h in_rows = absurd (omega arith)
-climbs_from-rung k (row ∷ rows) test zero in_rows = grind (arith, nat_tests)
-climbs_from-rung k (row ∷ rows) test (suc h) in_rows =
-    let above : climbs_from (next_rung (rung k)) rows ≡ true = grind (arith, nat_tests) in
+is_table_from-table_row : (k : ℕ) (rows : List ℕ) → is_table_from (table_row k) rows ≡ true → (h : ℕ) → h < length rows → slice_index rows h ≡ table_row (k + h)
+is_table_from-table_row k [] test h in_rows = absurd (omega arith)
+is_table_from-table_row k (row ∷ rows) test zero in_rows = grind (arith, nat_tests)
+is_table_from-table_row k (row ∷ rows) test (suc h) in_rows =
+    let above : is_table_from (row_after (table_row k)) rows ≡ true = grind (arith, nat_tests) in
     let same : (suc k) + h ≡ k + (suc h) = omega arith in
-    climbs_from-rung (suc k) rows (rw rung-suc above) h (omega arith) ∙ ap rung same
+    is_table_from-table_row (suc k) rows (rw table_row-suc above) h (omega arith) ∙ ap table_row same
 
-pub ladder_rows : (rows : List ℕ) → is_ladder rows ≡ true → AreRungs rows
-unfolding rung
-ladder_rows rows test h in_rows = climbs_from-rung 0 rows test h in_rows ∙ ap rung (omega arith)
+pub ladder_rows : (rows : List ℕ) → is_table rows ≡ true → AreTableRows rows
+unfolding table_row
+ladder_rows rows test h in_rows = is_table_from-table_row 0 rows test h in_rows ∙ ap table_row (omega arith)
 
-next_rung-rises : (t : ℕ) → t ≤ next_rung t
-next_rung-rises t = omega arith
+row_after-rises : (t : ℕ) → t ≤ row_after t
+row_after-rises t = omega arith
 
-pub rung-rises : (h n : ℕ) → rung h ≤ rung (h + n)
-rung-rises h zero = rw add-zero (omega arith)
-rung-rises h (suc n) = omega (arith, rung-rises h n, next_rung-rises (rung (h + n)), rung-suc (h + n), ap rung (add-suc h n))
+pub table_row-rises : (h n : ℕ) → table_row h ≤ table_row (h + n)
+table_row-rises h zero = rw add-zero (omega arith)
+table_row-rises h (suc n) = omega (arith, table_row-rises h n, row_after-rises (table_row (h + n)), table_row-suc (h + n), ap table_row (add-suc h n))

@@ -2,7 +2,7 @@ ghost use Rattle.std.specs.Prelude.{◌≡◌, ◌+◌, ◌^◌, ◌<◌, ◌≤
 ghost use Rattle.dubp_params.specs.Ranges.{IsAtMostOne};
 ghost use Rattle.dubp_pow.specs.Difficulty.{IsHandicap, handicap_of, issuer_diff_of, exclusion_factor, past_fifteen};
 
-use crate::rungs::ladder;
+use crate::table::ladder;
 use dubp_atoms::Dec;
 
 /// The greatest handicap.

@@ -1,7 +1,7 @@
 //! Frames, difficulties and the proof of work: single values that the head of a chain is made of.
 //!
 //! Each call is an exact function of numbers, and takes no memory. `specs/` has their definitions: the frame of blocks over
-//! which issuers are counted (`Frames`), the least difficulty (`LeastDifficulty`), the table of handicaps (`Ladder`), the
+//! which issuers are counted (`Frames`), the least difficulty (`LeastDifficulty`), the table of handicaps T (`Ladder`), the
 //! difficulty of one issuer (`Difficulty`) and which hashes meet one (`Meeting`). `docs/PROTOCOL.md` says the same in words.
 //!
 //! ```text
@@ -19,7 +19,7 @@ mod ladders;
 pub mod laws;
 mod least;
 mod meeting;
-mod rungs;
+mod table;
 #[cfg(test)]
 mod tests;
 
@@ -28,4 +28,4 @@ pub use frames::{next_frame, next_var};
 pub use ladders::Ladder;
 pub use least::next_pow_min;
 pub use meeting::meets;
-pub use rungs::ladder;
+pub use table::ladder;

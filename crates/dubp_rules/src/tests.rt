@@ -7,7 +7,9 @@ fn first_failing_check(rt: HostRuntime) {
         (3, Some(Rule::X01)),
         (102, Some(Rule::P01)),
         (90, Some(Rule::X02)),
-        (40, None),
+        (40, Some(Rule::X07)),
+        (18, Some(Rule::L01)),
+        (8, None),
     ];
     for (n, rule) in expected {
         assert_eq!(rt; first_unsuited(n), rule, "at {n}");

@@ -2,7 +2,7 @@ ghost use Rattle.std.specs.Prelude.{◌≡◌, ◌<◌, ◌+◌, length, OnOk};
 ghost use Rattle.dubp_time.specs.Median.{SameTimes};
 
 use crate::{Window, median};
-use std::alloc::AllocError;
+use std::alloc::{AllocError, Global};
 use std::test::Fail;
 
 const ROOM: usize = 24;
@@ -66,6 +66,22 @@ fn medians(rt: HostRuntime) -> Result<(), Fail> {
     for (times, middle) in expected {
         assert_eq!(rt; median(alloc, times)?, middle);
     }
+    Ok(())
+}
+
+/// The times below a number, from the greatest down to 0.
+fn falling(alloc: Global, count: u64) -> Result<Vec<u64>, AllocError> {
+    (0..count).rev().collect(alloc)
+}
+
+#[test]
+fn medians_of_many_times(rt: HostRuntime) -> Result<(), Fail> {
+    let alloc = rt.alloc();
+    for (count, middle) in [(20_001, 10_000), (20_000, 9_999)] {
+        let times = falling(alloc, count)?;
+        assert_eq!(rt; median(alloc, &times)?, Some(middle));
+    }
+    assert_eq!(rt; Window::new(alloc, 20_001)?.middle(), None);
     Ok(())
 }
 

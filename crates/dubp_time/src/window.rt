@@ -9,8 +9,8 @@ use std::marker::Model;
 
 /// Some times, at most as many as it has room for, whose median is at hand.
 ///
-/// Contracts see it as its times in rising order, `times`, and the number of times that it has room for,
-/// `room`.
+/// Contracts see it as its times in rising order, `times`, the number of times that it has room for,
+/// `room`, and the number that fit the memory that it took, `capacity`.
 #[derive(Debug, Drop)]
 pub struct Window {
     times: Vec<u64>,
@@ -23,7 +23,11 @@ impl Model for Window {
 
     ghost Value = { Contents };
 
-    ghost view = { λ w. record { times = w.times.items; room = w.room } };
+    ghost view = { λ w. record {
+      times = w.times.items;
+      room = w.room;
+      capacity = vec_capacity w.times;
+    } };
 
     ghost invariant = { λ w. IsLawful w.times.items w.room (vec_capacity w.times) };
 }
@@ -45,6 +49,7 @@ impl Window {
         ensures rising { IsNonDecreasing self.new.times }
         ensures len { length self.new.times ≡ length self.old.times + 1 }
         ensures room { self.new.room ≡ self.old.room }
+        ensures capacity { self.new.capacity ≡ self.old.capacity }
     {
         let place = lower_bound(self.times.as_slice(), t);
         let inserted = self.times.insert(place, t);
@@ -58,6 +63,7 @@ impl Window {
         ensures rising { IsNonDecreasing self.new.times }
         ensures len { length self.new.times + 1 ≡ length self.old.times }
         ensures room { self.new.room ≡ self.old.room }
+        ensures capacity { self.new.capacity ≡ self.old.capacity }
     {
         let place = lower_bound(self.times.as_slice(), t);
         self.times.remove(place);

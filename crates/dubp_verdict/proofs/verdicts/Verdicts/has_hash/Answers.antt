@@ -1,0 +1,5 @@
+use Rattle.dubp_verdict.proofs.Sets.{found}
+use Rattle.dubp_verdict.proofs.verdicts.Verdicts.has_hash.Goals as goal
+
+pub returns : goal.returns
+returns c = found _ c.self.inside.entries.keys _ _ c.self.view_is c.contains.ensures

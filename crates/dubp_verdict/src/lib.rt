@@ -1,0 +1,21 @@
+//! Which signatures were found right: a set of verdicts.
+//!
+//! A verdict says that the signature by a key of a message with a hash is right. It is given from outside, and never found out
+//! here. Contracts see the set as the list of its verdicts, the newest first and each once, and `add` as `with_verdict` of
+//! `specs/Verdicts.antt`. `docs/PROTOCOL.md`, "Verdicts", says the same in words.
+//!
+//! ```text
+//! let mut verdicts = Verdicts::new(alloc);
+//! verdicts.add(key, Hash::of(message), sig)?;
+//! assert!(rt; verdicts.has(&key, message, &sig));
+//! ```
+#![tactic(auto)]
+
+mod entry;
+mod laws;
+#[cfg(test)]
+mod tests;
+mod verdicts;
+
+pub use laws::verdict_laws;
+pub use verdicts::Verdicts;

@@ -1,0 +1,80 @@
+ghost use Rattle.std.specs.Prelude.{◌≡◌, ◌++◌, ◌↔◌, true, Ok, [], ◌∷◌, IsTrue, OnOk, OnErr};
+ghost use Rattle.std.specs.List.{list_any};
+ghost use Rattle.dubp_verdict.specs.Verdicts.{HasHash, HasVerdict, same_verdict, verdict_of, with_verdict};
+
+use crate::entry::Entry;
+use dubp_atoms::{Hash, Key, NoMemory, Sig};
+use indexmap::IndexSet;
+use std::alloc::Global;
+use std::marker::Model;
+
+/// A set of verdicts.
+///
+/// Contracts see it as the list of its verdicts, the newest first and each once.
+#[derive(Drop)]
+pub struct Verdicts {
+    entries: IndexSet<Entry>,
+}
+
+impl Model for Verdicts {
+    ghost use Rattle.std.specs.Prelude.{List, reverse};
+    ghost use Rattle.dubp_verdict.specs.Verdicts.{Verdict};
+
+    ghost Value = { List Verdict };
+
+    ghost view = { λ v. reverse v.entries.keys };
+}
+
+impl Verdicts {
+    /// No verdict. It takes no memory.
+    pub fn new(alloc: Global) -> Verdicts
+        ensures { result ≡ [] }
+    {
+        Verdicts {
+            entries: IndexSet::new(alloc),
+        }
+    }
+
+    /// Adds the verdict that the signature by the key of a message with this hash is right.
+    ///
+    /// `NoMemory` where there is no memory for it; then the set stays as it was. One that it has already is never refused,
+    /// changes nothing and takes no memory.
+    pub fn add(&mut self, key: Key, hash: Hash, sig: Sig) -> Result<(), NoMemory>
+        ensures added { OnOk result (self.new ≡ with_verdict (verdict_of key hash sig) self.old) }
+        ensures refused { OnErr result (self.new ≡ self.old) }
+        ensures repeat { HasHash self.old key hash sig → (result ≡ Ok tt) × (self.new ≡ self.old) }
+    {
+        insert(&mut self.entries, Entry { key, hash, sig })
+    }
+
+    /// Whether the signature by the key of the message has a verdict. It takes no memory.
+    pub fn has(&self, key: &Key, message: &[u8], sig: &Sig) -> bool
+        ensures { IsTrue result ↔ HasVerdict self.now key.now message.now sig.now }
+    {
+        self.has_hash(key, &Hash::of(message), sig)
+    }
+
+    /// The same for a message whose hash is at hand. It takes no memory.
+    pub fn has_hash(&self, key: &Key, hash: &Hash, sig: &Sig) -> bool
+        ensures { IsTrue result ↔ HasHash self.now key.now hash.now sig.now }
+    {
+        self.entries.contains(&Entry {
+            key: *key,
+            hash: *hash,
+            sig: *sig,
+        })
+    }
+}
+
+/// Puts an entry last. One that is there already leaves the whole set, its memory too, as it was.
+fn insert(entries: &mut IndexSet<Entry>, entry: Entry) -> Result<(), NoMemory>
+    ensures there { IsTrue (list_any (same_verdict entry) entries.old.keys) → (result ≡ Ok tt) × (entries.new ≡ entries.old) }
+    ensures added { ¬ IsTrue (list_any (same_verdict entry) entries.old.keys) → OnOk result (entries.new.keys ≡ entries.old.keys ++ entry ∷ []) }
+    ensures refused { OnErr result (entries.new.keys ≡ entries.old.keys) }
+{
+    if entries.contains(&entry) {
+        return Ok(());
+    }
+    entries.insert(entry).map_err(|_| NoMemory)?;
+    Ok(())
+}
