@@ -2,7 +2,7 @@
 //!
 //! `next_dividend` is an exact function of whole numbers, and takes no memory. `specs/Reevaluation.antt` defines it in numbers
 //! without a bound, and the code stays within 128 bits. Contracts see `Dividend` as the record of its amount and base.
-//! `docs/PROTOCOL.md`, "Re-evaluation of the dividend", says the same in words.
+//! The chapter on head values in `docs/protocol` says the same in words.
 //!
 //! ```text
 //! let previous = Dividend { amount: 1000, base: 0 };

@@ -19,7 +19,7 @@ use Rattle.dubp_rules.specs.Table.{table_rules}
 use Rattle.dubp_chain.specs.Chains.{Chain}
 use Rattle.dubp_chain.specs.People.{Written, identity}
 use Rattle.dubp_chain.specs.Made.{certification_stamp}
-use Rattle.dubp_validity.specs.Verdicts.{Verdicts, HasVerdict, IsWithin}
+use Rattle.dubp_verdict.specs.Verdicts.{Verdicts, HasVerdict, IsWithin}
 use Rattle.dubp_validity.specs.LocalRules.{identity_document, membership_document, AreSigned, IsSignedByAll}
 use Rattle.dubp_validity.specs.PeopleRules.{revocation_document, certification_document, IsCertifiedBy}
 use Rattle.dubp_validity.specs.Rules.{Holds, HoldsRaw, IsValid}

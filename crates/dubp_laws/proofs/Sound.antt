@@ -9,7 +9,7 @@ use Rattle.dubp_rules.specs.declared.rule.Rule.{Rule}
 use Rattle.dubp_rules.specs.declared.rule.Rule.TheVariants.{X01, P01, L05, L07, L11, L24, G84, G72}
 use Rattle.dubp_rules.specs.Table.{table_rules, place_of}
 use Rattle.dubp_chain.specs.Chains.{Chain}
-use Rattle.dubp_validity.specs.Verdicts.{Verdicts}
+use Rattle.dubp_verdict.specs.Verdicts.{Verdicts}
 use Rattle.dubp_validity.specs.Rules.{Holds, HoldsRaw, KeepsUnsigned, reads_verdicts}
 use Rattle.dubp_laws.specs.Laws.{ValidIsSound}
 

@@ -11,7 +11,7 @@ use Rattle.dubp_chain.specs.Words.{each_once}
 use Rattle.dubp_chain.specs.Chains.{Chain}
 use Rattle.dubp_chain.specs.Heads.{head_of, issued}
 use Rattle.dubp_chain.specs.Money.{same_source, made_sources, unspent_units, cleared_units}
-use Rattle.dubp_validity.specs.Verdicts.{Verdicts, IsWithin}
+use Rattle.dubp_verdict.specs.Verdicts.{Verdicts, IsWithin}
 use Rattle.dubp_validity.specs.Rules.{Holds, FirstBroken, WhereRead, IsValid, IsSound}
 
 -- a rule that holds with some verdicts holds with more of them

@@ -5,7 +5,7 @@ use Rattle.dubp_atoms.specs.declared.no_memory.NoMemory.{NoMemory}
 use Rattle.dubp_block.specs.declared.block.Block.{Block}
 use Rattle.dubp_rules.specs.declared.rule.Rule.{Rule}
 use Rattle.dubp_rules.specs.First.{FirstOf}
-use Rattle.dubp_rules.specs.FirstLaws.{IsFirst_from_FirstOf}
+use Rattle.dubp_rules.proofs.FirstLaws.{IsFirst_from_FirstOf}
 use Rattle.dubp_chain.specs.Chains.{Chain}
 use Rattle.dubp_replay.specs.BuiltRules.{FirstRead, read_rules}
 use Rattle.dubp_validity.specs.Rules.{Holds}

@@ -1,4 +1,4 @@
--- The lines of a text: only what ends with LF is a line. Protocol: lines.
+-- The lines of a text: only what ends with LF is a line. Protocol: block text.
 use Rattle.std.specs.Prelude.{ℕ, ◌==◌, List, [], ◌∷◌, ◌++◌, if◌then◌else◌}
 use Rattle.std.specs.List.{flat_map}
 use Rattle.dubp_atoms.specs.Letters.{LF}

@@ -2,7 +2,7 @@
 //!
 //! Each call is an exact function of numbers, and takes no memory. `specs/` has their definitions: the frame of blocks over
 //! which issuers are counted (`Frames`), the least difficulty (`LeastDifficulty`), the table of handicaps T (`Ladder`), the
-//! difficulty of one issuer (`Difficulty`) and which hashes meet one (`Meeting`). `docs/PROTOCOL.md` says the same in words.
+//! difficulty of one issuer (`Difficulty`) and which hashes meet one (`Meeting`). `docs/protocol` says the same in words.
 //!
 //! ```text
 //! let blocks = 3;

@@ -1,4 +1,3 @@
 pub mod First
-pub mod FirstLaws
 pub mod Sample
 pub mod Table

@@ -5,7 +5,7 @@
 //! `table` the order and `code` the texts. What a rule means on a chain is defined by the crate that
 //! checks it: it gives a predicate on rules, and its checks find the first rule that fails by it.
 //! Contracts say that with `FirstOf` and `IsFirst` of `specs/First.antt`, whose laws stand in
-//! `specs/FirstLaws.antt`. `docs/PROTOCOL.md`, "Rules", has the same table for readers.
+//! `proofs/FirstLaws.antt`. The chapter on rules in `docs/protocol` has the same table for readers.
 //!
 //! ```
 //! use dubp_rules::{Rule, first_of};

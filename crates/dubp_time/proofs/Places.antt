@@ -5,7 +5,7 @@ use Rattle.std.specs.List.Sorted.{IsNonDecreasing}
 use Rattle.std.proofs.lemmas.Bool.{eqb-true, ltb-false}
 use Rattle.std.proofs.lemmas.Bool.Decides.{nat_tests}
 use Rattle.dubp_time.specs.Median.{count_of}
-use Rattle.dubp_time.specs.MedianLaws.{count_of-cons}
+use Rattle.dubp_time.proofs.MedianLaws.{count_of-cons}
 
 record StandsAt (xs : List ℕ) (t k : ℕ) : Type 0 where
   within : k < length xs

@@ -3,7 +3,7 @@
 //! The median is that of a multiset: it does not change when the list is put in another order. Of an even
 //! number of times it is the mean of the middle two, rounded down. `specs/Median.antt` defines it, and
 //! `median` and `Window::middle` both give it. Contracts see a window as its times in rising order and
-//! its room. `docs/PROTOCOL.md`, "Head values", says where the protocol takes a median.
+//! its room. The chapter on head values in `docs/protocol` says where the protocol takes a median.
 //!
 //! ```
 //! let mut window = Window::new(alloc, 24)?;

@@ -9,7 +9,7 @@ use Rattle.dubp_atoms.specs.declared.stamp.Stamp.{Stamp}
 use Rattle.dubp_lines.specs.Lines.{unlines}
 use Rattle.dubp_replay.specs.declared.query.Query.TheVariants as query
 use Rattle.dubp_chain.specs.Chains.{Chain}
-use Rattle.dubp_validity.specs.Verdicts.{Verdict, Verdicts, same_verdict, with_verdict}
+use Rattle.dubp_verdict.specs.Verdicts.{Verdict, Verdicts, same_verdict, with_verdict}
 use Rattle.dubp_replay.specs.declared.command.Command.{Command}
 use Rattle.dubp_replay.specs.declared.command.Command.TheVariants.{Verdict as Note, Block, Offer, Revert, Switch, Forget, Ask}
 use Rattle.dubp_replay.specs.Turns.{State, start, IsServed, Turn, TakesMemory}

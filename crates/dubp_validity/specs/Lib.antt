@@ -1,4 +1,3 @@
-pub mod Verdicts
 pub mod LocalRules
 pub mod HeadRules
 pub mod PeopleRules

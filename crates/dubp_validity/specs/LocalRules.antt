@@ -24,7 +24,7 @@ use Rattle.dubp_chain.specs.Members.{is_of}
 use Rattle.dubp_chain.specs.People.{membership_lines}
 use Rattle.dubp_chain.specs.Heads.{units}
 use Rattle.dubp_chain.specs.Money.{same_source, inputs_of}
-use Rattle.dubp_validity.specs.Verdicts.{Verdicts, HasVerdict}
+use Rattle.dubp_verdict.specs.Verdicts.{Verdicts, HasVerdict}
 
 -- X02: The block has no Parameters, or each parameter is in its range and PoWMin is at most 1023.
 abbrev pub ParamsAreInRange : Block → Type 0

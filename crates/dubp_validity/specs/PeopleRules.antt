@@ -20,7 +20,7 @@ use Rattle.dubp_chain.specs.Made.{made, certification_stamp, certification_made}
 use Rattle.dubp_chain.specs.People.{Written, written_time, identity, identity_lines, membership, membership_lines, leaving, revoked}
 use Rattle.dubp_chain.specs.Live.{certification, last_from, made_of, live_at, received, stock, kick}
 use Rattle.dubp_chain.specs.Distance.{Passes}
-use Rattle.dubp_validity.specs.Verdicts.{Verdicts, HasVerdict}
+use Rattle.dubp_verdict.specs.Verdicts.{Verdicts, HasVerdict}
 
 -- what was made at this time, where it has one, is at most a window old at t
 abbrev pub IsInWindow : ℕ → ℕ → Option ℕ → Type 0
@@ -133,7 +133,8 @@ abbrev pub ReceiversStay : Chain → Block → Type 0
 ReceiversStay c b = AllByRecursion (λ line. IsTrue (not (leaving (b ∷ c) line.to))) b.certifications
 
 -- G71: For each certification whose pair is live at t by the lines of the chain, Version is 11, t is at least msWindow above the
--- median time of the block of the pair's last line, and the time of the certification is above that of the pair's last line.
+-- median time of the block of the pair's last line, and the time of the certification's stamp is above that of the pair's last
+-- line.
 pub record IsRenewal (c : Chain) (b : Block) (line : CertLine) (last : Written CertLine) : Type 0 where
   pub version : b.version ≡ 11
   pub waited : HasWaited (time_of (b ∷ c)) (params (b ∷ c)).ms_window last

@@ -14,7 +14,7 @@ use Rattle.dubp_chain.specs.Money.{same_source, signed_by}
 use Rattle.dubp_cond.specs.Conditions.{cond_text}
 use Rattle.dubp_validity.specs.Records.{records}
 use Rattle.dubp_chain.specs.Tables.{IdentityRow, identity_row, MembershipRow, membership_row, CertificationRow, certification_row, SourceRow, source_row}
-use Rattle.dubp_validity.specs.Verdicts.{Verdicts}
+use Rattle.dubp_verdict.specs.Verdicts.{Verdicts}
 use Rattle.dubp_validity.specs.Rules.{IsValid}
 
 -- Records carry no signature of an identity and no number of a membership's stamp, so the rows that they leave have none.

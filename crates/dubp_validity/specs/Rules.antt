@@ -7,7 +7,7 @@ use Rattle.dubp_rules.specs.declared.rule.Rule.TheVariants.{X01, P01, X02, X07, 
 use Rattle.dubp_rules.specs.Table.{table_rules, StandsBefore}
 use Rattle.dubp_rules.specs.First.{IsFirst}
 use Rattle.dubp_chain.specs.Chains.{Chain}
-use Rattle.dubp_validity.specs.Verdicts.{Verdicts}
+use Rattle.dubp_verdict.specs.Verdicts.{Verdicts}
 use Rattle.dubp_validity.specs.LocalRules.{ParamsAreInRange, NumbersAreSmall, InnerHashIsRight, FirstTimesAreEqual, CertificationsAreOfEarlierBlocks, FirstStampsAreEmpty, BlockIsSigned, TimeIsNear, IdentitiesAreSigned, UidsStandOnce, IdentitiesStandOnce, IdentitiesJoin, MembershipsAreSigned, MovingKeysStandOnce, RevokedStandOnce, PairsStandOnce, NobodyCertifiesThemselves, IssuersStandOnce, NobodyCertifiedParts, TransactionsAreShort, SendersStandOnce, InputsAreUnlockedOnce, SourcesStandOnce, AmountsAreNotZero, TransactionsAreBalanced, TransactionsAreSigned}
 use Rattle.dubp_validity.specs.HeadRules.{NumberIsNext, PreviousHashIsRight, PreviousIssuerIsRight, CurrencyAndVersionFit, IssuerIsMember, ReevaluationFits, UnitBaseFits, MoneyFits, SizeFits, IssuersAreRight, FrameIsRight, VariationIsRight, MedianTimeIsRight, DividendIsRight, UnitBaseIsRight, MembersAreRight, LeastDifficultyIsRight, HashMeetsDifficulty}
 use Rattle.dubp_validity.specs.PeopleRules.{IdentitiesAreFew, IdentitiesAreInTime, UidsAreNew, IdentitiesAreNew, MembershipsAreInTime, MembershipsAreNewer, MembershipsAreApart, MembershipsHaveIdentities, JoinersAreNoMembers, ActivesAreMembers, LeaversMayLeave, NobodyRevokedMoves, RevokedHaveIdentities, RevocationsAreSigned, CertificationsAreInTime, StocksAreKept, IssuersWaited, IssuersAreMembers, ReceiversAreMembers, ReceiversStay, LivePairsAreRenewed, CertificationsAreSigned, JoinersAreCertified, ComersPass, ExcludedAreKicked, KickedAreExcluded}

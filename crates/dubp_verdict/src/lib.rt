@@ -2,7 +2,7 @@
 //!
 //! A verdict says that the signature by a key of a message with a hash is right. It is given from outside, and never found out
 //! here. Contracts see the set as the list of its verdicts, the newest first and each once, and `add` as `with_verdict` of
-//! `specs/Verdicts.antt`. `docs/PROTOCOL.md`, "Verdicts", says the same in words.
+//! `specs/Verdicts.antt`. The chapter on verdicts in `docs/protocol` says the same in words.
 //!
 //! ```text
 //! let mut verdicts = Verdicts::new(alloc);

@@ -2,7 +2,7 @@
 use Rattle.std.proofs.Common.{sym, ◌∙◌, ap}
 use Rattle.std.proofs.lemmas.List.Sorted.{IsNonDecreasingBy-from_sort}
 use Rattle.dubp_time.specs.Median.{median_of}
-use Rattle.dubp_time.specs.MedianLaws.{median_of_permutation}
+use Rattle.dubp_time.proofs.MedianLaws.{median_of_permutation}
 use Rattle.dubp_time.proofs.medians.median.Goals as goal
 
 pub middle_of-requires : goal.middle_of-requires

@@ -1,5 +1,5 @@
--- The laws are those of `specs/MedianLaws.antt`.
-use Rattle.dubp_time.specs.MedianLaws.{median_of_permutation, median_of_same, median_of_rising}
+-- The laws are those of `proofs/MedianLaws.antt`.
+use Rattle.dubp_time.proofs.MedianLaws.{median_of_permutation, median_of_same, median_of_rising}
 use Rattle.dubp_time.proofs.medians.median_laws.Goals as goal
 
 pub returns-clause-any_order : goal.returns-clause-any_order

@@ -1,6 +1,6 @@
 -- Of times in rising order the median is the mean of the middle two.
 use Rattle.std.proofs.Common.{Some, ap, sym, ◌∙◌, ◌+◌, ◌/◌, length, get_or, ◌<◌, arith}
-use Rattle.dubp_time.specs.MedianLaws.{median_of_rising}
+use Rattle.dubp_time.proofs.MedianLaws.{median_of_rising}
 use Rattle.dubp_time.proofs.medians.middle_of.Goals as goal
 
 pub returns : goal.returns

@@ -1,6 +1,6 @@
 -- Where a time is put does not matter.
 use Rattle.std.proofs.Common.{arith}
-use Rattle.dubp_time.specs.MedianLaws.{SameTimes_cons, SameTimes_last, SameTimes_length, SameTimes_sym, SameTimes_trans}
+use Rattle.dubp_time.proofs.MedianLaws.{SameTimes_cons, SameTimes_last, SameTimes_length, SameTimes_sym, SameTimes_trans}
 use Rattle.dubp_time.proofs.tests.insert_both.Goals as goal
 
 pub insert-requires : goal.insert-requires

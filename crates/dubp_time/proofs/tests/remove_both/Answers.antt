@@ -2,7 +2,7 @@
 use Rattle.std.proofs.Common.{◌<◌, sym, subst}
 use Rattle.std.proofs.lemmas.List.Sorted.{IsPermutation-remove}
 use Rattle.dubp_time.specs.Median.{count_of}
-use Rattle.dubp_time.specs.MedianLaws.{SameTimes_permutation, SameTimes_sym, SameTimes_tail, SameTimes_trans, stands_at}
+use Rattle.dubp_time.proofs.MedianLaws.{SameTimes_permutation, SameTimes_sym, SameTimes_tail, SameTimes_trans, stands_at}
 use Rattle.dubp_time.proofs.tests.remove_both.Goals as goal
 
 pub remove-requires : goal.remove-requires
