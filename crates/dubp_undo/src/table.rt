@@ -103,7 +103,6 @@ impl<K: Ord + Copy, V: Copy + Eq> UndoTable<K, V> {
     }
 
     /// The least key of `now` that is at least k, with its value, or `None` where there is none.
-    ///
     /// It steps over placed keys without a value.
     pub fn next_from(&self, k: K) -> Option<(K, V)>
         ensures found { IfSome result (IsLeast K.cmp self.now.now (IsLeBy K.cmp k)) }
@@ -113,7 +112,6 @@ impl<K: Ord + Copy, V: Copy + Eq> UndoTable<K, V> {
     }
 
     /// The least key of `now` above k, or the least of all where k is `None`, with its value. `None` where there is none.
-    ///
     /// It steps over placed keys without a value.
     pub fn next_after(&self, k: Option<K>) -> Option<(K, V)>
         ensures found { IfSome result (IsLeast K.cmp self.now.now (IsAfter K.cmp k)) }
@@ -340,8 +338,7 @@ impl<K: Ord + Copy, V: Copy + Eq> UndoTable<K, V> {
     /// Forgets the oldest map that is kept. It takes no memory.
     ///
     /// Unless something is ahead, keys lose their places that have no value and were not set since the oldest map that is
-    /// still kept. It takes as long as the number of keys that were set before that map, or were set, made ready or undone
-    /// since the last call that forgot a map.
+    /// still kept. It takes as long as what was set before that map, or was set, made ready or undone since the last map went.
     pub fn drop_oldest(&mut self)
         requires { 0 < length self.old.past }
         ensures past { self.new.past ≡ drop 1 self.old.past }
@@ -360,8 +357,8 @@ impl<K: Ord + Copy, V: Copy + Eq> UndoTable<K, V> {
 
     /// Forgets what `hold` took off. It takes no memory.
     ///
-    /// Keys lose their places that have no value and were not set since the oldest map that is kept. It takes as long as the
-    /// number of keys that were set in what was ahead, or were set, made ready or undone since the last call that forgot a map.
+    /// Keys lose their places that have no value and were not set since the oldest map that is kept. It takes as long as what
+    /// was set in the maps ahead, or was set, made ready or undone since the last map went.
     pub fn drop_ahead(&mut self)
         ensures ahead { self.new.ahead ≡ [] }
         ensures past { self.new.past ≡ self.old.past }
