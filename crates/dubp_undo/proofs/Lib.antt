@@ -1,9 +1,15 @@
 pub mod Alike
+pub mod Counting
+pub mod Covering
+pub mod Forgetting
+pub mod Giving
 pub mod Journals
 pub mod Live
 pub mod Maps
+pub mod Naming
 pub mod Numbers
 pub mod Past
+pub mod Placed
 pub mod Placing
 pub mod Results
 pub mod Setting

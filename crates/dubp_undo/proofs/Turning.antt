@@ -1,5 +1,5 @@
 -- What moving the last changes to the other journal does to the maps: back, forth, and without the oldest.
-use Rattle.std.proofs.Common.{◌≡◌, ℕ, suc, ◌+◌, ◌-◌, ◌<◌, ◌≤◌, List, [], ◌∷◌, ◌++◌, length, get_or, set, take, drop, reverse, Option, None, refl, sym, ap, ◌∙◌, inl, inr, ◌⊎◌, arith, length-append, append-nil}
+use Rattle.std.proofs.Common.{◌≡◌, ℕ, suc, ◌+◌, ◌-◌, ◌<◌, ◌≤◌, List, [], ◌∷◌, ◌++◌, length, get_or, set, take, drop, reverse, Option, None, refl, sym, ap, subst, ◌∙◌, inl, inr, ◌⊎◌, arith, length-append, append-nil}
 use Rattle.std.specs.declared.cmp.Ordering.{Ordering}
 use Rattle.std.specs.Cmp.{IsTotalOrder}
 use Rattle.std.specs.List.{All, sum}
@@ -8,9 +8,11 @@ use Rattle.std.proofs.lemmas.List.Elements.{All-head, All-tail, All-push, All-dr
 use Rattle.std.proofs.Math.Seq.{drop-cons}
 use Rattle.dubp_undo.specs.MovingTable.{last_count, SameValues}
 use Rattle.dubp_undo.specs.Rows.{live}
-use Rattle.dubp_undo.specs.Journal.{undo, redo_of, states, IsKept}
+use Rattle.dubp_undo.specs.Journal.{undo, redo_of, states, Follows, IsKept}
 use Rattle.dubp_undo.proofs.Alike.{alike_live, alike_undo, alike_states, alike_from_values}
 use Rattle.dubp_undo.proofs.Journals.{length-undo, undo-append, undo-set, sum_push, sum_cons, states-append, length-states, no_spare, last_changes-push, last_count-states, parted, last_few, last_state, push_journal}
+use Rattle.dubp_undo.proofs.Live.{sorted_live}
+use Rattle.dubp_undo.proofs.Placed.{places_back, places_hold, places_again, places_drop}
 
 -- making again what was undone
 pub length-redo_of : {V : Type 0} (slots : List (Option V)) (j : List (ℕ × Option V)) → length (redo_of slots j) ≡ length j
@@ -48,23 +50,24 @@ redo_more slots j i c lt is =
 pub turned : {K V : Type 0} (rows : List (K × ℕ)) (slots : List (Option V)) (seg to : List (ℕ × Option V)) (marks : List ℕ) (n : ℕ) → sum marks ≡ length to → states rows (undo slots seg) (to ++ redo_of slots seg) (marks ++ n ∷ []) ≡ states rows slots to marks ++ (live rows slots, n) ∷ []
 turned rows slots seg to marks n e = states-append rows (undo slots seg) to (redo_of slots seg) marks n e ∙ ap (λ x. states rows x to marks ++ (live rows x, n) ∷ []) (undo-redo_of slots seg)
 
-module _ {K V : Type 0} {cmp : K → K → Ordering} {rows : List (K × ℕ)} {slots root : List (Option V)} {j redo : List (ℕ × Option V)} where
-  pub back_kept : (marks redo_marks : List ℕ) (n spare : ℕ) {jr mr rr rmr : ℕ} (k : IsKept cmp rows slots root j redo (marks ++ n ∷ []) redo_marks spare jr mr rr rmr) → IsKept cmp rows (undo slots (drop (length j - n) j)) root (take (length j - n) j) redo marks redo_marks 0 jr mr rr rmr
-  back_kept marks redo_marks n spare k =
+module _ {K V : Type 0} {cmp : K → K → Ordering} {rows : List (K × ℕ)} {keys : List (Option K)} {uses : List ℕ} {slots root : List (Option V)} {rooted : List (K × V)} {j redo : List (ℕ × Option V)} where
+  pub back_kept : (marks redo_marks : List ℕ) (n spare : ℕ) {uses' : List ℕ} (f : Follows uses uses' j (take (length j - n) j)) {jr mr rr rmr : ℕ} (k : IsKept cmp rows keys uses slots root rooted j redo (marks ++ n ∷ []) redo_marks spare jr mr rr rmr) → IsKept cmp rows keys uses' (undo slots (drop (length j - n) j)) root rooted (take (length j - n) j) redo marks redo_marks 0 jr mr rr rmr
+  back_kept marks redo_marks n spare f k =
       let l = last_few (length slots) j marks n k.back_ok in
       let same = length-undo slots (drop (length j - n) j) in
       let front = (parted j n l.few).front in
       record {
         rows_ok = k.rows_ok;
-        slots_ok = same ∙ k.slots_ok;
+        places = places_back k.places (length j - n) f;
         back_ok = rw same l.rest;
         forward_ok = k.forward_ok;
         root_fits = rw same k.root_fits;
+        root_ok = k.root_ok;
         room = no_spare _ _ _ _ _ _ _ _ (omega (arith, k.room.back, front)) (omega (arith, k.room.back_marks, length_push marks n)) (omega (arith, k.room.forward)) (omega (arith, k.room.forward_marks));
       }
 
-  pub hold_kept : (marks redo_marks : List ℕ) (n spare : ℕ) {jr mr rr rmr : ℕ} (k : IsKept cmp rows slots root j redo (marks ++ n ∷ []) redo_marks (spare + 1) jr mr rr rmr) →
-      IsKept cmp rows (undo slots (drop (length j - n) j)) (undo slots (drop (length j - n) j)) (take (length j - n) j) (redo ++ redo_of slots (drop (length j - n) j)) marks (redo_marks ++ n ∷ []) spare jr mr rr rmr
+  pub hold_kept : (marks redo_marks : List ℕ) (n spare : ℕ) {jr mr rr rmr : ℕ} (k : IsKept cmp rows keys uses slots root rooted j redo (marks ++ n ∷ []) redo_marks (spare + 1) jr mr rr rmr) →
+      IsKept cmp rows keys uses (undo slots (drop (length j - n) j)) (undo slots (drop (length j - n) j)) (live rows (undo slots (drop (length j - n) j))) (take (length j - n) j) (redo ++ redo_of slots (drop (length j - n) j)) marks (redo_marks ++ n ∷ []) spare jr mr rr rmr
   hold_kept marks redo_marks n spare k =
       let l = last_few (length slots) j marks n k.back_ok in
       let p = parted j n l.few in
@@ -76,10 +79,11 @@ module _ {K V : Type 0} {cmp : K → K → Ordering} {rows : List (K × ℕ)} {s
       let redo_within : All (λ c. c.0 < length slots) redo = λ i d lt. omega (arith, k.forward_ok.within i d lt, k.root_fits) in
       record {
         rows_ok = k.rows_ok;
-        slots_ok = same ∙ k.slots_ok;
+        places = places_hold k.places (length j - n);
         back_ok = rw same l.rest;
         forward_ok = rw same (push_journal (length slots) redo (redo_of slots seg) redo_marks n (record { within = redo_within; divided = k.forward_ok.divided }) (All-redo_of (length slots) slots seg l.last) moved);
         root_fits = omega arith;
+        root_ok = record { ordered = sorted_live cmp rows (undo slots seg) k.rows_ok.ordered; is = λ some. refl };
         room = record {
           back = omega (arith, k.room.back, p.front, moved, length-append redo (redo_of slots seg), l.few);
           back_marks = omega (arith, k.room.back_marks, length_push marks n, length_push redo_marks n);
@@ -89,8 +93,8 @@ module _ {K V : Type 0} {cmp : K → K → Ordering} {rows : List (K × ℕ)} {s
         };
       }
 
-  pub again_kept : (marks redo_marks : List ℕ) (n spare : ℕ) {jr mr rr rmr : ℕ} (k : IsKept cmp rows slots root j redo marks (redo_marks ++ n ∷ []) spare jr mr rr rmr) →
-      IsKept cmp rows (undo slots (drop (length redo - n) redo)) (undo slots (drop (length redo - n) redo)) (j ++ redo_of slots (drop (length redo - n) redo)) (take (length redo - n) redo) (marks ++ n ∷ []) redo_marks 0 jr mr rr rmr
+  pub again_kept : (marks redo_marks : List ℕ) (n spare : ℕ) {jr mr rr rmr : ℕ} (k : IsKept cmp rows keys uses slots root rooted j redo marks (redo_marks ++ n ∷ []) spare jr mr rr rmr) →
+      IsKept cmp rows keys uses (undo slots (drop (length redo - n) redo)) (undo slots (drop (length redo - n) redo)) (live rows (undo slots (drop (length redo - n) redo))) (j ++ redo_of slots (drop (length redo - n) redo)) (take (length redo - n) redo) (marks ++ n ∷ []) redo_marks 0 jr mr rr rmr
   again_kept marks redo_marks n spare k =
       let l = last_few (length root) redo redo_marks n k.forward_ok in
       let p = parted redo n l.few in
@@ -101,34 +105,35 @@ module _ {K V : Type 0} {cmp : K → K → Ordering} {rows : List (K × ℕ)} {s
       let rest_within : All (λ c. c.0 < length slots) (take (length redo - n) redo) = λ i d lt. omega (arith, l.rest.within i d lt, k.root_fits) in
       record {
         rows_ok = k.rows_ok;
-        slots_ok = same ∙ k.slots_ok;
+        places = places_again k.places (length redo - n);
         back_ok = rw same (push_journal (length slots) j (redo_of slots seg) marks n k.back_ok (All-redo_of (length slots) slots seg seg_within) moved);
         forward_ok = rw same (record { within = rest_within; divided = l.rest.divided });
         root_fits = omega arith;
+        root_ok = record { ordered = sorted_live cmp rows (undo slots seg) k.rows_ok.ordered; is = λ some. refl };
         room = no_spare _ _ _ _ _ _ _ _ (omega (arith, k.room.back, p.front, moved, length-append j (redo_of slots seg), l.few)) (omega (arith, k.room.back_marks, length_push marks n, length_push redo_marks n)) (omega (arith, k.room.forward, p.front)) (omega (arith, k.room.forward_marks, length_push redo_marks n));
       }
 
   -- the maps ahead, from slots at which they begin
-  same_ahead : {marks redo_marks : List ℕ} {spare jr mr rr rmr : ℕ} → IsTotalOrder cmp → IsKept cmp rows slots root j redo marks redo_marks spare jr mr rr rmr → (reverse (states rows root redo redo_marks) ≡ []) ⊎ SameValues cmp (live rows slots) (live rows root) → states rows slots redo redo_marks ≡ states rows root redo redo_marks
+  same_ahead : {marks redo_marks : List ℕ} {spare jr mr rr rmr : ℕ} → IsTotalOrder cmp → IsKept cmp rows keys uses slots root rooted j redo marks redo_marks spare jr mr rr rmr → (reverse (states rows root redo redo_marks) ≡ []) ⊎ SameValues cmp (live rows slots) rooted → states rows slots redo redo_marks ≡ states rows root redo redo_marks
   same_ahead {redo_marks = []} o k begins = refl
   same_ahead {redo_marks = m ∷ ms} o k (inl none) =
       let n = length-reverse (states rows root redo (m ∷ ms)) in
       absurd (omega (arith, n, ap length none, length-states rows root redo (m ∷ ms)))
   same_ahead {redo_marks = m ∷ ms} o k (inr same) =
-      alike_states rows slots root redo (m ∷ ms) k.forward_ok.within k.root_fits (alike_from_values o rows slots root k.rows_ok same)
+      alike_states rows slots root redo (m ∷ ms) k.forward_ok.within k.root_fits (alike_from_values o rows slots root k.rows_ok (subst (λ m. SameValues cmp (live rows slots) m) (k.root_ok.is (omega arith)) same))
 
   -- what `back` does, where all marks are `marks` and then n
-  pub back_parts : (all marks redo_marks : List ℕ) (n spare : ℕ) {jr mr rr rmr : ℕ} → all ≡ marks ++ n ∷ [] → IsKept cmp rows slots root j redo all redo_marks spare jr mr rr rmr → record {
-    kept : IsKept cmp rows (undo slots (drop (length j - n) j)) root (take (length j - n) j) redo marks redo_marks 0 jr mr rr rmr;
+  pub back_parts : (all marks redo_marks : List ℕ) (n spare : ℕ) {uses' : List ℕ} → Follows uses uses' j (take (length j - n) j) → {jr mr rr rmr : ℕ} → all ≡ marks ++ n ∷ [] → IsKept cmp rows keys uses slots root rooted j redo all redo_marks spare jr mr rr rmr → record {
+    kept : IsKept cmp rows keys uses' (undo slots (drop (length j - n) j)) root rooted (take (length j - n) j) redo marks redo_marks 0 jr mr rr rmr;
     past : states rows slots j all ≡ states rows (undo slots (drop (length j - n) j)) (take (length j - n) j) marks ++ (live rows (undo slots (drop (length j - n) j)), n) ∷ [];
   }
-  back_parts all marks redo_marks n spare split k =
+  back_parts all marks redo_marks n spare f split k =
       let k = rw split at k in
-      record { kept = back_kept marks redo_marks n spare k; past = rw split (last_state rows slots (length slots) j marks n k.back_ok) }
+      record { kept = back_kept marks redo_marks n spare f k; past = rw split (last_state rows slots (length slots) j marks n k.back_ok) }
 
   -- what `unmark` does
-  pub unmark_parts : (all marks redo_marks : List ℕ) (n spare : ℕ) {jr mr rr rmr : ℕ} → all ≡ marks ++ n ∷ [] → last_count (states rows slots j all) ≡ 0 → IsKept cmp rows slots root j redo all redo_marks spare jr mr rr rmr → record {
-    kept : IsKept cmp rows slots root j redo marks redo_marks 0 jr mr rr rmr;
+  pub unmark_parts : (all marks redo_marks : List ℕ) (n spare : ℕ) {jr mr rr rmr : ℕ} → all ≡ marks ++ n ∷ [] → last_count (states rows slots j all) ≡ 0 → IsKept cmp rows keys uses slots root rooted j redo all redo_marks spare jr mr rr rmr → record {
+    kept : IsKept cmp rows keys uses slots root rooted j redo marks redo_marks 0 jr mr rr rmr;
     past : states rows slots j all ≡ states rows slots j marks ++ (live rows slots, 0) ∷ [];
   }
   unmark_parts all marks redo_marks n spare split none k =
@@ -138,44 +143,48 @@ module _ {K V : Type 0} {cmp : K → K → Ordering} {rows : List (K × ℕ)} {s
       record {
         kept = record {
           rows_ok = k.rows_ok;
-          slots_ok = k.slots_ok;
+          places = k.places;
           back_ok = record { within = k.back_ok.within; divided = divided };
           forward_ok = k.forward_ok;
           root_fits = k.root_fits;
+          root_ok = k.root_ok;
           room = no_spare _ _ _ _ _ _ _ _ k.room.back (omega (arith, k.room.back_marks, length_push marks n)) (omega (arith, k.room.forward)) (omega (arith, k.room.forward_marks));
         };
         past = rw (split, zero) (ap (λ j. states rows slots j (marks ++ 0 ∷ [])) (sym (append-nil j)) ∙ states-append rows slots j [] marks 0 divided);
       }
 
   -- what `drop_oldest` does, where all marks are n and then `marks`
-  pub oldest_parts : (all marks redo_marks : List ℕ) (n spare : ℕ) {jr mr rr rmr : ℕ} → all ≡ n ∷ marks → IsKept cmp rows slots root j redo all redo_marks spare jr mr rr rmr → record {
-    few : n ≤ length j;
-    kept : IsKept cmp rows slots root (drop n j) redo marks redo_marks 0 jr mr rr rmr;
+  pub oldest_parts : (all marks redo_marks : List ℕ) (n spare : ℕ) {uses' : List ℕ} → Follows uses uses' j (drop n j) → {jr mr rr rmr : ℕ} → all ≡ n ∷ marks → IsKept cmp rows keys uses slots root rooted j redo all redo_marks spare jr mr rr rmr → record {
+    kept : IsKept cmp rows keys uses' slots root rooted (drop n j) redo marks redo_marks 0 jr mr rr rmr;
     past : states rows slots (drop n j) marks ≡ drop 1 (states rows slots j all);
   }
-  oldest_parts all marks redo_marks n spare split k =
+  oldest_parts all marks redo_marks n spare f split k =
       let k = rw split at k in
       let total = sum_cons n marks in
       let few : n ≤ length j = omega (arith, k.back_ok.divided, total) in
       record {
-        few = few;
         kept = record {
           rows_ok = k.rows_ok;
-          slots_ok = k.slots_ok;
+          places = places_drop k.places n f;
           back_ok = record { within = All-drop (λ c. c.0 < length slots) n j k.back_ok.within; divided = omega (arith, k.back_ok.divided, total, length-drop n j) };
           forward_ok = k.forward_ok;
           root_fits = k.root_fits;
+          root_ok = k.root_ok;
           room = no_spare _ _ _ _ _ _ _ _ (omega (arith, k.room.back, length-drop n j)) (omega (arith, k.room.back_marks)) (omega (arith, k.room.forward)) (omega (arith, k.room.forward_marks));
         };
         past = rw split refl;
       }
 
+  -- as many changes as the oldest mark has are there
+  pub oldest_few : (all marks redo_marks : List ℕ) (n spare : ℕ) {jr mr rr rmr : ℕ} → all ≡ n ∷ marks → IsKept cmp rows keys uses slots root rooted j redo all redo_marks spare jr mr rr rmr → n ≤ length j
+  oldest_few all marks redo_marks n spare split k = let k = rw split at k in omega (arith, k.back_ok.divided, sum_cons n marks)
+
   -- what `hold` does
-  pub hold_parts : IsTotalOrder cmp → (all marks redo_marks : List ℕ) (n spare before : ℕ) {jr mr rr rmr : ℕ} → all ≡ marks ++ n ∷ [] → before ≡ spare + 1 → IsKept cmp rows slots root j redo all redo_marks before jr mr rr rmr → (reverse (states rows root redo redo_marks) ≡ []) ⊎ SameValues cmp (live rows slots) (live rows root) → record {
+  pub hold_parts : IsTotalOrder cmp → (all marks redo_marks : List ℕ) (n spare before : ℕ) {jr mr rr rmr : ℕ} → all ≡ marks ++ n ∷ [] → before ≡ spare + 1 → IsKept cmp rows keys uses slots root rooted j redo all redo_marks before jr mr rr rmr → (reverse (states rows root redo redo_marks) ≡ []) ⊎ SameValues cmp (live rows slots) rooted → record {
     few : n ≤ length j;
     room : length redo + n ≤ rr;
     marks_room : length redo_marks < rmr;
-    kept : IsKept cmp rows (undo slots (drop (length j - n) j)) (undo slots (drop (length j - n) j)) (take (length j - n) j) (redo ++ redo_of slots (drop (length j - n) j)) marks (redo_marks ++ n ∷ []) spare jr mr rr rmr;
+    kept : IsKept cmp rows keys uses (undo slots (drop (length j - n) j)) (undo slots (drop (length j - n) j)) (live rows (undo slots (drop (length j - n) j))) (take (length j - n) j) (redo ++ redo_of slots (drop (length j - n) j)) marks (redo_marks ++ n ∷ []) spare jr mr rr rmr;
     past : states rows slots j all ≡ states rows (undo slots (drop (length j - n) j)) (take (length j - n) j) marks ++ (live rows (undo slots (drop (length j - n) j)), n) ∷ [];
     ahead : reverse (states rows (undo slots (drop (length j - n) j)) (redo ++ redo_of slots (drop (length j - n) j)) (redo_marks ++ n ∷ [])) ≡ (live rows slots, n) ∷ reverse (states rows root redo redo_marks);
   }
@@ -195,12 +204,12 @@ module _ {K V : Type 0} {cmp : K → K → Ordering} {rows : List (K × ℕ)} {s
       }
 
   -- what `again` does
-  pub again_parts : IsTotalOrder cmp → (all marks redo_marks : List ℕ) (n spare : ℕ) {jr mr rr rmr : ℕ} → all ≡ redo_marks ++ n ∷ [] → IsKept cmp rows slots root j redo marks all spare jr mr rr rmr → SameValues cmp (live rows slots) (live rows root) → record {
+  pub again_parts : IsTotalOrder cmp → (all marks redo_marks : List ℕ) (n spare : ℕ) {jr mr rr rmr : ℕ} → all ≡ redo_marks ++ n ∷ [] → IsKept cmp rows keys uses slots root rooted j redo marks all spare jr mr rr rmr → SameValues cmp (live rows slots) rooted → record {
     few : n ≤ length redo;
     within : All (λ c. c.0 < length slots) redo;
     room : length j + n ≤ jr;
     marks_room : length marks < mr;
-    kept : IsKept cmp rows (undo slots (drop (length redo - n) redo)) (undo slots (drop (length redo - n) redo)) (j ++ redo_of slots (drop (length redo - n) redo)) (take (length redo - n) redo) (marks ++ n ∷ []) redo_marks 0 jr mr rr rmr;
+    kept : IsKept cmp rows keys uses (undo slots (drop (length redo - n) redo)) (undo slots (drop (length redo - n) redo)) (live rows (undo slots (drop (length redo - n) redo))) (j ++ redo_of slots (drop (length redo - n) redo)) (take (length redo - n) redo) (marks ++ n ∷ []) redo_marks 0 jr mr rr rmr;
     past : states rows (undo slots (drop (length redo - n) redo)) (j ++ redo_of slots (drop (length redo - n) redo)) (marks ++ n ∷ []) ≡ states rows slots j marks ++ (live rows slots, n) ∷ [];
     ahead : reverse (states rows root redo all) ≡ (live rows (undo slots (drop (length redo - n) redo)), n) ∷ reverse (states rows (undo slots (drop (length redo - n) redo)) (take (length redo - n) redo) redo_marks);
   }
@@ -208,7 +217,7 @@ module _ {K V : Type 0} {cmp : K → K → Ordering} {rows : List (K × ℕ)} {s
       let k = rw split at k in
       let l = last_few (length root) redo redo_marks n k.forward_ok in
       let seg = drop (length redo - n) redo in
-      let alike = alike_from_values o rows slots root k.rows_ok begins in
+      let alike = alike_from_values o rows slots root k.rows_ok (subst (λ m. SameValues cmp (live rows slots) m) (k.root_ok.is (omega (arith, length_push redo_marks n))) begins) in
       let after = alike_undo rows slots root seg l.last k.root_fits alike in
       let later = alike_states rows (undo slots seg) (undo root seg) (take (length redo - n) redo) redo_marks (λ i d lt. omega (arith, l.rest.within i d lt, length-undo root seg)) (omega (arith, k.root_fits, length-undo root seg, length-undo slots seg)) after in
       let was = last_state rows root (length root) redo redo_marks n k.forward_ok in

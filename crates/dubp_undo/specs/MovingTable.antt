@@ -1,10 +1,10 @@
 -- What contracts see of a moving table: its maps, how many writes lie between them, and which keys are placed.
-use Rattle.std.specs.Prelude.{◌≡◌, ℕ, ◌+◌, true, List, [], ◌∷◌, Option, None, Some, IsSome, cond, ⊤, ◌⊎◌}
+use Rattle.std.specs.Prelude.{◌≡◌, ℕ, ◌+◌, true, List, [], ◌∷◌, Option, None, Some, IsSome, cond, ⊤, ◌⊎◌, ◌<◌, length}
 use Rattle.std.specs.declared.cmp.Ordering.{Ordering}
 use Rattle.std.specs.BTreeMap.{is_at}
 use Rattle.std.specs.BTreeMap.Range.{IsLeBy, IsLtBy}
 use Rattle.std.specs.Map.{lookup}
-use Rattle.std.specs.List.{list_any}
+use Rattle.std.specs.List.{All, list_any}
 
 -- A map is the list of its entries, in the order of its keys.
 --     past      the earlier maps that are kept, oldest first, each with how many keys were set from it to the next one, or to `now`
@@ -13,7 +13,7 @@ use Rattle.std.specs.List.{list_any}
 --     root      the map from which `ahead` goes on
 --     spare     how many calls of `hold` take no memory
 --     room      how many keys that are placed can be set without memory
---     placed    the keys that have a place, in order; a key whose value was taken away keeps it
+--     placed    the keys that have a place, in order: each key of a map that can be returned to (`IsAllPlaced`), and maybe others
 pub record MovingTable (K V : Type 0) : Type 0 where
   pub past : List (List (K × V) × ℕ)
   pub now : List (K × V)
@@ -81,7 +81,27 @@ module _ {K : Type 0} where
     pub stay : (q : K) → IsPlaced cmp q old → IsPlaced cmp q new
     pub only : (q : K) → IsPlaced cmp q new → (is_at (cmp q) k ≡ true) ⊎ IsPlaced cmp q old
 
+  -- what was placed stays so
+  abbrev pub PlacesStay : (K → K → Ordering) → List K → List K → Type 0
+  PlacesStay cmp old new = (q : K) → IsPlaced cmp q old → IsPlaced cmp q new
+
+  -- no key came in
+  abbrev pub PlacesFewer : (K → K → Ordering) → List K → List K → Type 0
+  PlacesFewer cmp old new = (q : K) → IsPlaced cmp q new → IsPlaced cmp q old
+
   -- q is above k, or is any key where there is no k
   abbrev pub IsAfter : (K → K → Ordering) → Option K → K → Type 0
   IsAfter cmp None q = ⊤
   IsAfter cmp (Some k) q = IsLtBy cmp k q
+
+module _ {K V : Type 0} where
+  -- each key that m has is placed
+  abbrev pub IsCovered : (K → K → Ordering) → List K → List (K × V) → Type 0
+  IsCovered cmp placed m = (q : K) → IsSome (get cmp m q) → IsPlaced cmp q placed
+
+  -- each key of a map that can be returned to is placed
+  pub record IsAllPlaced (cmp : K → K → Ordering) (t : MovingTable K V) : Type 0 where
+    pub now : IsCovered cmp t.placed t.now
+    pub past : All (λ x. IsCovered cmp t.placed x.0) t.past
+    pub ahead : All (λ x. IsCovered cmp t.placed x.0) t.ahead
+    pub root : 0 < length t.ahead → IsCovered cmp t.placed t.root

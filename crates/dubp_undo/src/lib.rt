@@ -19,9 +19,11 @@
 #![tactic(auto)]
 
 mod both;
+mod hints;
 mod leaf;
 mod moves;
 mod moving;
+mod places;
 mod rows;
 mod table;
 #[cfg(test)]

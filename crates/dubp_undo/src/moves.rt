@@ -1,52 +1,82 @@
 //! Moves of changes between the slots and the journals, over the fields of a table.
-ghost use Rattle.std.specs.Prelude.{◌≡◌, ◌+◌, ◌-◌, ◌^◌, ◌<◌, ◌≤◌, ◌++◌, length, take, drop, OnOk, OnErr, IfOk, IsOk, IsSome};
+ghost use Rattle.std.specs.Prelude.{◌≡◌, ◌+◌, ◌-◌, ◌^◌, ◌<◌, ◌≤◌, ◌++◌, ℕ, length, get_or, set, take, drop, OnOk, IsOk, vec_capacity};
 ghost use Rattle.std.specs.List.{All, sum};
 ghost use Rattle.std.specs.VecDeque.{deque_capacity};
-ghost use Rattle.dubp_undo.specs.Rows.{AreRows, Grows, slot_of};
-ghost use Rattle.dubp_undo.specs.Journal.{undo, redo_of, noted, bump, last_changes};
+ghost use Rattle.dubp_undo.specs.Journal.{Follows, undo, redo_of, named, noted, bump, last_changes};
 
-use crate::rows::Rows;
+use crate::hints::Hints;
 use dubp_atoms::{NoMemory, Steps};
 use std::collections::VecDeque;
-use std::sync::ledger::Ledger;
+use std::sync::ledger::Ledger as StepBook;
 
 /// A change of a slot, with the value to put back.
 pub(crate) type Change<V> = (usize, Option<V>);
 
+/// One change fewer names the slot.
+pub(crate) fn release(uses: &mut Vec<usize>, hints: &mut Hints, slot: usize)
+    requires within { slot < length uses.old.items }
+    requires named { 0 < get_or uses.old.items slot 0 }
+    ensures uses { uses.new.items ≡ set uses.old.items slot (get_or uses.old.items slot 0 - 1) }
+    ensures capacity { vec_capacity uses.new ≡ vec_capacity uses.old }
+{
+    uses[slot] -= 1;
+    if uses[slot] == 0 {
+        hints.note_idle(slot);
+    }
+}
+
 /// Undoes the last n changes, one step each.
-pub(crate) fn undo_last<V: Copy, L: Ledger>(
+pub(crate) fn undo_last<V: Copy, L: StepBook>(
     slots: &mut Vec<Option<V>>,
     journal: &mut VecDeque<Change<V>>,
+    uses: &mut Vec<usize>,
+    hints: &mut Hints,
     n: usize,
     steps: &mut Steps<L>,
 )
     requires few { n ≤ length journal.old.items }
     requires within { All (λ c. c.0 < length slots.old.items) journal.old.items }
+    requires uses_each { length uses.old.items ≡ length slots.old.items }
+    requires counted { (i : ℕ) → named i journal.old.items ≤ get_or uses.old.items i 0 }
     ensures journal { journal.new.items ≡ take (length journal.old.items - n) journal.old.items }
     ensures slots { slots.new.items ≡ undo slots.old.items (drop (length journal.old.items - n) journal.old.items) }
+    ensures uses { Follows uses.old.items uses.new.items journal.old.items journal.new.items }
+    ensures slots_capacity { vec_capacity slots.new ≡ vec_capacity slots.old }
+    ensures uses_capacity { vec_capacity uses.new ≡ vec_capacity uses.old }
     ensures capacity { deque_capacity journal.new ≡ deque_capacity journal.old }
     ensures steps { steps.new ≡ steps.old + n }
 {
     for _done in 0..n {
         let (slot, value) = journal.pop_back().unwrap();
         slots[slot] = value;
+        release(uses, hints, slot);
         steps.tick();
     }
 }
 
 /// Forgets the first n changes.
-pub(crate) fn drop_first<V: Copy>(journal: &mut VecDeque<Change<V>>, n: usize)
-    requires { n ≤ length journal.old.items }
+pub(crate) fn drop_first<V: Copy>(
+    journal: &mut VecDeque<Change<V>>,
+    uses: &mut Vec<usize>,
+    hints: &mut Hints,
+    n: usize,
+)
+    requires few { n ≤ length journal.old.items }
+    requires within { All (λ c. c.0 < length uses.old.items) journal.old.items }
+    requires counted { (i : ℕ) → named i journal.old.items ≤ get_or uses.old.items i 0 }
     ensures items { journal.new.items ≡ drop n journal.old.items }
+    ensures uses { Follows uses.old.items uses.new.items journal.old.items journal.new.items }
+    ensures uses_capacity { vec_capacity uses.new ≡ vec_capacity uses.old }
     ensures capacity { deque_capacity journal.new ≡ deque_capacity journal.old }
 {
     for _done in 0..n {
-        let _ = journal.pop_front();
+        let (slot, _value) = journal.pop_front().unwrap();
+        release(uses, hints, slot);
     }
 }
 
 /// Undoes the last n changes of `from`, and notes at the end of `to` how to make them again. One step each.
-pub(crate) fn move_last<V: Copy, L: Ledger>(
+pub(crate) fn move_last<V: Copy, L: StepBook>(
     slots: &mut Vec<Option<V>>,
     from: &mut VecDeque<Change<V>>,
     to: &mut VecDeque<Change<V>>,
@@ -59,6 +89,7 @@ pub(crate) fn move_last<V: Copy, L: Ledger>(
     ensures from { from.new.items ≡ take (length from.old.items - n) from.old.items }
     ensures to { to.new.items ≡ to.old.items ++ redo_of slots.old.items (drop (length from.old.items - n) from.old.items) }
     ensures slots { slots.new.items ≡ undo slots.old.items (drop (length from.old.items - n) from.old.items) }
+    ensures slots_capacity { vec_capacity slots.new ≡ vec_capacity slots.old }
     ensures from_capacity { deque_capacity from.new ≡ deque_capacity from.old }
     ensures to_capacity { deque_capacity to.new ≡ deque_capacity to.old }
     ensures steps { steps.new ≡ steps.old + n }
@@ -75,18 +106,24 @@ pub(crate) fn move_last<V: Copy, L: Ledger>(
 pub(crate) fn note<V: Copy>(
     journal: &mut VecDeque<Change<V>>,
     marks: &mut VecDeque<usize>,
+    uses: &mut Vec<usize>,
     change: Change<V>,
 )
     requires divided { sum marks.old.items ≡ length journal.old.items }
     requires room { length journal.old.items < deque_capacity journal.old }
+    requires within { change.0 < length uses.old.items }
+    requires fits { get_or uses.old.items change.0 0 < deque_capacity journal.old }
     ensures journal { journal.new.items ≡ noted marks.old.items journal.old.items change }
     ensures marks { marks.new.items ≡ bump marks.old.items }
+    ensures uses { Follows uses.old.items uses.new.items journal.old.items journal.new.items }
+    ensures uses_capacity { vec_capacity uses.new ≡ vec_capacity uses.old }
     ensures capacity { deque_capacity journal.new ≡ deque_capacity journal.old }
     ensures marks_capacity { deque_capacity marks.new ≡ deque_capacity marks.old }
 {
     if let Some(count) = marks.pop_back() {
         journal.push_back_reserved(change);
         marks.push_back_reserved(count + 1);
+        uses[change.0] += 1;
     }
 }
 
@@ -117,33 +154,4 @@ pub(crate) fn make_room<V: Copy>(
     let extra = forward.checked_add(n).ok_or(NoMemory)?;
     journal.reserve(extra).map_err(|_| NoMemory)?;
     Ok(())
-}
-
-/// The slot of a key. A key that has none gets one with nothing in it; `NoMemory` where there is no room for it, and then
-/// nothing has changed.
-pub(crate) fn place<K: Ord + Copy, V: Copy>(
-    rows: &mut Rows<K>,
-    slots: &mut Vec<Option<V>>,
-    k: K,
-) -> Result<usize, NoMemory>
-    requires rows { AreRows K.cmp rows.old }
-    requires slots { length slots.old.items ≡ length rows.old }
-    ensures slot { IfOk result (λ i. slot_of K.cmp rows.new k ≡ Some i) }
-    ensures grown { OnOk result (Grows K.cmp rows.old slots.old.items k rows.new slots.new.items) }
-    ensures err { OnErr result (rows.new ≡ rows.old) }
-    ensures err_slots { OnErr result (slots.new.items ≡ slots.old.items) }
-    ensures succeeds { IsSome (slot_of K.cmp rows.old k) → IsOk result }
-{
-    // full slots: the key is sought first, since a placed one needs no room
-    if slots.len() == slots.capacity() {
-        if let Some(slot) = rows.slot(k) {
-            return Ok(slot);
-        }
-        slots.reserve(1).map_err(|_| NoMemory)?;
-    }
-    let slot = rows.place(k)?;
-    if slot == slots.len() {
-        slots.push_reserved(None);
-    }
-    Ok(slot)
 }

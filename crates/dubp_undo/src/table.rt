@@ -2,29 +2,33 @@ ghost use Rattle.std.specs.Prelude.{◌≡◌, ◌⊎◌, ◌+◌, ◌-◌, ◌<
 ghost use Rattle.std.specs.BTreeMap.Range.{IsLeBy};
 ghost use Rattle.std.specs.List.Sorted.{IsStrictlySortedBy};
 ghost use Rattle.std.specs.Map.{keys_of};
-ghost use Rattle.dubp_undo.specs.MovingTable.{MovingTable, empty, IsUnchanged, get, Puts, SameValues, one_more, last_count, IsLeast, HasNone, IsPlaced, Places, IsAfter};
+ghost use Rattle.dubp_undo.specs.MovingTable.{MovingTable, empty, IsUnchanged, get, Puts, SameValues, one_more, last_count, IsLeast, HasNone, IsAllPlaced, IsPlaced, Places, PlacesFewer, IsAfter};
 
-use crate::moves::{
-    Change, changes_since, drop_first, make_room, move_last, note, place, undo_last,
-};
+use crate::hints::Hints;
+use crate::moves::{Change, changes_since, drop_first, make_room, move_last, note, undo_last};
+use crate::places::{give_up_idle, place};
 use crate::rows::Rows;
 use dubp_atoms::{NoMemory, Noted, Steps};
 use std::alloc::Global;
 use std::collections::VecDeque;
 use std::marker::Model;
 use std::ops::Bound;
-use std::sync::ledger::Ledger;
+use std::sync::ledger::Ledger as StepBook;
 
 /// A map that keeps its earlier states, and those that it was taken back from.
 ///
-/// Contracts see it as a `MovingTable`. A key that was set once keeps its place, so no way back or forth needs memory:
-/// only `set`, `ready`, `mark` and `reserve` take any, and answer `NoMemory` where there is none. `mark` copies nothing.
-/// Every call but `reserve` and `hold` may lower `spare`; only `set` lowers `room`, by 1 at most.
+/// Contracts see it as a `MovingTable`. A key that is placed stays so over every call but `drop_oldest` and `drop_ahead`, and
+/// over these too where one of the maps has it; so no way back or forth needs memory. Only `set`, `ready`, `mark` and `reserve`
+/// take any, and answer `NoMemory` where there is none. `mark` copies nothing. Every call but `reserve` and `hold` may lower
+/// `spare`; only `set` lowers `room`, by 1 at most.
 #[derive(Drop)]
 pub struct UndoTable<K: Ord, V> {
     rows: Rows<K>,
-    // what stands at each slot now
+    // the key of each slot, or `None` where it may be used again; how many changes name it; and what stands there now
+    keys: Vec<Option<K>>,
+    uses: Vec<usize>,
     slots: Vec<Option<V>>,
+    hints: Hints,
     // the changes since the first mark, and how many come after each mark
     journal: VecDeque<Change<V>>,
     marks: VecDeque<usize>,
@@ -32,8 +36,11 @@ pub struct UndoTable<K: Ord, V> {
     redo: VecDeque<Change<V>>,
     redo_marks: VecDeque<usize>,
     spare: usize,
-    // the slots where the way forward begins
+    // the slots from which the changes of the way forward are undone
     root: Noted<Vec<Option<V>>>,
+    // the rows and slots of the last `hold` or `again`, where the way forward begins
+    rooted_rows: Noted<Rows<K>>,
+    rooted: Noted<Vec<Option<V>>>,
 }
 
 impl<K: Ord, V> Model for UndoTable<K, V> {
@@ -50,13 +57,13 @@ impl<K: Ord, V> Model for UndoTable<K, V> {
       past = states t.rows t.slots.items t.journal.items t.marks.items;
       now = live t.rows t.slots.items;
       ahead = reverse (states t.rows t.root.value.items t.redo.items t.redo_marks.items);
-      root = live t.rows t.root.value.items;
+      root = live t.rooted_rows.value t.rooted.value.items;
       spare = t.spare;
       room = deque_capacity t.journal - (length t.journal.items + length t.redo.items);
       placed = keys_of t.rows;
     } };
 
-    ghost invariant = { λ t. IsKept K.cmp t.rows t.slots.items t.root.value.items t.journal.items t.redo.items t.marks.items t.redo_marks.items t.spare (deque_capacity t.journal) (deque_capacity t.marks) (deque_capacity t.redo) (deque_capacity t.redo_marks) };
+    ghost invariant = { λ t. IsKept K.cmp t.rows t.keys.items t.uses.items t.slots.items t.root.value.items (live t.rooted_rows.value t.rooted.value.items) t.journal.items t.redo.items t.marks.items t.redo_marks.items t.spare (deque_capacity t.journal) (deque_capacity t.marks) (deque_capacity t.redo) (deque_capacity t.redo_marks) };
 }
 
 impl<K: Ord + Copy, V: Copy + Eq> UndoTable<K, V> {
@@ -64,11 +71,17 @@ impl<K: Ord + Copy, V: Copy + Eq> UndoTable<K, V> {
     pub fn new(alloc: Global) -> UndoTable<K, V>
         ensures { result ≡ empty }
     {
+        let rows = Rows::new(alloc);
         let slots = Vec::new(alloc);
         let root = Noted::of(&slots);
+        let rooted_rows = Noted::of(&rows);
+        let rooted = Noted::of(&slots);
         UndoTable {
-            rows: Rows::new(alloc),
+            rows,
+            keys: Vec::new(alloc),
+            uses: Vec::new(alloc),
             slots,
+            hints: Hints::new(alloc),
             // a capacity of 0 is said by this call alone, and takes no memory
             journal: VecDeque::with_capacity(alloc, 0).unwrap(),
             marks: VecDeque::new(alloc),
@@ -76,6 +89,8 @@ impl<K: Ord + Copy, V: Copy + Eq> UndoTable<K, V> {
             redo_marks: VecDeque::new(alloc),
             spare: 0,
             root,
+            rooted_rows,
+            rooted,
         }
     }
 
@@ -88,7 +103,6 @@ impl<K: Ord + Copy, V: Copy + Eq> UndoTable<K, V> {
     }
 
     /// The least key of `now` that is at least k, with its value, or `None` where there is none.
-    ///
     /// It steps over placed keys without a value.
     pub fn next_from(&self, k: K) -> Option<(K, V)>
         ensures found { IfSome result (IsLeast K.cmp self.now.now (IsLeBy K.cmp k)) }
@@ -98,7 +112,6 @@ impl<K: Ord + Copy, V: Copy + Eq> UndoTable<K, V> {
     }
 
     /// The least key of `now` above k, or the least of all where k is `None`, with its value. `None` where there is none.
-    ///
     /// It steps over placed keys without a value.
     pub fn next_after(&self, k: Option<K>) -> Option<(K, V)>
         ensures found { IfSome result (IsLeast K.cmp self.now.now (IsAfter K.cmp k)) }
@@ -111,9 +124,12 @@ impl<K: Ord + Copy, V: Copy + Eq> UndoTable<K, V> {
     }
 
     /// How many earlier maps are kept.
+    ///
+    /// Each key of a map of `past`, `now`, `ahead` or, where something is ahead, `root` is placed.
     pub fn depth(&self) -> usize
         ensures depth { result ≡ length self.now.past }
         ensures sorted { IsStrictlySortedBy K.cmp (keys_of self.now.now) }
+        ensures placed { IsAllPlaced K.cmp self.now }
         ensures sorted_root { IsStrictlySortedBy K.cmp (keys_of self.now.root) }
     {
         self.marks.len()
@@ -122,7 +138,7 @@ impl<K: Ord + Copy, V: Copy + Eq> UndoTable<K, V> {
     /// Gives the key the value v, or takes its value away where v is `None`. One step.
     ///
     /// `NoMemory` comes only where the key is not placed or `room` is 0; nothing has changed then, `spare` and `room` aside.
-    pub fn set<L: Ledger>(
+    pub fn set<L: StepBook>(
         &mut self,
         k: K,
         v: Option<V>,
@@ -141,9 +157,22 @@ impl<K: Ord + Copy, V: Copy + Eq> UndoTable<K, V> {
         ensures succeeds { IsPlaced K.cmp k self.old.placed → 1 ≤ self.old.room → IsOk result }
     {
         make_room(&mut self.journal, self.redo.len(), 1)?;
-        let slot = place(&mut self.rows, &mut self.slots, k)?;
-        note(&mut self.journal, &mut self.marks, (slot, self.slots[slot]));
+        let slot = place(
+            &mut self.rows,
+            &mut self.keys,
+            &mut self.uses,
+            &mut self.slots,
+            &mut self.hints,
+            k,
+        )?;
+        note(
+            &mut self.journal,
+            &mut self.marks,
+            &mut self.uses,
+            (slot, self.slots[slot]),
+        );
         self.slots[slot] = v;
+        self.hints.note_idle(slot);
         self.spare = 0;
         steps.tick();
         Ok(())
@@ -166,7 +195,14 @@ impl<K: Ord + Copy, V: Copy + Eq> UndoTable<K, V> {
         ensures succeeds { IsPlaced K.cmp k self.old.placed → n ≤ self.old.room → IsOk result }
     {
         make_room(&mut self.journal, self.redo.len(), n)?;
-        let _slot = place(&mut self.rows, &mut self.slots, k)?;
+        let _slot = place(
+            &mut self.rows,
+            &mut self.keys,
+            &mut self.uses,
+            &mut self.slots,
+            &mut self.hints,
+            k,
+        )?;
         Ok(())
     }
 
@@ -234,7 +270,7 @@ impl<K: Ord + Copy, V: Copy + Eq> UndoTable<K, V> {
 
     /// Goes back to the last of `past` and keeps the way forward: the old `now` goes to the front of `ahead`. It takes no
     /// memory. One step for each key that was set between the two.
-    pub fn hold<L: Ledger>(&mut self, steps: &mut Steps<L>)
+    pub fn hold<L: StepBook>(&mut self, steps: &mut Steps<L>)
         requires past { 0 < length self.old.past }
         requires spare { 1 ≤ self.old.spare }
         requires begins { (self.old.ahead ≡ []) ⊎ SameValues K.cmp self.old.now self.old.root }
@@ -250,12 +286,14 @@ impl<K: Ord + Copy, V: Copy + Eq> UndoTable<K, V> {
         move_last(&mut self.slots, &mut self.journal, &mut self.redo, n, steps);
         self.redo_marks.push_back_reserved(n);
         self.root = Noted::of(&self.slots);
+        self.rooted_rows = Noted::of(&self.rows);
+        self.rooted = Noted::of(&self.slots);
         self.spare -= 1;
     }
 
     /// Goes back to the last of `past`, which leaves it. `ahead` and `root` stay as they are. It takes no memory. One step
     /// for each key that was set between the two.
-    pub fn back<L: Ledger>(&mut self, steps: &mut Steps<L>)
+    pub fn back<L: StepBook>(&mut self, steps: &mut Steps<L>)
         requires { 0 < length self.old.past }
         ensures past { self.old.past ≡ self.new.past ++ (self.new.now, steps.new - steps.old) ∷ [] }
         ensures ahead { self.new.ahead ≡ self.old.ahead }
@@ -265,13 +303,20 @@ impl<K: Ord + Copy, V: Copy + Eq> UndoTable<K, V> {
         ensures steps { steps.old ≤ steps.new }
     {
         let n = self.marks.pop_back().unwrap();
-        undo_last(&mut self.slots, &mut self.journal, n, steps);
+        undo_last(
+            &mut self.slots,
+            &mut self.journal,
+            &mut self.uses,
+            &mut self.hints,
+            n,
+            steps,
+        );
         self.spare = 0;
     }
 
     /// Goes forward to the first of `ahead`, which leaves it; the old `now` is kept at the end of `past`. It takes no
     /// memory. One step for each key that was set between the two.
-    pub fn again<L: Ledger>(&mut self, steps: &mut Steps<L>)
+    pub fn again<L: StepBook>(&mut self, steps: &mut Steps<L>)
         requires ahead { 0 < length self.old.ahead }
         requires begins { SameValues K.cmp self.old.now self.old.root }
         ensures past { self.new.past ≡ self.old.past ++ (self.old.now, steps.new - steps.old) ∷ [] }
@@ -285,35 +330,70 @@ impl<K: Ord + Copy, V: Copy + Eq> UndoTable<K, V> {
         move_last(&mut self.slots, &mut self.redo, &mut self.journal, n, steps);
         self.marks.push_back_reserved(n);
         self.root = Noted::of(&self.slots);
+        self.rooted_rows = Noted::of(&self.rows);
+        self.rooted = Noted::of(&self.slots);
         self.spare = 0;
     }
 
-    /// Forgets the oldest map that is kept. It takes no memory, and as long as the number of keys that were set after it.
+    /// Forgets the oldest map that is kept. It takes no memory.
+    ///
+    /// Unless something is ahead, keys lose their places that have no value and were not set since the oldest map that is
+    /// still kept. It takes as long as what was set before that map, or was set, made ready or undone since the last map went.
     pub fn drop_oldest(&mut self)
         requires { 0 < length self.old.past }
         ensures past { self.new.past ≡ drop 1 self.old.past }
         ensures now { self.new.now ≡ self.old.now }
         ensures ahead { self.new.ahead ≡ self.old.ahead }
         ensures root { self.new.root ≡ self.old.root }
-        ensures placed { self.new.placed ≡ self.old.placed }
+        ensures placed { PlacesFewer K.cmp self.old.placed self.new.placed }
+        ensures held { IsAllPlaced K.cmp self.new }
         ensures room_stays { self.old.room ≤ self.new.room }
     {
         let n = self.marks.pop_front().unwrap();
-        drop_first(&mut self.journal, n);
+        drop_first(&mut self.journal, &mut self.uses, &mut self.hints, n);
         self.spare = 0;
+        self.forget();
     }
 
     /// Forgets what `hold` took off. It takes no memory.
+    ///
+    /// Keys lose their places that have no value and were not set since the oldest map that is kept. It takes as long as what
+    /// was set in the maps ahead, or was set, made ready or undone since the last map went.
     pub fn drop_ahead(&mut self)
         ensures ahead { self.new.ahead ≡ [] }
         ensures past { self.new.past ≡ self.old.past }
         ensures now { self.new.now ≡ self.old.now }
         ensures root { self.new.root ≡ self.old.root }
-        ensures placed { self.new.placed ≡ self.old.placed }
+        ensures placed { PlacesFewer K.cmp self.old.placed self.new.placed }
+        ensures held { IsAllPlaced K.cmp self.new }
         ensures room_stays { self.old.room ≤ self.new.room }
     {
-        self.redo.clear();
+        let changes = self.redo.len();
+        drop_first(&mut self.redo, &mut self.uses, &mut self.hints, changes);
         self.redo_marks.clear();
         self.spare = 0;
+        self.forget();
+    }
+
+    // Unless something is ahead, gives up the places of keys that have no value and that no change names. It takes no memory.
+    fn forget(&mut self)
+        ensures past { self.new.past ≡ self.old.past }
+        ensures now { self.new.now ≡ self.old.now }
+        ensures ahead { self.new.ahead ≡ self.old.ahead }
+        ensures root { self.new.root ≡ self.old.root }
+        ensures placed { PlacesFewer K.cmp self.old.placed self.new.placed }
+        ensures held { IsAllPlaced K.cmp self.new }
+        ensures room { self.new.room ≡ self.old.room }
+    {
+        if self.redo_marks.is_empty() {
+            give_up_idle(
+                &mut self.rows,
+                &mut self.keys,
+                &self.uses,
+                &self.slots,
+                &mut self.hints,
+            );
+            self.root = Noted::of(&self.slots);
+        }
     }
 }
