@@ -5,13 +5,13 @@ use Rattle.std.proofs.lemmas.List.{reverse-append}
 use Rattle.std.specs.Prelude.{pos}
 use Rattle.dubp_atoms.specs.Same.{Text}
 use Rattle.dubp_block.specs.declared.block.Block.{Block}
-use Rattle.dubp_block.specs.Text.{IsBuilt, block_hash_of, size_of}
+use Rattle.dubp_block.specs.Text.{IsBlock, IsFirstParams, block_hash_of, size_of}
 use Rattle.dubp_params.specs.declared.params.Params.{Params}
 use Rattle.dubp_chain.specs.declared.head.Head.{Head}
 use Rattle.dubp_chain.specs.Chains.{Chain, no_params}
 use Rattle.dubp_chain.specs.Members.{members}
 use Rattle.dubp_chain.specs.Heads.{head_of, first_head}
-use Rattle.dubp_replay.specs.BuiltRules.{FirstRead, IsAccepted}
+use Rattle.dubp_replay.specs.BuiltRules.{FirstRead, IsAccepted, IsBuilt}
 
 -- nobody joins
 no_members : (b : Block) → b.joiners ≡ [] → members (b ∷ []) ≡ []
@@ -57,13 +57,21 @@ empty_chain (a ∷ c) e = absurd (omega (arith, e))
 
 -- on which chain it is the next
 pub is_first : (c : Chain) (b : Block) → IsBuilt b → FirstRead c b None → c ≡ []
-is_first c b is f = empty_chain c (sym f.1.0 ∙ is.number)
+is_first c b is f = empty_chain c (sym f.3.0 ∙ is.number)
 
 head_joins : (c : Chain) (b : Block) (h : Option Head) → IsBuilt b → FirstRead c b None → h ≡ head_of (b ∷ []) → h ≡ head_of (b ∷ c)
 head_joins c b h is f e = subst (λ (x : Chain). h ≡ head_of (b ∷ x)) (sym (is_first c b is f)) e
 
 -- behind the blocks, which stand oldest first, comes the next one, and what is kept beside them is again right
-pub chain_grows : (blocks more : List Block) (b : Block) (h : Option Head) → IsAccepted (reverse blocks) → IsBuilt b → FirstRead (reverse blocks) b None → h ≡ head_of (b ∷ []) → more ≡ blocks ++ b ∷ [] → (h ≡ head_of (reverse more)) × IsAccepted (reverse more)
-chain_grows blocks more b h all is f e joins =
+pub chain_grows : (blocks more : List Block) (b : Block) (h : Option Head) → IsAccepted (reverse blocks) → IsBlock b → IsBuilt b → FirstRead (reverse blocks) b None → h ≡ head_of (b ∷ []) → more ≡ blocks ++ b ∷ [] → (h ≡ head_of (reverse more)) × IsAccepted (reverse more)
+chain_grows blocks more b h all text is f e joins =
     let turned : b ∷ reverse blocks ≡ reverse more = sym (ap reverse joins ∙ reverse-append blocks (b ∷ [])) in
-    subst (λ (c : Chain). (h ≡ head_of c) × IsAccepted c) turned (head_joins (reverse blocks) b h is f e, (is, f, all))
+    subst (λ (c : Chain). (h ≡ head_of c) × IsAccepted c) turned (head_joins (reverse blocks) b h is f e, (text, is, f, all))
+
+-- a first block has parameters
+pub has_params : (b : Block) → IsBlock b → IsBuilt b → (p : Params) × (b.params ≡ Some p)
+has_params b text is = some_params b.number b.params refl is.number text.params
+  where
+    some_params : (n : ℕ) (o : Option Params) → b.params ≡ o → n ≡ 0 → IsFirstParams n o → (p : Params) × (b.params ≡ Some p)
+    some_params n (Some p) e zero h = (p, e)
+    some_params n None e zero h = absurd (h zero)

@@ -1,31 +1,54 @@
-ghost use Rattle.std.specs.Prelude.{◌≡◌, ◌↔◌, ◌∷◌, [], IsTrue, IfOk};
-ghost use Rattle.dubp_block.specs.Text.{IsBuilt};
+ghost use Rattle.std.specs.Prelude.{◌≡◌, ◌↔◌, ◌∷◌, [], IsTrue};
+ghost use Rattle.dubp_block.specs.Text.{IsBlock, block_hash_of};
 ghost use Rattle.dubp_chain.specs.Heads.{head_of};
+ghost use Rattle.dubp_replay.specs.BuiltRules.{IsBuilt};
 ghost use Rattle.dubp_validity.specs.LocalRules.{InnerHashIsRight};
+ghost use Rattle.dubp_ledger.specs.States.{HasNoLines};
 
-use dubp_atoms::NoMemory;
-use dubp_block::{Block, inner_hash, stamp_of};
+use dubp_atoms::Hash;
+use dubp_block::{Block, inner_hash_of};
 use dubp_replay::Head;
-use std::alloc::Global;
 
-/// Whether InnerHash is the hash of the text before it: rule `L01`.
-pub fn inner_hash_is_right(alloc: Global, block: &Block) -> Result<bool, NoMemory>
-    requires { IsBuilt block.now }
-    ensures { IfOk result (λ is. IsTrue is ↔ InnerHashIsRight block.now) }
+/// Whether InnerHash is the hash of the text before it: rule `L01`. It takes no memory.
+pub fn inner_hash_is_right(block: &Block) -> bool
+    requires { IsBlock block.now }
+    ensures { IsTrue result ↔ InnerHashIsRight block.now }
 {
-    Ok(block.inner_hash == inner_hash(alloc, block)?)
+    block.inner_hash == inner_hash_of(block)
 }
 
-/// The head of the chain of this one block, which has no member. It takes no memory.
-pub fn first_head(block: &Block) -> Option<Head>
-    requires { IsBuilt block.now }
+/// Whether the block is of the form that is built: a first block without a dividend and without lines in its sections.
+pub fn is_built(block: &Block) -> bool
+    ensures { IsTrue result ↔ IsBuilt block.now }
+{
+    block.number == 0 && block.dividend.is_none() && has_no_lines(block)
+}
+
+fn has_no_lines(block: &Block) -> bool
+    ensures { IsTrue result ↔ HasNoLines block.now }
+{
+    block.identities.is_empty()
+        && block.joiners.is_empty()
+        && block.actives.is_empty()
+        && block.leavers.is_empty()
+        && block.revoked.is_empty()
+        && block.excluded.is_empty()
+        && block.certifications.is_empty()
+        && block.transactions.is_empty()
+}
+
+/// The head of the chain of this one block, which has no member, given its hash. It takes no memory.
+pub fn first_head(block: &Block, hash: Hash) -> Option<Head>
+    requires block { IsBlock block.now }
+    requires built { IsBuilt block.now }
+    requires hash { hash ≡ block_hash_of block.now }
     ensures { result ≡ head_of (block.now ∷ []) }
 {
     let params = block.params?;
     Some(Head {
         version: block.version,
         number: block.number,
-        hash: stamp_of(block).hash,
+        hash,
         issuer: block.issuer,
         time: block.time,
         median_time: block.time,

@@ -1,6 +1,6 @@
-ghost use Rattle.std.specs.Prelude.{◌≡◌, ◌∷◌, [], IfOk, IfErr, MatchOption, Some, None, IsTrue, ◌↔◌};
-ghost use Rattle.dubp_block.specs.Text.{IsBuilt};
-ghost use Rattle.dubp_replay.specs.BuiltRules.{FirstRead, read_rules};
+ghost use Rattle.std.specs.Prelude.{◌≡◌, [], IfOk, IfErr, MatchOption, Some, None, IsTrue, ◌↔◌};
+ghost use Rattle.dubp_block.specs.Text.{IsBlock};
+ghost use Rattle.dubp_replay.specs.BuiltRules.{FirstRead, IsBuilt, read_rules};
 ghost use Rattle.dubp_chain.specs.Chains.{block_of_number};
 ghost use Rattle.dubp_validity.specs.HeadRules.{NumberIsNext};
 ghost use Rattle.dubp_chain.specs.Heads.{head_of};
@@ -8,9 +8,9 @@ ghost use Rattle.dubp_validity.specs.Rules.{Holds};
 ghost use Rattle.dubp_rules.specs.First.{FirstOf};
 ghost use Rattle.dubp_ledger.specs.States.{Accepted, HandedBack};
 
-use crate::checks::{first_head, inner_hash_is_right};
+use crate::checks::{first_head, inner_hash_is_right, is_built};
 use crate::refusal::SubmitRefusal;
-use dubp_atoms::{NoMemory, Stamp, Steps};
+use dubp_atoms::{Stamp, Steps};
 use dubp_block::{Block, stamp_of};
 use dubp_replay::Head;
 use dubp_rules::{Rule, first_of};
@@ -24,7 +24,6 @@ use std::sync::ledger::Ledger as StepBook;
 /// before it.
 #[derive(Drop)]
 pub struct Ledger {
-    alloc: Global,
     // Oldest first.
     blocks: Vec<Block>,
     head: Option<Head>,
@@ -55,7 +54,6 @@ impl Ledger {
         ensures { result.chain ≡ [] }
     {
         Ledger {
-            alloc,
             blocks: Vec::new(alloc),
             head: None,
         }
@@ -75,43 +73,45 @@ impl Ledger {
         self.blocks.get(number as usize)
     }
 
-    /// Accepts the block exactly where it breaks no rule on the chain, and else names the first rule that it breaks.
+    /// Accepts the block exactly where it breaks no rule that is read on the chain and is of the form that is built; else names
+    /// the first rule that it breaks, or says that its form is not built.
     ///
-    /// On both refusals the block is handed back and the ledger is as before. `NoMemory` where there is no room to check the
-    /// block or to keep it. Nothing is counted of the steps yet.
+    /// On each refusal the block is handed back and the ledger is as before. `NoMemory` where there is no room to keep the
+    /// block. Nothing is counted of the steps yet.
     pub fn submit<L: StepBook>(
         &mut self,
         block: Block,
         _steps: &mut Steps<L>,
     ) -> Result<Stamp, SubmitRefusal>
-        requires { IsBuilt block }
+        requires { IsBlock block }
         ensures accepted { IfOk result (λ stamp. Accepted self.old block stamp self.new) }
         ensures refused { IfErr result (λ refusal. HandedBack self.old block refusal self.new) }
     {
         match self.first_broken(&block) {
-            Err(NoMemory) => Err(SubmitRefusal::NoMemory { block }),
-            Ok(Some(rule)) => Err(SubmitRefusal::Refused { rule, block }),
-            Ok(None) => self.append(block),
+            Some(rule) => Err(SubmitRefusal::Refused { rule, block }),
+            None => self.join(block),
         }
     }
 
     // The first rule that the block breaks on the chain.
-    fn first_broken(&self, block: &Block) -> Result<Option<Rule>, NoMemory>
-        requires { IsBuilt block.now }
-        ensures { IfOk result (λ answer. FirstRead self.now.chain block.now answer) }
+    fn first_broken(&self, block: &Block) -> Option<Rule>
+        requires { IsBlock block.now }
+        ensures { FirstRead self.now.chain block.now result }
     {
         self.first_found(block)
     }
 
-    // The same, by going down the rules that are read.
-    fn first_found(&self, block: &Block) -> Result<Option<Rule>, NoMemory>
-        requires { IsBuilt block.now }
-        ensures { IfOk result (λ answer. FirstOf (Holds [] self.now.chain block.now) read_rules answer) }
+    // The same, by going down the rules that are read; the first two hold of each block.
+    fn first_found(&self, block: &Block) -> Option<Rule>
+        requires { IsBlock block.now }
+        ensures { FirstOf (Holds [] self.now.chain block.now) read_rules result }
     {
-        Ok(first_of!(
-            Rule::L01 => inner_hash_is_right(self.alloc, block)?,
+        first_of!(
+            Rule::X01 => true,
+            Rule::P01 => true,
+            Rule::L01 => inner_hash_is_right(block),
             Rule::G51 => self.number_is_next(block),
-        ))
+        )
     }
 
     // The number of the block is the length of the chain.
@@ -121,15 +121,28 @@ impl Ledger {
         block.number == self.blocks.len() as u64
     }
 
-    // The block, which breaks no rule, joins the chain.
+    // The block, which breaks no rule, joins the chain where it is of the form that is built.
+    fn join(&mut self, block: Block) -> Result<Stamp, SubmitRefusal>
+        requires block { IsBlock block }
+        requires keeps { FirstRead self.old.chain block None }
+        ensures accepted { IfOk result (λ stamp. Accepted self.old block stamp self.new) }
+        ensures refused { IfErr result (λ refusal. HandedBack self.old block refusal self.new) }
+    {
+        if !is_built(&block) {
+            return Err(SubmitRefusal::Unbuilt { block });
+        }
+        self.append(block)
+    }
+
     fn append(&mut self, block: Block) -> Result<Stamp, SubmitRefusal>
+        requires block { IsBlock block }
         requires built { IsBuilt block }
         requires keeps { FirstRead self.old.chain block None }
         ensures accepted { IfOk result (λ stamp. Accepted self.old block stamp self.new) }
         ensures refused { IfErr result (λ refusal. HandedBack self.old block refusal self.new) }
     {
         let stamp = stamp_of(&block);
-        let head = first_head(&block);
+        let head = first_head(&block, stamp.hash);
         match self.blocks.push(block) {
             Ok(()) => {
                 self.head = head;

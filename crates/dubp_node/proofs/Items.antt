@@ -1,8 +1,9 @@
 -- The turn of an entry is that of the command that its item has.
-use Rattle.std.proofs.Common.{◌≡◌, inl, inr, ℕ, ◌<◌, ◌≤◌, List, [], length, Option, Some, None, refl, sym, ap, subst, ◌∙◌, arith}
+use Rattle.std.proofs.Common.{◌≡◌, inl, inr, ℕ, ◌<◌, ◌≤◌, List, [], ◌∷◌, length, Option, Some, None, refl, sym, ap, subst, ◌∙◌, arith}
 use Rattle.std.specs.Prelude.{codes}
 use Rattle.std.specs.Option.{MatchOption}
 use Rattle.dubp_atoms.specs.Letters.{LF}
+use Rattle.dubp_rules.specs.declared.rule.Rule.TheVariants.{X01, P01, L01, G51}
 use Rattle.dubp_validity.specs.Rules.{longest_block}
 use Rattle.dubp_replay.specs.Answers.{bad_answer, refused_answer}
 use Rattle.dubp_replay.specs.declared.command.Command.{Command}
@@ -46,7 +47,11 @@ frame_turn old new head frame answer last c ends f acts = record {
 
 -- a frame that is too long is refused
 long_served : (old : State) (c : Command) (frame answer : List ℕ) → frame_of c ≡ Some (length frame) → longest_block < length frame → answer ≡ refused_answer (codes "X01") → BuiltTurn old c frame answer old
-long_served old (command.Block len) frame answer e long is = inl (long, (is, refl))
+long_served old (command.Block len) frame answer e long is = record {
+  broken = Some X01;
+  first = record { before = []; after = P01 ∷ L01 ∷ G51 ∷ []; stands = refl; passed = tt; fails = λ short. omega (arith, long, short) };
+  decides = (is, refl);
+}
 long_served old (command.Verdict key hash sig) frame answer e long is = absurd cc
 long_served old (command.Revert count) frame answer e long is = absurd cc
 long_served old (command.Offer len) frame answer e long is = absurd cc

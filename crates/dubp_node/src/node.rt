@@ -1,8 +1,8 @@
 ghost use Rattle.std.specs.Prelude.{◌≡◌, ◌++◌, [], codes, length, ◌≤◌};
 ghost use Rattle.dubp_node.specs.Turns.{Acts};
 ghost use Rattle.dubp_query.specs.AnswerBytes.{answer_bytes};
-ghost use Rattle.dubp_replay.specs.Answers.{accepted_answer, bad_answer, no_memory_answer, refused_answer};
-ghost use Rattle.dubp_block.specs.Text.{IsBuilt};
+ghost use Rattle.dubp_replay.specs.Answers.{accepted_answer, bad_answer, no_memory_answer, refused_answer, unread_answer};
+ghost use Rattle.dubp_block.specs.Text.{IsBlock};
 ghost use Rattle.dubp_validity.specs.Rules.{longest_block};
 ghost use Rattle.dubp_node.specs.Deciding.{ShortBlockActs, Decided, outcome_text};
 ghost use Rattle.dubp_replay.specs.Turns.{start};
@@ -10,7 +10,7 @@ ghost use Rattle.dubp_replay.specs.declared.command.Command.TheVariants.{Block a
 ghost use Rattle.dubp_rules.specs.Table.{code_text};
 
 use arrayvec::ArrayVec;
-use dubp_atoms::{Line, Stamp, Steps, put_bytes};
+use dubp_atoms::{Line, Stamp, Steps, put_bytes, put_number};
 use dubp_block::{Block, ReadRefusal, read_block};
 use dubp_ledger::{Ledger, SubmitRefusal};
 use dubp_query::{Answer, Query, head_line};
@@ -89,32 +89,45 @@ impl Node {
     }
 
     fn act_short_block<L: StepBook>(&mut self, frame: &[u8], steps: &mut Steps<L>) -> Answer
-        ensures { ShortBlockActs self.old frame.now (answer_bytes result) self.new }
+        ensures { length frame.now ≤ longest_block → ShortBlockActs self.old frame.now (answer_bytes result) self.new }
     {
         match read_block(self.alloc, frame) {
             Ok(block) => self.submit(block, steps),
-            Err(ReadRefusal::Unbuilt) => refused(b"U01"),
+            Err(ReadRefusal::NotABlock { line }) => unread(line),
             Err(ReadRefusal::NoMemory) => one(b"NOMEM\n"),
         }
     }
 
     fn submit<L: StepBook>(&mut self, block: Block, steps: &mut Steps<L>) -> Answer
-        requires { IsBuilt block }
+        requires { IsBlock block }
         ensures { Decided self.old block (answer_bytes result) self.new }
     {
         outcome_answer(self.ledger.submit(block, steps))
     }
 }
 
-// `ACCEPTED` and the stamp, the code of the rule that the block breaks, or `NOMEM`. The block is let go.
+// `ACCEPTED` and the stamp, the code of the rule that the block breaks, `U01` where its form is not built, or `NOMEM`. The block
+// is let go.
 fn outcome_answer(outcome: Result<Stamp, SubmitRefusal>) -> Answer
     ensures { answer_bytes result ≡ outcome_text outcome }
 {
     match outcome {
         Ok(stamp) => accepted(&stamp),
         Err(SubmitRefusal::Refused { rule, block: _ }) => refused(code(rule).as_slice()),
+        Err(SubmitRefusal::Unbuilt { block: _ }) => refused(b"U01"),
         Err(SubmitRefusal::NoMemory { block: _ }) => one(b"NOMEM\n"),
     }
+}
+
+// `REFUSED P01` and the number of the line that is refused.
+fn unread(refused_line: u64) -> Answer
+    ensures { answer_bytes result ≡ unread_answer refused_line }
+{
+    let mut line: Line = ArrayVec::new();
+    put_bytes(&mut line, b"REFUSED P01 ");
+    put_number(refused_line as u128, &mut line);
+    put_bytes(&mut line, b"\n");
+    Answer::One(line)
 }
 
 // An answer of one line, whose text and LF this is.

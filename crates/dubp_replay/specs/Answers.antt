@@ -3,6 +3,7 @@ use Rattle.std.specs.Prelude.{◌≡◌, ℕ, ◌&&◌, List, [], ◌∷◌, ◌
 use Rattle.std.specs.List.{flat_map}
 use Rattle.std.specs.Option.{MatchOption, option_map_or}
 use Rattle.std.specs.Fmt.{decimal, signed_decimal}
+use Rattle.dubp_atoms.specs.Letters.{LF, SPACE}
 use Rattle.dubp_atoms.specs.Spelling.{stamp_text}
 use Rattle.dubp_atoms.specs.declared.stamp.Stamp.{Stamp}
 use Rattle.dubp_chain.specs.HeadStamp.{head_stamp}
@@ -28,11 +29,11 @@ use Rattle.dubp_validity.specs.Records.{records_at, record_text, input_of}
 
 -- a line of an answer
 abbrev pub answer_line : List ℕ → List ℕ
-answer_line text = text ++ 10 ∷ []
+answer_line text = text ++ LF ∷ []
 
 -- a value behind a space
 abbrev pub spaced : List ℕ → List ℕ
-spaced text = 32 ∷ text
+spaced text = SPACE ∷ text
 
 -- HEAD STAMP MEDIANTIME MEMBERS POWMIN DIVIDEND UNITBASE MASS FRAME VAR ISSUERS
 abbrev pub head_text : Head → List ℕ

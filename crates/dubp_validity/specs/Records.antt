@@ -2,7 +2,7 @@
 use Rattle.std.specs.Prelude.{◌≡◌, ℕ, ◌≤◌, ◌==◌, Bool, true, not, ◌&&◌, List, [], ◌∷◌, ◌++◌, codes, decimal, map, filter, length, unwrap_or, Option, Some, None, if◌then◌else◌}
 use Rattle.std.specs.List.{flat_map}
 use Rattle.dubp_atoms.specs.Same.{Text, same_text}
-use Rattle.dubp_atoms.specs.Letters.{is_key, is_uid}
+use Rattle.dubp_atoms.specs.Letters.{SPACE, is_key, is_uid}
 use Rattle.dubp_atoms.specs.Spelling.{IsNumber, stamp_text, IsStamp}
 use Rattle.dubp_cond.specs.Conditions.{cond_text}
 use Rattle.dubp_cond.specs.Sources.{input_text, IsInput}
@@ -98,19 +98,19 @@ records_at (b ∷ c) number = if number == length c then Some (records c b) else
 -- ---- the text of a record: a name and its fields, with a space between
 
 abbrev pub record_text : Record → List ℕ
-record_text (Create key uid stamp) = codes "IIDX CREATE " ++ (key ++ 32 ∷ (uid ++ 32 ∷ stamp_text stamp))
+record_text (Create key uid stamp) = codes "IIDX CREATE " ++ (key ++ SPACE ∷ (uid ++ SPACE ∷ stamp_text stamp))
 record_text (Enter key) = codes "IIDX IN " ++ key
 record_text (Exit key) = codes "IIDX OUT " ++ key
-record_text (Join key made) = codes "MIDX JOIN " ++ (key ++ 32 ∷ decimal made)
-record_text (Active key made) = codes "MIDX ACTIVE " ++ (key ++ 32 ∷ decimal made)
-record_text (Leave key made) = codes "MIDX LEAVE " ++ (key ++ 32 ∷ decimal made)
+record_text (Join key made) = codes "MIDX JOIN " ++ (key ++ SPACE ∷ decimal made)
+record_text (Active key made) = codes "MIDX ACTIVE " ++ (key ++ SPACE ∷ decimal made)
+record_text (Leave key made) = codes "MIDX LEAVE " ++ (key ++ SPACE ∷ decimal made)
 record_text (Revoke key) = codes "MIDX REVOKE " ++ key
 record_text (Expire key) = codes "MIDX EXPIRE " ++ key
 record_text (ExpireRev key) = codes "MIDX EXPIREREV " ++ key
-record_text (Cert from to made) = codes "CIDX CERT " ++ (from ++ 32 ∷ (to ++ 32 ∷ decimal made))
-record_text (CertExpire from to) = codes "CIDX EXPIRE " ++ (from ++ 32 ∷ to)
+record_text (Cert from to made) = codes "CIDX CERT " ++ (from ++ SPACE ∷ (to ++ SPACE ∷ decimal made))
+record_text (CertExpire from to) = codes "CIDX EXPIRE " ++ (from ++ SPACE ∷ to)
 record_text (Spend input) = codes "SIDX SPEND " ++ input_text input
-record_text (Make input cond) = codes "SIDX MAKE " ++ (input_text input ++ 32 ∷ cond)
+record_text (Make input cond) = codes "SIDX MAKE " ++ (input_text input ++ SPACE ∷ cond)
 record_text (Dividend input) = codes "SIDX DIVIDEND " ++ input_text input
 record_text (Clear input) = codes "SIDX CLEAR " ++ input_text input
 

@@ -1,5 +1,6 @@
 ghost use Rattle.std.specs.Prelude.{◌≡◌, ◌+◌, ◌≤◌, ◌<◌, ◌^◌, ◌++◌, ◌∷◌, [], codes, decimal, length};
 ghost use Rattle.arrayvec.specs.ArrayVec.{array_vec_len};
+ghost use Rattle.dubp_atoms.specs.Letters.{SPACE};
 ghost use Rattle.dubp_atoms.specs.Spelling.{stamp_text};
 ghost use Rattle.dubp_cond.specs.Sources.{input_text, IsInput};
 ghost use Rattle.dubp_validity.specs.Records.{record_text, IsRecord};
@@ -88,7 +89,7 @@ fn put_keyed(name: &[u8], key: &Key, out: &mut Line)
 fn put_timed(name: &[u8], key: &Key, made: u64, out: &mut Line)
     requires short { length name.now ≤ 16 }
     requires room { array_vec_len out.old + 300 ≤ 2048 }
-    ensures text { out.new.items ≡ out.old.items ++ (name.now ++ (key.now ++ 32 ∷ decimal made)) }
+    ensures text { out.new.items ≡ out.old.items ++ (name.now ++ (key.now ++ SPACE ∷ decimal made)) }
     ensures room { array_vec_len out.new ≤ array_vec_len out.old + 110 }
 {
     put_keyed(name, key, out);
@@ -100,7 +101,7 @@ fn put_timed(name: &[u8], key: &Key, made: u64, out: &mut Line)
 fn put_pair(name: &[u8], from: &Key, to: &Key, out: &mut Line)
     requires short { length name.now ≤ 16 }
     requires room { array_vec_len out.old + 500 ≤ 2048 }
-    ensures text { out.new.items ≡ out.old.items ++ (name.now ++ (from.now ++ 32 ∷ to.now)) }
+    ensures text { out.new.items ≡ out.old.items ++ (name.now ++ (from.now ++ SPACE ∷ to.now)) }
     ensures room { array_vec_len out.new ≤ array_vec_len out.old + 120 }
 {
     put_keyed(name, from, out);
@@ -110,7 +111,7 @@ fn put_pair(name: &[u8], from: &Key, to: &Key, out: &mut Line)
 
 fn put_cert(from: &Key, to: &Key, made: u64, out: &mut Line)
     requires { array_vec_len out.old + 500 ≤ 2048 }
-    ensures text { out.new.items ≡ out.old.items ++ (codes "CIDX CERT " ++ (from.now ++ 32 ∷ (to.now ++ 32 ∷ decimal made))) }
+    ensures text { out.new.items ≡ out.old.items ++ (codes "CIDX CERT " ++ (from.now ++ SPACE ∷ (to.now ++ SPACE ∷ decimal made))) }
     ensures room { array_vec_len out.new ≤ array_vec_len out.old + 170 }
 {
     put_pair(b"CIDX CERT ", from, to, out);
@@ -120,7 +121,7 @@ fn put_cert(from: &Key, to: &Key, made: u64, out: &mut Line)
 
 fn put_create(key: &Key, uid: &Uid, stamp: &Stamp, out: &mut Line)
     requires { array_vec_len out.old + 700 ≤ 2048 }
-    ensures text { out.new.items ≡ out.old.items ++ (codes "IIDX CREATE " ++ (key.now ++ 32 ∷ (uid.now ++ 32 ∷ stamp_text stamp.now))) }
+    ensures text { out.new.items ≡ out.old.items ++ (codes "IIDX CREATE " ++ (key.now ++ SPACE ∷ (uid.now ++ SPACE ∷ stamp_text stamp.now))) }
     ensures room { array_vec_len out.new ≤ array_vec_len out.old + 280 }
 {
     put_keyed(b"IIDX CREATE ", key, out);
@@ -146,7 +147,7 @@ fn put_make(input: &Input, cond: &Items<u8>, out: &mut Line)
     requires valid { IsInput input.now }
     requires short { length cond.now ≤ 1000 }
     requires room { array_vec_len out.old + 1500 ≤ 2048 }
-    ensures text { out.new.items ≡ out.old.items ++ (codes "SIDX MAKE " ++ (input_text input.now ++ 32 ∷ cond.now)) }
+    ensures text { out.new.items ≡ out.old.items ++ (codes "SIDX MAKE " ++ (input_text input.now ++ SPACE ∷ cond.now)) }
     ensures room { array_vec_len out.new ≤ array_vec_len out.old + 1200 }
 {
     put_moved(b"SIDX MAKE ", input, out);

@@ -1,4 +1,3 @@
-use Rattle.std.proofs.Common.{arith}
 use Rattle.dubp_node.proofs.Items.{frame_turn}
 use Rattle.dubp_node.proofs.serving.answer_frame.Goals as goal
 
