@@ -1,3 +1,4 @@
+pub mod Added
 pub mod Again
 pub mod Built
 pub mod Closing

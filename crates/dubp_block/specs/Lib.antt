@@ -1,3 +1,5 @@
+pub mod AddsLines
+pub mod Parts
 pub mod Sections
 pub mod Text
 pub mod Reading

@@ -11,9 +11,13 @@
 #![tactic(auto)]
 
 mod block;
+mod compact;
 mod copying;
+mod entries;
+mod hashing;
 mod kinds;
 pub mod laws;
+mod put_text;
 mod reading;
 mod refusal;
 mod sizing;
@@ -23,7 +27,8 @@ mod writing;
 
 pub use block::{Block, CertLine, IdentityLine, MemberLine, RevokedLine};
 pub use copying::copy_block;
+pub use hashing::{block_hash, inner_hash, inner_hash_of, stamp_of};
 pub use reading::read_block;
 pub use refusal::ReadRefusal;
 pub use sizing::size;
-pub use writing::{block_hash, inner_hash, put_block, stamp_of};
+pub use writing::put_block;

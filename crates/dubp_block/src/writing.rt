@@ -1,139 +1,149 @@
-ghost use Rattle.std.specs.Prelude.{◌≡◌, ◌++◌, ◌∷◌, [], IfOk, OnOk};
-ghost use Rattle.dubp_atoms.specs.Hashing.{hash_of};
+ghost use Rattle.std.specs.Prelude.{◌≡◌, ◌≤◌, ◌++◌, ◌∷◌, [], length, decimal, IfOk, IfSome, OnOk, All};
+ghost use Rattle.std.specs.Fmt.{signed_decimal};
 ghost use Rattle.dubp_atoms.specs.Spelling.{IsSigned};
-ghost use Rattle.dubp_lines.specs.Lines.{unlines};
-ghost use Rattle.dubp_block.specs.Text.{IsBuilt, HasParams, opening_lines, issuer_lines, params_lines, signed_lines, inner_text, block_text, block_hash_of, stamp_of as block_stamp};
-ghost use Rattle.dubp_block.specs.Reading.{headings};
+ghost use Rattle.dubp_cond.specs.Transactions.{IsTx};
+ghost use Rattle.dubp_params.specs.Spelling.{IsParams};
+ghost use Rattle.dubp_block.specs.AddsLines.{AddsLines};
+ghost use Rattle.dubp_block.specs.Parts.{opening_of, issuing_of, closing_of};
+ghost use Rattle.dubp_block.specs.Text.{IsBlock, dividend_lines, previous_lines, params_lines, section_lines, inner_lines, block_text};
 
 use crate::block::Block;
-use arrayvec::ArrayVec;
-use dubp_atoms::{Hash, Line, NoMemory, Stamp, put_bytes, put_number};
-use dubp_lines::{put_line, put_number_line, put_signed_line, put_text_line};
-use dubp_params::{Params, put_params};
+use crate::compact::add_transactions;
+use crate::entries::{add_field, add_line, add_section};
+use dubp_atoms::{Hash, Key, NoMemory, TextSink};
+use dubp_lines::{put_number_line, put_signed_line};
+use dubp_params::Params;
 use std::alloc::Global;
 
-/// The text of a block. `NoMemory` where there is no room for it.
+/// The text of a block. The block is in range. `NoMemory` where there is no room for its text.
 pub fn put_block(alloc: Global, block: &Block) -> Result<Vec<u8>, NoMemory>
-    requires { IsBuilt block.now }
+    requires { IsBlock block.now }
     ensures { IfOk result (λ text. text.items ≡ block_text block.now) }
 {
-    let mut out = put_inner(alloc, block)?;
-    put_closing(&mut out, block)?;
-    Ok(out)
+    let mut text = Vec::new(alloc);
+    add_inner(&mut text, block)?;
+    add_closing(&mut text, block)?;
+    Ok(text)
 }
 
-/// The SHA-256 of the text before the InnerHash line: what a right InnerHash is. `NoMemory` where there is no room for that
-/// text.
-pub fn inner_hash(alloc: Global, block: &Block) -> Result<Hash, NoMemory>
-    requires { IsBuilt block.now }
-    ensures { IfOk result (λ hash. hash ≡ hash_of (inner_text block.now)) }
+/// Adds the lines before InnerHash.
+pub fn add_inner<S: TextSink>(out: &mut S, block: &Block) -> Result<(), S::Refusal>
+    requires { IsBlock block.now }
+    ensures { OnOk result (AddsLines S.has out.old out.new (inner_lines block.now)) }
 {
-    let text = put_inner(alloc, block)?;
-    Ok(Hash::of(&text))
+    add_opening(out, block)?;
+    add_dividend(out, block.dividend)?;
+    add_issuing(out, block)?;
+    add_previous(out, &block.previous)?;
+    add_params(out, &block.params)?;
+    add_number(out, b"MembersCount: ", block.members)?;
+    add_sections(out, block)?;
+    Ok(())
 }
 
-/// The hash of a block: the SHA-256 of its InnerHash, Nonce and signature lines. It takes no memory.
-pub fn block_hash(block: &Block) -> Hash
-    ensures { result ≡ block_hash_of block.now }
+// Adds the lines from Version to MedianTime.
+fn add_opening<S: TextSink>(out: &mut S, block: &Block) -> Result<(), S::Refusal>
+    ensures { OnOk result (AddsLines S.has out.old out.new (opening_of block.now)) }
 {
-    let mut line: Line = ArrayVec::new();
-    put_bytes(&mut line, b"InnerHash: ");
-    block.inner_hash.put(&mut line);
-    put_bytes(&mut line, b"\nNonce: ");
-    put_number(block.nonce as u128, &mut line);
-    put_bytes(&mut line, b"\n");
-    block.sig.put(&mut line);
-    put_bytes(&mut line, b"\n");
-    Hash::of(line.as_slice())
+    add_number(out, b"Version: ", block.version)?;
+    add_line(out, b"Type: Block")?;
+    add_field(out, b"Currency: ", &block.currency)?;
+    add_number(out, b"Number: ", block.number)?;
+    add_number(out, b"PoWMin: ", block.pow_min)?;
+    add_number(out, b"Time: ", block.time)?;
+    add_number(out, b"MedianTime: ", block.median_time)?;
+    Ok(())
 }
 
-/// The stamp of a block: its number and its hash. It takes no memory.
-pub fn stamp_of(block: &Block) -> Stamp
-    ensures { result ≡ block_stamp block.now }
+// Adds UniversalDividend, where there is one.
+fn add_dividend<S: TextSink>(out: &mut S, dividend: Option<u64>) -> Result<(), S::Refusal>
+    ensures { OnOk result (AddsLines S.has out.old out.new (dividend_lines dividend)) }
 {
-    Stamp {
-        number: block.number,
-        hash: block_hash(block),
+    match dividend {
+        None => Ok(()),
+        Some(amount) => add_number(out, b"UniversalDividend: ", amount),
     }
 }
 
-// The text before the InnerHash line.
-fn put_inner(alloc: Global, block: &Block) -> Result<Vec<u8>, NoMemory>
-    requires { IsBuilt block.now }
-    ensures { IfOk result (λ text. text.items ≡ inner_text block.now) }
-{
-    let mut out = Vec::new(alloc);
-    put_opening(&mut out, block)?;
-    put_issuer(&mut out, block)?;
-    put_params_line(&mut out, &block.params)?;
-    put_number_line(&mut out, b"MembersCount: ", block.members)?;
-    put_headings(&mut out)?;
-    Ok(out)
-}
-
-// From Version to MedianTime.
-fn put_opening(out: &mut Vec<u8>, block: &Block) -> Result<(), NoMemory>
-    ensures { OnOk result (out.new.items ≡ out.old.items ++ unlines (opening_lines block.now.version block.now.currency block.now.number block.now.pow_min block.now.time block.now.median_time)) }
-{
-    put_number_line(out, b"Version: ", block.version)?;
-    put_line(out, b"Type: Block")?;
-    put_text_line(out, b"Currency: ", block.currency.as_bytes())?;
-    put_number_line(out, b"Number: ", block.number)?;
-    put_number_line(out, b"PoWMin: ", block.pow_min)?;
-    put_number_line(out, b"Time: ", block.time)?;
-    put_number_line(out, b"MedianTime: ", block.median_time)?;
-    Ok(())
-}
-
-// From UnitBase to DifferentIssuersCount.
-fn put_issuer(out: &mut Vec<u8>, block: &Block) -> Result<(), NoMemory>
+// Adds the lines from UnitBase to DifferentIssuersCount.
+fn add_issuing<S: TextSink>(out: &mut S, block: &Block) -> Result<(), S::Refusal>
     requires { IsSigned block.now.frame_var }
-    ensures { OnOk result (out.new.items ≡ out.old.items ++ unlines (issuer_lines block.now.unit_base block.now.issuer block.now.frame block.now.frame_var block.now.issuers)) }
+    ensures { OnOk result (AddsLines S.has out.old out.new (issuing_of block.now)) }
 {
-    put_number_line(out, b"UnitBase: ", block.unit_base)?;
-    put_text_line(out, b"Issuer: ", block.issuer.as_bytes())?;
-    put_number_line(out, b"IssuersFrame: ", block.frame)?;
-    put_signed_line(out, b"IssuersFrameVar: ", block.frame_var)?;
-    put_number_line(out, b"DifferentIssuersCount: ", block.issuers)?;
+    add_number(out, b"UnitBase: ", block.unit_base)?;
+    add_field(out, b"Issuer: ", &block.issuer)?;
+    add_number(out, b"IssuersFrame: ", block.frame)?;
+    add_signed(out, b"IssuersFrameVar: ", block.frame_var)?;
+    add_number(out, b"DifferentIssuersCount: ", block.issuers)?;
     Ok(())
 }
 
-fn put_params_line(out: &mut Vec<u8>, params: &Option<Params>) -> Result<(), NoMemory>
-    requires { HasParams params.now }
-    ensures { OnOk result (out.new.items ≡ out.old.items ++ unlines (params_lines params.now)) }
+// Adds PreviousHash and PreviousIssuer, where there is a block before.
+fn add_previous<S: TextSink>(out: &mut S, previous: &Option<(Hash, Key)>) -> Result<(), S::Refusal>
+    ensures { OnOk result (AddsLines S.has out.old out.new (previous_lines previous.now)) }
 {
-    match params {
-        None => {}
-        Some(params) => {
-            let mut line: Line = ArrayVec::new();
-            put_bytes(&mut line, b"Parameters: ");
-            put_params(params, &mut line);
-            put_line(out, line.as_slice())?;
+    match previous {
+        None => Ok(()),
+        Some((hash, issuer)) => {
+            add_field(out, b"PreviousHash: ", hash)?;
+            add_field(out, b"PreviousIssuer: ", issuer)?;
+            Ok(())
         }
     }
+}
+
+// Adds Parameters, where there are some.
+fn add_params<S: TextSink>(out: &mut S, params: &Option<Params>) -> Result<(), S::Refusal>
+    requires { IfSome params.now IsParams }
+    ensures { OnOk result (AddsLines S.has out.old out.new (params_lines params.now)) }
+{
+    match params {
+        None => Ok(()),
+        Some(params) => add_field(out, b"Parameters: ", params),
+    }
+}
+
+// Adds the eight sections.
+fn add_sections<S: TextSink>(out: &mut S, block: &Block) -> Result<(), S::Refusal>
+    requires { All IsTx block.now.transactions }
+    ensures { OnOk result (AddsLines S.has out.old out.new (section_lines block.now)) }
+{
+    add_section(out, b"Identities:", &block.identities)?;
+    add_section(out, b"Joiners:", &block.joiners)?;
+    add_section(out, b"Actives:", &block.actives)?;
+    add_section(out, b"Leavers:", &block.leavers)?;
+    add_section(out, b"Revoked:", &block.revoked)?;
+    add_section(out, b"Excluded:", &block.excluded)?;
+    add_section(out, b"Certifications:", &block.certifications)?;
+    add_line(out, b"Transactions:")?;
+    add_transactions(out, &block.transactions)?;
     Ok(())
 }
 
-fn put_headings(out: &mut Vec<u8>) -> Result<(), NoMemory>
-    ensures { OnOk result (out.new.items ≡ out.old.items ++ unlines headings) }
+// Adds InnerHash, Nonce and the signature.
+fn add_closing<S: TextSink>(out: &mut S, block: &Block) -> Result<(), S::Refusal>
+    ensures { OnOk result (AddsLines S.has out.old out.new (closing_of block.now)) }
 {
-    put_line(out, b"Identities:")?;
-    put_line(out, b"Joiners:")?;
-    put_line(out, b"Actives:")?;
-    put_line(out, b"Leavers:")?;
-    put_line(out, b"Revoked:")?;
-    put_line(out, b"Excluded:")?;
-    put_line(out, b"Certifications:")?;
-    put_line(out, b"Transactions:")?;
+    add_field(out, b"InnerHash: ", &block.inner_hash)?;
+    add_number(out, b"Nonce: ", block.nonce)?;
+    add_field(out, b"", &block.sig)?;
     Ok(())
 }
 
-// InnerHash, Nonce and the signature.
-fn put_closing(out: &mut Vec<u8>, block: &Block) -> Result<(), NoMemory>
-    ensures { OnOk result (out.new.items ≡ out.old.items ++ unlines (signed_lines block.now ++ block.now.sig ∷ [])) }
+// Adds a line of a name and a number.
+#[tactic(auto, using(crate::proofs::Added::one_line))]
+fn add_number<S: TextSink>(out: &mut S, name: &[u8], n: u64) -> Result<(), S::Refusal>
+    requires { length name.now ≤ 100 }
+    ensures { OnOk result (AddsLines S.has out.old out.new ((name.now ++ decimal n) ∷ [])) }
 {
-    put_text_line(out, b"InnerHash: ", block.inner_hash.as_bytes())?;
-    put_number_line(out, b"Nonce: ", block.nonce)?;
-    put_line(out, block.sig.as_bytes())?;
-    Ok(())
+    put_number_line(out, name, n)
+}
+
+// Adds a line of a name and a signed number.
+#[tactic(auto, using(crate::proofs::Added::one_line))]
+fn add_signed<S: TextSink>(out: &mut S, name: &[u8], n: i64) -> Result<(), S::Refusal>
+    requires { length name.now ≤ 100 }
+    ensures { OnOk result (AddsLines S.has out.old out.new ((name.now ++ signed_decimal n) ∷ [])) }
+{
+    put_signed_line(out, name, n)
 }

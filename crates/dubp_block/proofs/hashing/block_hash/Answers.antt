@@ -1,7 +1,7 @@
 use Rattle.std.proofs.Common.{decimal, ap, ◌∙◌}
 use Rattle.dubp_atoms.specs.Hashing.{hash_of}
 use Rattle.dubp_block.proofs.Closing.{closing_is}
-use Rattle.dubp_block.proofs.writing.block_hash.Goals as goal
+use Rattle.dubp_block.proofs.hashing.block_hash.Goals as goal
 
 pub returns : goal.returns
 returns c =
