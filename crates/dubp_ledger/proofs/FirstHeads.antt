@@ -57,7 +57,7 @@ empty_chain (a ∷ c) e = absurd (omega (arith, e))
 
 -- on which chain it is the next
 pub is_first : (c : Chain) (b : Block) → IsBuilt b → FirstRead c b None → c ≡ []
-is_first c b is f = empty_chain c (sym f.3.0 ∙ is.number)
+is_first c b is f = empty_chain c (sym f.1.1.1.0 ∙ is.number)
 
 head_joins : (c : Chain) (b : Block) (h : Option Head) → IsBuilt b → FirstRead c b None → h ≡ head_of (b ∷ []) → h ≡ head_of (b ∷ c)
 head_joins c b h is f e = subst (λ (x : Chain). h ≡ head_of (b ∷ x)) (sym (is_first c b is f)) e
