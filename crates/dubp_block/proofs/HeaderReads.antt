@@ -154,12 +154,12 @@ unfolding later_links_at
 later_steps =
     behind_reads _ _ _ _ _ (λ x. drop 1 (links_text x)) Always links_text LaterIs (λ hash x. (issuer : List ℕ) × (Passes is_key issuer × (x ≡ with_previous hash issuer))) (line_reads _ _ _ (named_spelled (codes "PreviousHash: ") _ _ _ refl hash_spelled))
     (λ hash is_hash.
-        behind_reads _ _ _ _ _ (λ x. []) Always (λ x. drop 1 (links_text x)) (λ x. (issuer : List ℕ) × (Passes is_key issuer × (x ≡ with_previous hash issuer))) (λ issuer x. x ≡ with_previous hash issuer) (line_reads _ _ _ (named_spelled (codes "PreviousIssuer: ") _ _ _ refl key_spelled))
-        (λ issuer is. only_reads (with_previous hash issuer) Always)
-        (λ issuer x e. ap (λ (y : Links). drop 1 (links_text y)) e)
-        (λ issuer x is e. (issuer, (is, e)))
-        (λ x h. h)
-        (λ issuer x ls e stop. tt))
+    behind_reads _ _ _ _ _ (λ x. []) Always (λ x. drop 1 (links_text x)) (λ x. (issuer : List ℕ) × (Passes is_key issuer × (x ≡ with_previous hash issuer))) (λ issuer x. x ≡ with_previous hash issuer) (line_reads _ _ _ (named_spelled (codes "PreviousIssuer: ") _ _ _ refl key_spelled))
+    (λ issuer is. only_reads (with_previous hash issuer) Always)
+    (λ issuer x e. ap (λ (y : Links). drop 1 (links_text y)) e)
+    (λ issuer x is e. (issuer, (is, e)))
+    (λ x h. h)
+    (λ issuer x ls e stop. tt))
     (λ hash x h. later_first hash h.0 x h.1.1)
     (λ hash x is h. (hash, (is, h)))
     (λ x h. h)

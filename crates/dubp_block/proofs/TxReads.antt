@@ -81,7 +81,7 @@ head_found text h e =
     let got : TxHead = record { issuers = i.value; inputs = s.value; unlocks = u.value; outputs = o.value; comments = c.value; locktime = z.0 } in
     let is : IsHead got = record { issuers = i.is; inputs = s.is; unlocks = u.is; outputs = o.is; comments = c.is; locktime = l.0 } in
     let whole : text ≡ head_text got =
-        behind _ (decimal i.value) _ _ i.parts (behind _ (decimal s.value) _ _ s.parts (behind _ (decimal u.value) _ _ u.parts (behind _ (decimal o.value) _ _ o.parts (behind _ (decimal c.value) _ _ c.parts l.1)))) in
+    behind _ (decimal i.value) _ _ i.parts (behind _ (decimal s.value) _ _ s.parts (behind _ (decimal u.value) _ _ u.parts (behind _ (decimal o.value) _ _ o.parts (behind _ (decimal c.value) _ _ c.parts l.1)))) in
     subst (λ (x : TxHead). IsHead x × (text ≡ head_text x)) (some_is got h z.2) (is, whole)
 
 count_field : (n : ℕ) (rest : List ℕ) → IsCount n → field_at count_of (decimal n ++ 58 ∷ rest) ≡ Some (n, rest)

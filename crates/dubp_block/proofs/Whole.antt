@@ -23,6 +23,7 @@ done_is b c p q e = (ap block_in e, ap place_in e)
     block_in : Result (Block × Place) ℕ → Block
     block_in (Ok y) = y.0
     block_in (Err n) = b
+
     place_in : Result (Block × Place) ℕ → Place
     place_in (Ok y) = y.1
     place_in (Err n) = p
