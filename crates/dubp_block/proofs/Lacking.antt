@@ -23,7 +23,7 @@ signed_lacks b apart (negsuc n) lt = Lacks-cons b 45 (decimal (suc n)) (λ e. ap
     sym_of m n e = omega arith
 
 -- a field and `:`, and what stands behind them
-field_lacks : (x rest : List ℕ) → Lacks 10 x → Lacks 10 rest → Lacks 10 (x ++ 58 ∷ rest)
+pub field_lacks : (x rest : List ℕ) → Lacks 10 x → Lacks 10 rest → Lacks 10 (x ++ 58 ∷ rest)
 field_lacks x rest l r = Lacks-append 10 x (58 ∷ rest) l (Lacks-cons 10 58 rest (λ e. omega arith) r)
 
 number : (n : ℕ) → n < 2 ^ 53 → Lacks 10 (decimal n)

@@ -1,7 +1,12 @@
 pub mod Added
-pub mod Again
-pub mod Built
-pub mod Closing
 pub mod Lacking
+pub mod Closing
+pub mod Refusing
 pub mod Values
+pub mod Witnesses
+pub mod Spelled
+pub mod HeaderReads
+pub mod TxReads
+pub mod SectionReads
+pub mod BlockReads
 pub mod Whole

@@ -4,7 +4,7 @@ use Rattle.std.proofs.lemmas.Bool.{eqb-true, leb-true, le-leb}
 use Rattle.dubp_atoms.specs.Reading.{number_of}
 use Rattle.dubp_atoms.proofs.Numbers.{by_test, some_is, number_found, number_again}
 use Rattle.dubp_block.specs.Text.{IsVersion}
-use Rattle.dubp_block.specs.Reading.{number_if, version_of, base_of}
+use Rattle.dubp_block.specs.ReadingLines.{number_if, version_of, base_of}
 
 -- the number that passes the test
 record Passed (test : ℕ → Bool) (text : List ℕ) (n : ℕ) : Type 0 where
@@ -17,6 +17,12 @@ passed_by test text n (Some m) r e =
     let same = some_is m n g.1 in
     subst (λ (k : ℕ). Passed test text k) same (record { read = r; pass = g.0 })
 passed_by test text n None r e = absurd cc
+
+-- the number that passes the test, and its text
+pub passed : (test : ℕ → Bool) (text : List ℕ) (n : ℕ) → number_if test (number_of text) ≡ Some n → (test n ≡ true) × (text ≡ decimal n)
+passed test text n e =
+    let p = passed_by test text n (number_of text) refl e in
+    (p.pass, (number_found text n p.read).1)
 
 is_version : (n : ℕ) → (eqb n 10 || eqb n 11) ≡ true → IsVersion n
 is_version n h = by_ten n (eqb n 10) refl h

@@ -1,7 +1,7 @@
 //! Blocks: their text, their hashes, their stamps and their size.
 //!
 //! Contracts see a `Block` as the record of its fields, with each section as a list. `read_block` accepts exactly the texts of
-//! the one form that is built: a block of number 0 without a dividend, whose sections are empty.
+//! blocks, and refuses others with the first line with which the lines begin no block any more.
 //!
 //! ```text
 //! let block = read_block(alloc, text)?;
@@ -20,9 +20,12 @@ pub mod laws;
 mod put_text;
 mod reading;
 mod refusal;
+mod rows;
+mod sections;
 mod sizing;
 #[cfg(test)]
 mod tests;
+mod transactions;
 mod writing;
 
 pub use block::{Block, CertLine, IdentityLine, MemberLine, RevokedLine};

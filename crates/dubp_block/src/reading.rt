@@ -1,57 +1,68 @@
-ghost use Rattle.std.specs.Prelude.{◌≡◌, ◌++◌, ◌∷◌, [], ℕ, IfOk, OnOk, MatchResult, codes, decimal, Some};
+ghost use Rattle.std.specs.Prelude.{◌≡◌, IfOk, IfErr, MatchResult};
 ghost use Rattle.dubp_lines.specs.Lines.{split};
-ghost use Rattle.dubp_lines.specs.Taking.{Gives, line_at, named};
-ghost use Rattle.dubp_lines.specs.Takes.{Spans};
-ghost use Rattle.dubp_params.specs.Reading.{params_of};
-ghost use Rattle.dubp_block.specs.Text.{IsBuilt, block_lines, block_text, opening_lines, issuer_lines, params_lines, signed_lines, HasParams};
-ghost use Rattle.dubp_block.specs.Reading.{version_of, base_of, IsOpening, opening_at, IsIssuing, issuing_at, IsFounding, founding_at, headings, headings_at, IsClosing, closing_at, block_at, block_of};
+ghost use Rattle.dubp_lines.specs.Taking.{Gives, GivesInRoom, line_number};
+ghost use Rattle.dubp_block.specs.Text.{IsBlock, block_text};
+ghost use Rattle.dubp_block.specs.Reading.{opening_at, issuing_at, first_links_at, later_links_at, links_at, closing_at, block_at, block_of};
+ghost use Rattle.dubp_block.specs.Refusals.{NamesLine};
 ghost use Rattle.dubp_block.specs.declared.block.Block.{Block as BlockValue};
 ghost use Rattle.dubp_block.specs.declared.refusal.ReadRefusal.TheVariants.{NoMemory as Memory};
 
 use crate::block::Block;
 use crate::kinds::{Base, Parameters, Version};
 use crate::refusal::ReadRefusal;
-use dubp_atoms::{Currency, Hash, Items, Key, Sig};
-use dubp_lines::{Lines, Refused};
+use crate::sections::{take_first_sections, take_last_sections};
+use dubp_atoms::{Currency, Hash, Key, Sig};
+use dubp_lines::{LineRefusal, Lines, Refused, count_lines};
 use dubp_params::Params;
 use std::alloc::Global;
 
 /// The block that this text is.
 ///
-/// `Unbuilt` comes exactly where the bytes are not the text of a block of the one form that is built: number 0, no dividend,
-/// empty sections.
+/// `NotABlock` comes exactly where the bytes are no block's text, with the line that is refused. Memory and time are linear in the
+/// text.
 pub fn read_block(alloc: Global, text: &[u8]) -> Result<Block, ReadRefusal>
-    ensures found { IfOk result (λ b. IsBuilt b × (text.now ≡ block_text b)) }
-    ensures only { (b : BlockValue) → IsBuilt b → text.now ≡ block_text b → MatchResult result (λ v. v ≡ b) (λ e. e ≡ Memory) }
+    ensures found { IfOk result (λ b. IsBlock b × (text.now ≡ block_text b)) }
+    ensures only { (b : BlockValue) → IsBlock b → text.now ≡ block_text b → MatchResult result (λ v. v ≡ b) (λ e. e ≡ Memory) }
+    ensures refused { IfErr result (NamesLine text.now) }
 {
     match take_all(alloc, text) {
         Ok(block) => Ok(block),
-        Err(_) => Err(ReadRefusal::Unbuilt),
+        Err(LineRefusal::NoMemory) => Err(ReadRefusal::NoMemory),
+        Err(LineRefusal::Left(left)) => Err(ReadRefusal::NotABlock {
+            line: line_number(text, left),
+        }),
     }
 }
 
+// The number of a line, where so many lines are left from it on.
+fn line_number(text: &[u8], left: usize) -> u64
+    ensures { result ≡ line_number text.now left }
+{
+    count_lines(text).saturating_sub(left) as u64 + 1
+}
+
 #[tactic(auto, unfolding(crate::specs::Reading::block_of))]
-fn take_all(alloc: Global, text: &[u8]) -> Result<Block, Refused>
-    ensures exact { Gives (λ b. b) result (block_of (split text.now)) }
-    ensures found { IfOk result (λ b. IsBuilt b × ((split text.now).0 ≡ block_lines b) × ((split text.now).1 ≡ [])) }
+fn take_all(alloc: Global, text: &[u8]) -> Result<Block, LineRefusal>
+    ensures { GivesInRoom (λ b. b) result (block_of (split text.now)) }
 {
     let mut lines = Lines::of(text);
     let block = take_block(alloc, &mut lines)?;
     if !lines.is_done() {
-        return Err(lines.refused());
+        return Err(LineRefusal::from(lines.refused()));
     }
     Ok(block)
 }
 
-#[tactic(auto, unfolding(crate::specs::Reading::block_at))]
-fn take_block(alloc: Global, lines: &mut Lines<'_>) -> Result<Block, Refused>
-    ensures exact { Gives (λ b. (b, lines.new)) result (block_at lines.old) }
-    ensures found { IfOk result (λ b. IsBuilt b × Spans lines.old (block_lines b) lines.new) }
+#[tactic(auto, unfolding(crate::specs::Reading::block_at, dubp_lines::specs::Readers::and_then))]
+fn take_block(alloc: Global, lines: &mut Lines<'_>) -> Result<Block, LineRefusal>
+    ensures { GivesInRoom (λ b. (b, lines.new)) result (block_at lines.old) }
 {
     let opening = take_opening(lines)?;
     let issuing = take_issuing(lines)?;
-    let founding = take_founding(opening.number, lines)?;
-    take_headings(lines)?;
+    let links = take_links(lines, opening.number)?;
+    let members = lines.take_value::<u64>(b"MembersCount: ")?;
+    let first = take_first_sections(alloc, lines)?;
+    let last = take_last_sections(alloc, lines)?;
     let closing = take_closing(lines)?;
     Ok(Block {
         version: opening.version,
@@ -60,23 +71,23 @@ fn take_block(alloc: Global, lines: &mut Lines<'_>) -> Result<Block, Refused>
         pow_min: opening.pow_min,
         time: opening.time,
         median_time: opening.median_time,
-        dividend: None,
+        dividend: issuing.dividend,
         unit_base: issuing.unit_base,
         issuer: issuing.issuer,
         frame: issuing.frame,
         frame_var: issuing.frame_var,
         issuers: issuing.issuers,
-        previous: None,
-        params: Some(founding.params),
-        members: founding.members,
-        identities: Items::new(alloc),
-        joiners: Items::new(alloc),
-        actives: Items::new(alloc),
-        leavers: Items::new(alloc),
-        revoked: Items::new(alloc),
-        excluded: Items::new(alloc),
-        certifications: Items::new(alloc),
-        transactions: Items::new(alloc),
+        previous: links.previous,
+        params: links.params,
+        members,
+        identities: first.identities,
+        joiners: first.joiners,
+        actives: first.actives,
+        leavers: first.leavers,
+        revoked: last.revoked,
+        excluded: last.excluded,
+        certifications: last.certifications,
+        transactions: last.transactions,
         inner_hash: closing.inner_hash,
         nonce: closing.nonce,
         sig: closing.sig,
@@ -94,10 +105,9 @@ struct Opening {
     median_time: u64,
 }
 
-#[tactic(auto, unfolding(crate::specs::Reading::opening_at))]
+#[tactic(auto, unfolding(crate::specs::Reading::opening_at, dubp_lines::specs::Readers::and_then))]
 fn take_opening(lines: &mut Lines<'_>) -> Result<Opening, Refused>
-    ensures exact { Gives (λ x. (x, lines.new)) result (opening_at lines.old) }
-    ensures found { IfOk result (λ x. IsOpening x × Spans lines.old (opening_lines x.version x.currency x.number x.pow_min x.time x.median_time) lines.new) }
+    ensures { Gives (λ x. (x, lines.new)) result (opening_at lines.old) }
 {
     let version = lines.take_value::<Version>(b"Version: ")?;
     lines.take(b"Type: Block")?;
@@ -116,9 +126,10 @@ fn take_opening(lines: &mut Lines<'_>) -> Result<Opening, Refused>
     })
 }
 
-// The lines from UnitBase to DifferentIssuersCount.
+// The lines from UniversalDividend, where there is one, to DifferentIssuersCount.
 #[derive(Clone, Copy)]
 struct Issuing {
+    dividend: Option<u64>,
     unit_base: u64,
     issuer: Key,
     frame: u64,
@@ -126,17 +137,18 @@ struct Issuing {
     issuers: u64,
 }
 
-#[tactic(auto, unfolding(crate::specs::Reading::issuing_at))]
+#[tactic(auto, unfolding(crate::specs::Reading::issuing_at, dubp_lines::specs::Readers::and_then))]
 fn take_issuing(lines: &mut Lines<'_>) -> Result<Issuing, Refused>
-    ensures exact { Gives (λ x. (x, lines.new)) result (issuing_at lines.old) }
-    ensures found { IfOk result (λ x. IsIssuing x × Spans lines.old (issuer_lines x.unit_base x.issuer x.frame x.frame_var x.issuers) lines.new) }
+    ensures { Gives (λ x. (x, lines.new)) result (issuing_at lines.old) }
 {
+    let dividend = lines.take_optional::<u64>(b"UniversalDividend: ")?;
     let unit_base = lines.take_value::<Base>(b"UnitBase: ")?;
     let issuer = lines.take_value::<Key>(b"Issuer: ")?;
     let frame = lines.take_value::<u64>(b"IssuersFrame: ")?;
     let frame_var = lines.take_value::<i64>(b"IssuersFrameVar: ")?;
     let issuers = lines.take_value::<u64>(b"DifferentIssuersCount: ")?;
     Ok(Issuing {
+        dividend,
         unit_base,
         issuer,
         frame,
@@ -145,40 +157,44 @@ fn take_issuing(lines: &mut Lines<'_>) -> Result<Issuing, Refused>
     })
 }
 
-// Parameters and MembersCount.
+// PreviousHash and PreviousIssuer, or Parameters.
 #[derive(Clone, Copy)]
-struct Founding {
-    params: Params,
-    members: u64,
+struct Links {
+    previous: Option<(Hash, Key)>,
+    params: Option<Params>,
 }
 
-#[tactic(auto, unfolding(crate::specs::Reading::founding_at))]
-fn take_founding(number: u64, lines: &mut Lines<'_>) -> Result<Founding, Refused>
-    ensures exact { Gives (λ x. (x, lines.new)) result (founding_at number lines.old) }
-    ensures found { IfOk result (λ x. IsFounding number x × Spans lines.old (params_lines (Some x.params) ++ (codes "MembersCount: " ++ decimal x.members) ∷ []) lines.new) }
+fn take_links(lines: &mut Lines<'_>, number: u64) -> Result<Links, Refused>
+    ensures { Gives (λ x. (x, lines.new)) result (links_at number lines.old) }
 {
-    if number != 0 {
-        return Err(lines.refused());
+    if number == 0 {
+        take_first_links(lines)
+    } else {
+        take_later_links(lines)
     }
-    let params = lines.take_value::<Parameters>(b"Parameters: ")?;
-    let members = lines.take_value::<u64>(b"MembersCount: ")?;
-    Ok(Founding { params, members })
 }
 
-#[tactic(auto, unfolding(crate::specs::Reading::headings_at))]
-fn take_headings(lines: &mut Lines<'_>) -> Result<(), Refused>
-    ensures exact { Gives (λ _. lines.new) result (headings_at lines.old) }
-    ensures found { OnOk result (Spans lines.old headings lines.new) }
+#[tactic(auto, unfolding(crate::specs::Reading::first_links_at, dubp_lines::specs::Readers::and_then))]
+fn take_first_links(lines: &mut Lines<'_>) -> Result<Links, Refused>
+    ensures { Gives (λ x. (x, lines.new)) result (first_links_at lines.old) }
 {
-    lines.take(b"Identities:")?;
-    lines.take(b"Joiners:")?;
-    lines.take(b"Actives:")?;
-    lines.take(b"Leavers:")?;
-    lines.take(b"Revoked:")?;
-    lines.take(b"Excluded:")?;
-    lines.take(b"Certifications:")?;
-    lines.take(b"Transactions:")?;
-    Ok(())
+    let params = lines.take_value::<Parameters>(b"Parameters: ")?;
+    Ok(Links {
+        previous: None,
+        params: Some(params),
+    })
+}
+
+#[tactic(auto, unfolding(crate::specs::Reading::later_links_at, dubp_lines::specs::Readers::and_then))]
+fn take_later_links(lines: &mut Lines<'_>) -> Result<Links, Refused>
+    ensures { Gives (λ x. (x, lines.new)) result (later_links_at lines.old) }
+{
+    let hash = lines.take_value::<Hash>(b"PreviousHash: ")?;
+    let issuer = lines.take_value::<Key>(b"PreviousIssuer: ")?;
+    Ok(Links {
+        previous: Some((hash, issuer)),
+        params: None,
+    })
 }
 
 // InnerHash, Nonce and the signature.
@@ -189,10 +205,9 @@ struct Closing {
     sig: Sig,
 }
 
-#[tactic(auto, unfolding(crate::specs::Reading::closing_at))]
+#[tactic(auto, unfolding(crate::specs::Reading::closing_at, dubp_lines::specs::Readers::and_then))]
 fn take_closing(lines: &mut Lines<'_>) -> Result<Closing, Refused>
-    ensures exact { Gives (λ x. (x, lines.new)) result (closing_at lines.old) }
-    ensures found { IfOk result (λ x. IsClosing x × Spans lines.old ((codes "InnerHash: " ++ x.inner_hash) ∷ (codes "Nonce: " ++ decimal x.nonce) ∷ x.sig ∷ []) lines.new) }
+    ensures { Gives (λ x. (x, lines.new)) result (closing_at lines.old) }
 {
     let inner_hash = lines.take_value::<Hash>(b"InnerHash: ")?;
     let nonce = lines.take_value::<u64>(b"Nonce: ")?;

@@ -52,93 +52,130 @@ fn reads_hashes_and_writes_the_first_block(rt: HostRuntime) -> Result<(), Fail> 
     Ok(())
 }
 
+// A block of another number, with a dividend, an entry in most sections and two transactions: 48 lines.
+const SECOND_BLOCK: &[u8] = b"Version: 11\n\
+Type: Block\n\
+Currency: test_currency\n\
+Number: 1\n\
+PoWMin: 4\n\
+Time: 1488990000\n\
+MedianTime: 1488990000\n\
+UniversalDividend: 1000\n\
+UnitBase: 0\n\
+Issuer: 1111111111111111111111111111111111111111111\n\
+IssuersFrame: 6\n\
+IssuersFrameVar: -5\n\
+DifferentIssuersCount: 1\n\
+PreviousHash: 213EECFB0EEA61A655E64854E92BE5C3C4F3DE3D12DAD82F421E4DFA250CBB36\n\
+PreviousIssuer: 1111111111111111111111111111111111111111111\n\
+MembersCount: 3\n\
+Identities:\n\
+1111111111111111111111111111111111111111111:AAAAAAAAAAAAAAAAAAAAAAAAAAAAAAAAAAAAAAAAAAAAAAAAAAAAAAAAAAAAAAAAAAAAAAAAAAAAAAAAAAAAAA==:0-213EECFB0EEA61A655E64854E92BE5C3C4F3DE3D12DAD82F421E4DFA250CBB36:name\n\
+Joiners:\n\
+1111111111111111111111111111111111111111111:AAAAAAAAAAAAAAAAAAAAAAAAAAAAAAAAAAAAAAAAAAAAAAAAAAAAAAAAAAAAAAAAAAAAAAAAAAAAAAAAAAAAAA==:0-213EECFB0EEA61A655E64854E92BE5C3C4F3DE3D12DAD82F421E4DFA250CBB36:0-213EECFB0EEA61A655E64854E92BE5C3C4F3DE3D12DAD82F421E4DFA250CBB36:name\n\
+Actives:\n\
+Leavers:\n\
+Revoked:\n\
+1111111111111111111111111111111111111111111:AAAAAAAAAAAAAAAAAAAAAAAAAAAAAAAAAAAAAAAAAAAAAAAAAAAAAAAAAAAAAAAAAAAAAAAAAAAAAAAAAAAAAA==\n\
+Excluded:\n\
+1111111111111111111111111111111111111111111\n\
+Certifications:\n\
+1111111111111111111111111111111111111111111:1111111111111111111111111111111111111111111:0:AAAAAAAAAAAAAAAAAAAAAAAAAAAAAAAAAAAAAAAAAAAAAAAAAAAAAAAAAAAAAAAAAAAAAAAAAAAAAAAAAAAAAA==\n\
+Transactions:\n\
+TX:10:1:1:1:1:1:0\n\
+0-213EECFB0EEA61A655E64854E92BE5C3C4F3DE3D12DAD82F421E4DFA250CBB36\n\
+1111111111111111111111111111111111111111111\n\
+1000:0:D:1111111111111111111111111111111111111111111:1\n\
+0:SIG(0)\n\
+1000:0:SIG(1111111111111111111111111111111111111111111)\n\
+a comment\n\
+AAAAAAAAAAAAAAAAAAAAAAAAAAAAAAAAAAAAAAAAAAAAAAAAAAAAAAAAAAAAAAAAAAAAAAAAAAAAAAAAAAAAAA==\n\
+TX:10:1:2:1:1:0:0\n\
+0-213EECFB0EEA61A655E64854E92BE5C3C4F3DE3D12DAD82F421E4DFA250CBB36\n\
+1111111111111111111111111111111111111111111\n\
+1000:0:D:1111111111111111111111111111111111111111111:1\n\
+500:0:T:213EECFB0EEA61A655E64854E92BE5C3C4F3DE3D12DAD82F421E4DFA250CBB36:0\n\
+0:SIG(0)\n\
+1500:0:SIG(1111111111111111111111111111111111111111111)\n\
+AAAAAAAAAAAAAAAAAAAAAAAAAAAAAAAAAAAAAAAAAAAAAAAAAAAAAAAAAAAAAAAAAAAAAAAAAAAAAAAAAAAAAA==\n\
+InnerHash: 213EECFB0EEA61A655E64854E92BE5C3C4F3DE3D12DAD82F421E4DFA250CBB36\n\
+Nonce: 7\n\
+AAAAAAAAAAAAAAAAAAAAAAAAAAAAAAAAAAAAAAAAAAAAAAAAAAAAAAAAAAAAAAAAAAAAAAAAAAAAAAAAAAAAAA==\n";
+
 #[test]
-fn each_line_stands_once_and_is_spelt_one_way(rt: HostRuntime) -> Result<(), Fail> {
+fn a_changed_line_is_refused_where_no_block_goes_on(rt: HostRuntime) -> Result<(), Fail> {
     let alloc = rt.alloc();
-    for line in 0..25usize {
-        for change in [Change::Lack, Change::Double, Change::Misspell] {
-            let text = changed(alloc, line, change)?;
-            let read = read_block(alloc, text.as_slice());
-            assert!(rt; read.err() == Some(ReadRefusal::Unbuilt), "line {line}");
-        }
+    let changes = [
+        (1, b"Version: 12".as_slice(), 1),
+        (4, b"Number: 0".as_slice(), 14),
+        (8, b"UniversalDividend: 01000".as_slice(), 8),
+        (8, b"UnitBase: 16".as_slice(), 8),
+        (8, b"UnitBase: 0".as_slice(), 9),
+        (18, b"Joiner:".as_slice(), 18),
+        (
+            24,
+            b"1111111111111111111111111111111111111111111:".as_slice(),
+            24,
+        ),
+        (
+            28,
+            b"1111111111111111111111111111111111111111111:1111111111111111111111111111111111111111111:00:AAAAAAAAAAAAAAAAAAAAAAAAAAAAAAAAAAAAAAAAAAAAAAAAAAAAAAAAAAAAAAAAAAAAAAAAAAAAAAAAAAAAAA==".as_slice(),
+            28,
+        ),
+        (28, b"Transactions:".as_slice(), 29),
+        (30, b"TX:10:1:1:1:1:2:0".as_slice(), 30),
+        (30, b"TX:10:0:1:1:1:1:0".as_slice(), 30),
+        (30, b"TX:10:1:101:1:1:1:0".as_slice(), 30),
+        // two inputs announced, and one there
+        (30, b"TX:10:1:2:1:1:1:0".as_slice(), 34),
+        (36, b"".as_slice(), 36),
+        // one input announced, and two there
+        (38, b"TX:10:1:1:1:1:0:0".as_slice(), 42),
+        (46, b"InnerHash: 0".as_slice(), 46),
+        (48, b"".as_slice(), 48),
+    ];
+    for (line, new, refused) in changes {
+        let text = with_line(alloc, line, new)?;
+        assert_eq!(rt; line_of(read_block(alloc, text.as_slice())), refused);
     }
     Ok(())
 }
 
-#[derive(Clone, Copy)]
-enum Change {
-    Lack,
-    Double,
-    Misspell,
+#[test]
+fn the_ends_of_a_text_are_refused_behind_its_lines(rt: HostRuntime) -> Result<(), Fail> {
+    let alloc = rt.alloc();
+    let block = read_block(alloc, SECOND_BLOCK)?;
+    assert_eq!(rt;
+        (block.transactions.len(), block.dividend, block.frame_var),
+        (2, Some(1000), -5)
+    );
+    for end in [b"x".as_slice(), b"x\n".as_slice(), b"\n".as_slice()] {
+        let mut text = SECOND_BLOCK.to_vec(alloc)?;
+        text.extend_from_slice(end)?;
+        assert_eq!(rt; line_of(read_block(alloc, text.as_slice())), 49);
+    }
+    let short = SECOND_BLOCK.len() - 1;
+    assert_eq!(rt; line_of(read_block(alloc, &SECOND_BLOCK[..short])), 48);
+    assert_eq!(rt; line_of(read_block(alloc, b"")), 1);
+    Ok(())
 }
 
-// The text of the first block with this line changed.
-fn changed(alloc: Global, line: usize, change: Change) -> Result<Vec<u8>, AllocError> {
+// The line of a refusal, or 0 where there is none.
+fn line_of(read: Result<Block, ReadRefusal>) -> u64 {
+    match read {
+        Err(ReadRefusal::NotABlock { line }) => line,
+        _ => 0,
+    }
+}
+
+// The text of the second block with this line changed.
+fn with_line(alloc: Global, line: usize, new: &[u8]) -> Result<Vec<u8>, AllocError> {
     let mut text = Vec::new(alloc);
-    for (i, old) in FIRST_BLOCK.split(|c| *c == b'\n').enumerate() {
-        if i == 25 {
-            break;
-        }
-        if i != line {
-            add(&mut text, old)?;
-            continue;
-        }
-        match change {
-            Change::Lack => {}
-            Change::Double => {
-                add(&mut text, old)?;
-                add(&mut text, old)?;
-            }
-            Change::Misspell => {
-                text.push(b' ')?;
-                add(&mut text, old)?;
-            }
-        }
+    for (i, old) in SECOND_BLOCK.split(|c| *c == b'\n').take(48).enumerate() {
+        text.extend_from_slice(if i + 1 == line { new } else { old })?;
+        text.push(b'\n')?;
     }
     Ok(text)
-}
-
-fn add(text: &mut Vec<u8>, line: &[u8]) -> Result<(), AllocError> {
-    text.extend_from_slice(line)?;
-    text.push(b'\n')?;
-    Ok(())
-}
-
-#[test]
-fn unit_bases_up_to_15_are_read(rt: HostRuntime) -> Result<(), Fail> {
-    let alloc = rt.alloc();
-    for (line, is_read) in [
-        (b"UnitBase: 15".as_slice(), true),
-        (b"UnitBase: 16".as_slice(), false),
-    ] {
-        let mut text = Vec::new(alloc);
-        for old in FIRST_BLOCK.split(|c| *c == b'\n').take(25) {
-            add(
-                &mut text,
-                if old.starts_with(b"UnitBase") {
-                    line
-                } else {
-                    old
-                },
-            )?;
-        }
-        assert_eq!(rt; read_block(alloc, text.as_slice()).is_ok(), is_read);
-    }
-    Ok(())
-}
-
-#[test]
-fn bytes_around_the_text_are_refused(rt: HostRuntime) -> Result<(), Fail> {
-    let alloc = rt.alloc();
-    for end in [b"\n".as_slice(), b"x".as_slice(), b"x\n".as_slice()] {
-        let mut text = FIRST_BLOCK.to_vec(alloc)?;
-        text.extend_from_slice(end)?;
-        assert!(rt; read_block(alloc, text.as_slice()).is_err());
-    }
-    let short = FIRST_BLOCK.len() - 1;
-    assert!(rt; read_block(alloc, &FIRST_BLOCK[..short]).is_err());
-    assert!(rt; read_block(alloc, b"").is_err());
-    Ok(())
 }
 
 const KEY: &[u8] = b"1111111111111111111111111111111111111111111";

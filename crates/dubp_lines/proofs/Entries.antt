@@ -1,19 +1,38 @@
 -- Entries one after another keep what a reader keeps. How many there may be, the lines bound: `many` is the same for every bound
 -- above the number of lines.
 use Rattle.std.proofs.Common.{◌≡◌, ◌⊎◌, inl, inr, ℕ, zero, suc, ◌+◌, ◌<◌, ◌≤◌, Bool, true, false, cond, List, [], ◌∷◌, ◌++◌, length, Result, Ok, Err, refl, sym, ap, subst, ◌∙◌, append_assoc, append-nil, arith, length-append}
-use Rattle.std.specs.Prelude.{All}
-use Rattle.std.specs.List.{AllByRecursion}
+use Rattle.std.specs.Prelude.{All, map}
+use Rattle.std.specs.List.{AllByRecursion, flat_map}
+use Rattle.std.proofs.lemmas.List.Concat.{flat_map-cons}
 use Rattle.std.proofs.lemmas.List.Elements.{All-nil, All-cons, All-head, All-tail}
 use Rattle.dubp_atoms.specs.Reading.{Lacks}
 use Rattle.dubp_lines.specs.Lines.{Place}
+use Rattle.dubp_lines.specs.Taking.{same_line}
 use Rattle.dubp_lines.specs.Readers.{Reader, go_on, and_then, gives, many, entries}
-use Rattle.dubp_lines.proofs.Taken.{ok_is}
+use Rattle.dubp_lines.proofs.Taken.{ok_is, same_text}
 use Rattle.dubp_lines.proofs.Readers.{Rows, Always, Reading, Refusal, Reads, Went, went, stopped, goes, halts, all_append}
 
 -- the spelling of entries
 abbrev pub spell_all : {A : Type 0} → (A → Rows) → List A → Rows
 spell_all s [] = []
 spell_all s (x ∷ xs) = s x ++ spell_all s xs
+
+-- of entries of one line
+pub all_rows : {A : Type 0} (spell : A → List ℕ) (vs : List A) → spell_all (λ a. spell a ∷ []) vs ≡ map spell vs
+all_rows spell [] = refl
+all_rows spell (v ∷ vs) = ap (λ ls. spell v ∷ ls) (all_rows spell vs)
+
+pub all_lines : {A : Type 0} (s : A → Rows) (vs : List A) → spell_all s vs ≡ flat_map s vs
+all_lines s [] = refl
+all_lines s (v ∷ vs) = ap (λ ls. s v ++ ls) (all_lines s vs) ∙ sym (flat_map-cons s v vs)
+
+-- a line that is longer is another line
+pub longer_apart : (wanted line : List ℕ) → length wanted < length line → same_line wanted line ≡ false
+longer_apart wanted line lt = by_test (same_line wanted line) refl
+  where
+    by_test : (b : Bool) → same_line wanted line ≡ b → same_line wanted line ≡ false
+    by_test true e = let same : line ≡ wanted = same_text line wanted e in absurd (omega (arith, ap length same))
+    by_test false e = e
 
 module _ {A : Type 0} (stops : Rows → Bool) (r : Reader A) (s : A → Rows) (G : A → Type 0) (x : Reads r s G Always)
     (near : (l : List ℕ) (ks ks' : Rows) → stops (l ∷ ks) ≡ stops (l ∷ ks')) (starts : (a : A) (ls : Rows) → G a → stops (s a ++ ls) ≡ false) (some_line : (a : A) → G a → 0 < length (s a)) where

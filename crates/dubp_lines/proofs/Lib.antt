@@ -4,3 +4,4 @@ pub mod Written
 pub mod Readers
 pub mod Rows
 pub mod Entries
+pub mod Loops

@@ -246,6 +246,12 @@ gives_reads {B} b K E k same = record {
   again = λ c ls t h stop. ap (λ (x : B). Ok (x, (ls, t))) (sym (same c h.0));
 }
 
+-- the same, with nothing more to say
+pub only_reads : {B : Type 0} (b : B) (E : Rows → Type 0) → Reads (gives b) (λ c. []) (λ c. c ≡ b) E
+only_reads {B} b E =
+    let K : B → Type 0 = λ c. c ≡ b in
+    reads_as (gives b) (λ c. []) (λ c. K c × Unit {0}) K E (λ c h. h.0) (λ c h. (h, tt)) (gives_reads b K E refl (λ c h. h))
+
 -- ---- one line
 
 -- Texts are read as the good values, each from its spelling, which has no LF.

@@ -2,15 +2,15 @@
 use Rattle.std.proofs.Common.{◌≡◌, ◌⊎◌, inl, inr, ℕ, zero, suc, ◌+◌, ◌<◌, ◌≤◌, Bool, true, false, cond, List, [], ◌∷◌, ◌++◌, length, Option, Some, None, Result, Ok, Err, refl, sym, ap, subst, ◌∙◌, append_assoc, append-nil, arith, length-append}
 use Rattle.std.specs.Prelude.{map, All}
 use Rattle.std.specs.List.{AllByRecursion, list_all}
-use Rattle.std.proofs.lemmas.List.{nil_from_length}
+use Rattle.std.proofs.lemmas.List.{nil_from_length, take_at}
 use Rattle.std.proofs.lemmas.List.Elements.{All-nil, All-cons, All-head, All-tail}
 use Rattle.std.specs.Prelude.{nat_lt, ◌||◌}
 use Rattle.dubp_atoms.specs.Reading.{Lacks}
 use Rattle.dubp_lines.specs.Lines.{Place}
 use Rattle.dubp_lines.specs.Taking.{line_at, named, begins_with, next_passes, value_of}
 use Rattle.dubp_lines.specs.Readers.{Reader, go_on, and_then, gives, optional, rows, many, entries}
-use Rattle.dubp_lines.proofs.Taken.{ok_is, cons_is}
-use Rattle.dubp_lines.proofs.Readers.{Rows, Always, Reading, Refusal, Reads, Went, went, stopped, goes, halts, all_append, behind_reads, reads_as, spelled_as, gives_reads, IsSpelled, line_reads, err_moved}
+use Rattle.dubp_lines.proofs.Taken.{ok_is, cons_is, text_same}
+use Rattle.dubp_lines.proofs.Readers.{Rows, Always, Reading, Refusal, Reads, Went, went, stopped, goes, halts, all_append, behind_reads, then_reads, reads_as, spelled_as, gives_reads, IsSpelled, line_reads, err_moved}
 
 -- ---- so many lines
 
@@ -108,18 +108,27 @@ first_passes : (test : List ℕ → Bool) (k : Rows) (l : List ℕ) (ks ks' : Ro
 first_passes test [] l ks ks' = refl
 first_passes test (m ∷ k) l ks ks' = refl
 
-module _ {A : Type 0} (name : List ℕ) (read : List ℕ → Option A) (spell : A → List ℕ) (Good : A → Type 0) (x : IsSpelled (named name read) (λ a. name ++ spell a) Good) (apart : (a : A) (ls : Rows) → next_passes (begins_with name) ((name ++ spell a) ∷ ls) ≡ true) where
-  abbrev pub optional_row : Option A → Rows
-  optional_row None = []
-  optional_row (Some a) = (name ++ spell a) ∷ []
+abbrev pub optional_row : {A : Type 0} → List ℕ → (A → List ℕ) → Option A → Rows
+optional_row name spell None = []
+optional_row name spell (Some a) = (name ++ spell a) ∷ []
 
-  abbrev pub IsOptional : Option A → Type 0
-  IsOptional None = Unit {0}
-  IsOptional (Some a) = Good a
+abbrev pub IsOptional : {A : Type 0} → (A → Type 0) → Option A → Type 0
+IsOptional Good None = Unit {0}
+IsOptional Good (Some a) = Good a
 
-  -- no line of this name stands behind
-  abbrev pub NotNext : Rows → Type 0
-  NotNext ls = next_passes (begins_with name) ls ≡ false
+-- no line of this name stands behind
+abbrev pub NotNext : List ℕ → Rows → Type 0
+NotNext name ls = next_passes (begins_with name) ls ≡ false
+
+module _ {A : Type 0} (name : List ℕ) (read : List ℕ → Option A) (spell : A → List ℕ) (Good : A → Type 0) (x : IsSpelled (named name read) (λ a. name ++ spell a) Good) where
+  abbrev row_of : Option A → Rows
+  row_of o = optional_row name spell o
+
+  abbrev IsOne : Option A → Type 0
+  IsOne o = IsOptional Good o
+
+  apart : (a : A) (ls : Rows) → next_passes (begins_with name) ((name ++ spell a) ∷ ls) ≡ true
+  apart a ls = rw (take_at name (spell a) (length name) refl) (text_same name)
 
   abbrev here : Reader (Option A)
   here p = go_on (line_at (named name read) p) (λ a. gives (Some a))
@@ -140,20 +149,20 @@ module _ {A : Type 0} (name : List ℕ) (read : List ℕ → Option A) (spell : 
   here_went p (Ok z) y e = (z.0, z.1, refl, sym (ok_is _ _ e))
   here_went p (Err n) y e = absurd cc
 
-  found_by : (p : Place) (b : Bool) (o : Option A) (q : Place) → next_passes (begins_with name) p.0 ≡ b → chosen b p ≡ Ok (o, q) → Reading (optional name read) optional_row IsOptional p o q
+  found_by : (p : Place) (b : Bool) (o : Option A) (q : Place) → next_passes (begins_with name) p.0 ≡ b → chosen b p ≡ Ok (o, q) → Reading (optional name read) row_of IsOne p o q
   found_by p true o q e g =
       let w = here_went p (line_at (named name read) p) (o, q) g in
       let f = read_one.found p w.0 w.1 w.2 in
-      subst (λ (y : Option A × Place). Reading (optional name read) optional_row IsOptional p y.0 y.1) (sym w.3)
+      subst (λ (y : Option A × Place). Reading (optional name read) row_of IsOne p y.0 y.1) (sym w.3)
       (record {
         good = f.good;
         lines = f.lines;
         tail = f.tail;
-        local = λ k l ks ks' t at. is_here (optional_row (Some w.0) ++ (k ++ l ∷ ks'), t) (apart w.0 (k ++ l ∷ ks')) ∙ ap (λ (r : Result (A × Place) ℕ). go_on r (λ a. gives (Some a))) (f.local k l ks ks' t at);
+        local = λ k l ks ks' t at. is_here (row_of (Some w.0) ++ (k ++ l ∷ ks'), t) (apart w.0 (k ++ l ∷ ks')) ∙ ap (λ (r : Result (A × Place) ℕ). go_on r (λ a. gives (Some a))) (f.local k l ks ks' t at);
       })
   found_by p false o q e g =
       let none : Option A × Place = (None, p) in
-      subst (λ (y : Option A × Place). Reading (optional name read) optional_row IsOptional p y.0 y.1) (ok_is none (o, q) g)
+      subst (λ (y : Option A × Place). Reading (optional name read) row_of IsOne p y.0 y.1) (ok_is none (o, q) g)
       (record {
         good = tt;
         lines = refl;
@@ -165,7 +174,7 @@ module _ {A : Type 0} (name : List ℕ) (read : List ℕ → Option A) (spell : 
   here_stopped (Ok z) n e = absurd cc
   here_stopped (Err m) n e = err_moved m n e
 
-  refused_by : (p : Place) (b : Bool) (n : ℕ) → next_passes (begins_with name) p.0 ≡ b → chosen b p ≡ Err n → Refusal (optional name read) optional_row IsOptional p.0 n
+  refused_by : (p : Place) (b : Bool) (n : ℕ) → next_passes (begins_with name) p.0 ≡ b → chosen b p ≡ Err n → Refusal (optional name read) row_of IsOne p.0 n
   refused_by p true n e g =
       let y = read_one.refused p n (here_stopped (line_at (named name read) p) n g) in
       record {
@@ -183,15 +192,15 @@ module _ {A : Type 0} (name : List ℕ) (read : List ℕ → Option A) (spell : 
       }
   refused_by p false n e g = absurd cc
 
-  optional_clear : (o : Option A) → IsOptional o → AllByRecursion (Lacks 10) (optional_row o)
+  optional_clear : (o : Option A) → IsOne o → AllByRecursion (Lacks 10) (row_of o)
   optional_clear None h = tt
   optional_clear (Some a) h = read_one.clear a h
 
-  optional_again : (o : Option A) (ls : Rows) (t : List ℕ) → IsOptional o → NotNext ls → optional name read (optional_row o ++ ls, t) ≡ Ok (o, (ls, t))
+  optional_again : (o : Option A) (ls : Rows) (t : List ℕ) → IsOne o → NotNext name ls → optional name read (row_of o ++ ls, t) ≡ Ok (o, (ls, t))
   optional_again None ls t h stop = is_not (ls, t) stop
-  optional_again (Some a) ls t h stop = is_here (optional_row (Some a) ++ ls, t) (apart a ls) ∙ ap (λ (r : Result (A × Place) ℕ). go_on r (λ a. gives (Some a))) (read_one.again a ls t h tt)
+  optional_again (Some a) ls t h stop = is_here (row_of (Some a) ++ ls, t) (apart a ls) ∙ ap (λ (r : Result (A × Place) ℕ). go_on r (λ a. gives (Some a))) (read_one.again a ls t h tt)
 
-  pub optional_reads : Reads (optional name read) optional_row IsOptional NotNext
+  pub optional_reads : Reads (optional name read) row_of IsOne (NotNext name)
   optional_reads = record {
     value = None;
     is = tt;
@@ -200,3 +209,15 @@ module _ {A : Type 0} (name : List ℕ) (read : List ℕ → Option A) (spell : 
     refused = λ p n e. refused_by p (next_passes (begins_with name) p.0) n refl e;
     again = optional_again;
   }
+
+-- ---- a part of which something is known
+
+-- Where `P` of the part follows from the fields before, only `Good` of it is asked.
+pub known_then : {A B : Type 0} (r : Reader A) (f : A → Reader B) (s : A → Rows) (P Good : A → Type 0) (u : B → Rows) (E : Rows → Type 0) (field : B → A) (K H : B → Type 0)
+    → Reads r s (λ a. P a × Good a) Always → ((b : B) → K b → P (field b)) → ((a : A) → P a × Good a → Reads (f a) u (λ b. (K b × (field b ≡ a)) × H b) E)
+    → Reads (and_then r f) (λ b. s (field b) ++ u b) (λ b. K b × (Good (field b) × H b)) E
+known_then r f s P Good u E field K H first known next =
+    reads_as (and_then r f) (λ b. s (field b) ++ u b) (λ b. K b × ((P (field b) × Good (field b)) × H b)) (λ b. K b × (Good (field b) × H b)) E
+    (λ b h. (h.0, (h.1.0.1, h.1.1)))
+    (λ b h. (h.0, ((known b h.0, h.1.0), h.1.1)))
+    (then_reads r f s (λ a. P a × Good a) u E field K H first next)

@@ -1,6 +1,7 @@
 ghost use Rattle.std.specs.Prelude.{◌≡◌, ◌≤◌, ◌<◌, ◌^◌, ◌+◌, ◌==◌, count_by, length, List, [], ◌∷◌, IfSome, IfNone, OnErr, drop};
 ghost use Rattle.dubp_atoms.specs.Letters.{LF};
 ghost use Rattle.dubp_lines.specs.Lines.{split};
+ghost use Rattle.dubp_lines.specs.Readers.{optional};
 ghost use Rattle.dubp_lines.specs.Taking.{Gives, line_at, just, named, first_at, next_passes, begins_with, same_line};
 
 use crate::reading::ReadText;
@@ -126,6 +127,18 @@ impl<'a> Lines<'a> {
         };
         self.rest = rest;
         Ok(value)
+    }
+
+    /// Takes a line of this name and a value of this kind, where the next line has the name. Another line is left where it is.
+    pub fn take_optional<V: ReadText>(&mut self, name: &[u8]) -> Result<Option<V::Value>, Refused>
+        ensures exact { Gives (λ x. (x, self.new)) result (optional name.now V.reads self.old) }
+        ensures refused { OnErr result (self.new ≡ self.old) }
+    {
+        if !self.has_next(name) {
+            return Ok(None);
+        }
+        let value = self.take_value::<V>(name)?;
+        Ok(Some(value))
     }
 
     /// Takes a line that is a value of this kind.

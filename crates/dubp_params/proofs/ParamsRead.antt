@@ -2,13 +2,14 @@
 -- lemmas, found and again, and the parameters have them from their groups.
 use Rattle.std.proofs.Common.{◌≡◌, ℕ, List, ◌∷◌, ◌++◌, Option, Some, None, refl, sym, ap, subst, ◌∙◌, arith, decimal}
 use Rattle.std.specs.Prelude.{IfSome}
+use Rattle.dubp_atoms.specs.Letters.{COLON}
 use Rattle.dubp_atoms.specs.Reading.{◌>>=◌, Lacks, cut_at, number_of, dec_of}
 use Rattle.dubp_atoms.specs.Spelling.{IsNumber, IsDec, dec_text}
 use Rattle.dubp_atoms.specs.declared.dec.Dec.{Dec}
 use Rattle.dubp_atoms.proofs.Numbers.{bind_some, some_is, number_found, number_again}
-use Rattle.dubp_atoms.proofs.Fields.{cut_found, cut_again}
 use Rattle.dubp_atoms.proofs.Decs.{dec_found, dec_again}
 use Rattle.dubp_atoms.proofs.Stamps.{colon, number_lacks}
+use Rattle.dubp_params.proofs.Fields.{Step, step, field_again, behind}
 use Rattle.dubp_params.proofs.Lacking.{dec_lacks_by}
 use Rattle.dubp_params.specs.declared.params.Params.{Params}
 use Rattle.dubp_params.specs.declared.reading.FirstFive.{FirstFive}
@@ -20,47 +21,22 @@ use Rattle.dubp_params.specs.Reading.{field_at, first_at, second_at, third_at, l
 
 -- ---- a field
 
--- the value of a field, what stands behind it, and that reading goes on there
-record Step {A V : Type 0} (spell : A → List ℕ) (Is : A → Type 0) (text : List ℕ) (then : A × List ℕ → Option V) (v : V) : Type 0 where
-  value : A
-  rest : List ℕ
-  is : Is value
-  parts : text ≡ spell value ++ 58 ∷ rest
-  goes_on : then (value, rest) ≡ Some v
+number_step : {V : Type 0} (text : List ℕ) (next : ℕ × List ℕ → Option V) (v : V) → (field_at number_of text >>= next) ≡ Some v → Step decimal IsNumber text next v
+number_step text next v e = step number_of decimal IsNumber number_found text next v e
 
-step : {A V : Type 0} (read : List ℕ → Option A) (spell : A → List ℕ) (Is : A → Type 0) → ((text : List ℕ) (a : A) → read text ≡ Some a → Is a × (text ≡ spell a))
-    → (text : List ℕ) (then : A × List ℕ → Option V) (v : V) → (field_at read text >>= then) ≡ Some v → Step spell Is text then v
-step {A} read spell Is found text then v e =
-    let b = bind_some (field_at read text) then v e in
-    let p = bind_some (cut_at 58 text) (λ p. read p.0 >>= (λ a. Some (a, p.1))) b.0 b.1 in
-    let a = bind_some (read p.0.0) (λ a. Some (a, p.0.1)) b.0 p.2 in
-    let f = found p.0.0 a.0 a.1 in
-    let made : A × List ℕ = (a.0, p.0.1) in
-    record { value = a.0; rest = p.0.1; is = f.0; parts = cut_found 58 text p.0 p.1 ∙ ap (λ t. t ++ 58 ∷ p.0.1) f.1; goes_on = ap then (some_is made b.0 a.2) ∙ b.2 }
+dec_step : {V : Type 0} (text : List ℕ) (next : Dec × List ℕ → Option V) (v : V) → (field_at dec_of text >>= next) ≡ Some v → Step dec_text IsDec text next v
+dec_step text next v e = step dec_of dec_text IsDec dec_found text next v e
 
-number_step : {V : Type 0} (text : List ℕ) (then : ℕ × List ℕ → Option V) (v : V) → (field_at number_of text >>= then) ≡ Some v → Step decimal IsNumber text then v
-number_step text then v e = step number_of decimal IsNumber number_found text then v e
-
-dec_step : {V : Type 0} (text : List ℕ) (then : Dec × List ℕ → Option V) (v : V) → (field_at dec_of text >>= then) ≡ Some v → Step dec_text IsDec text then v
-dec_step text then v e = step dec_of dec_text IsDec dec_found text then v e
-
-field_again : {A : Type 0} (read : List ℕ → Option A) (front rest : List ℕ) (a : A) → Lacks 58 front → read front ≡ Some a → field_at read (front ++ 58 ∷ rest) ≡ Some (a, rest)
-field_again read front rest a lacks e = rw (cut_again 58 front rest lacks, e) refl
-
-number_field : (n : ℕ) (rest : List ℕ) → IsNumber n → field_at number_of (decimal n ++ 58 ∷ rest) ≡ Some (n, rest)
+number_field : (n : ℕ) (rest : List ℕ) → IsNumber n → field_at number_of (decimal n ++ COLON ∷ rest) ≡ Some (n, rest)
 number_field n rest is = field_again number_of (decimal n) rest n (number_lacks 58 colon n is) (number_again n is)
 
-dec_field : (d : Dec) (rest : List ℕ) → IsDec d → field_at dec_of (dec_text d ++ 58 ∷ rest) ≡ Some (d, rest)
+dec_field : (d : Dec) (rest : List ℕ) → IsDec d → field_at dec_of (dec_text d ++ COLON ∷ rest) ≡ Some (d, rest)
 dec_field d rest is = field_again dec_of (dec_text d) rest d (dec_lacks_by 58 colon (λ e. omega arith) d is) (dec_again d is)
-
--- behind a field stands what stands there
-behind : (text x rest rest' : List ℕ) → text ≡ x ++ 58 ∷ rest → rest ≡ rest' → text ≡ x ++ 58 ∷ rest'
-behind text x rest rest' e f = e ∙ ap (λ r. x ++ 58 ∷ r) f
 
 -- ---- the first five
 
 abbrev first_text : FirstFive → List ℕ → List ℕ
-first_text x rest = dec_text x.c ++ 58 ∷ (decimal x.dt ++ 58 ∷ (decimal x.ud0 ++ 58 ∷ (decimal x.sig_period ++ 58 ∷ (decimal x.sig_stock ++ 58 ∷ rest))))
+first_text x rest = dec_text x.c ++ COLON ∷ (decimal x.dt ++ COLON ∷ (decimal x.ud0 ++ COLON ∷ (decimal x.sig_period ++ COLON ∷ (decimal x.sig_stock ++ COLON ∷ rest))))
 
 abbrev IsFirstFive : FirstFive → Type 0
 IsFirstFive x = IsDec x.c × IsNumber x.dt × IsNumber x.ud0 × IsNumber x.sig_period × IsNumber x.sig_stock
@@ -85,7 +61,7 @@ first_again x rest is =
 -- ---- the second five
 
 abbrev second_text : SecondFive → List ℕ → List ℕ
-second_text x rest = decimal x.sig_window ++ 58 ∷ (decimal x.sig_validity ++ 58 ∷ (decimal x.sig_qty ++ 58 ∷ (decimal x.idty_window ++ 58 ∷ (decimal x.ms_window ++ 58 ∷ rest))))
+second_text x rest = decimal x.sig_window ++ COLON ∷ (decimal x.sig_validity ++ COLON ∷ (decimal x.sig_qty ++ COLON ∷ (decimal x.idty_window ++ COLON ∷ (decimal x.ms_window ++ COLON ∷ rest))))
 
 abbrev IsSecondFive : SecondFive → Type 0
 IsSecondFive x = IsNumber x.sig_window × IsNumber x.sig_validity × IsNumber x.sig_qty × IsNumber x.idty_window × IsNumber x.ms_window
@@ -110,7 +86,7 @@ second_again x rest is =
 -- ---- the third five
 
 abbrev third_text : ThirdFive → List ℕ → List ℕ
-third_text x rest = dec_text x.xpercent ++ 58 ∷ (decimal x.ms_validity ++ 58 ∷ (decimal x.step_max ++ 58 ∷ (decimal x.median_time_blocks ++ 58 ∷ (decimal x.avg_gen_time ++ 58 ∷ rest))))
+third_text x rest = dec_text x.xpercent ++ COLON ∷ (decimal x.ms_validity ++ COLON ∷ (decimal x.step_max ++ COLON ∷ (decimal x.median_time_blocks ++ COLON ∷ (decimal x.avg_gen_time ++ COLON ∷ rest))))
 
 abbrev IsThirdFive : ThirdFive → Type 0
 IsThirdFive x = IsDec x.xpercent × IsNumber x.ms_validity × IsNumber x.step_max × IsNumber x.median_time_blocks × IsNumber x.avg_gen_time
@@ -135,7 +111,7 @@ third_again x rest is =
 -- ---- the last five
 
 abbrev last_text : LastFive → List ℕ
-last_text x = decimal x.dt_diff_eval ++ 58 ∷ (dec_text x.percent_rot ++ 58 ∷ (decimal x.ud_time0 ++ 58 ∷ (decimal x.ud_reeval_time0 ++ 58 ∷ (decimal x.dt_reeval))))
+last_text x = decimal x.dt_diff_eval ++ COLON ∷ (dec_text x.percent_rot ++ COLON ∷ (decimal x.ud_time0 ++ COLON ∷ (decimal x.ud_reeval_time0 ++ COLON ∷ (decimal x.dt_reeval))))
 
 abbrev IsLastFive : LastFive → Type 0
 IsLastFive x = IsNumber x.dt_diff_eval × IsDec x.percent_rot × IsNumber x.ud_time0 × IsNumber x.ud_reeval_time0 × IsNumber x.dt_reeval
