@@ -8,7 +8,7 @@ use Rattle.dubp_validity.specs.Rules.{longest_block}
 use Rattle.dubp_replay.specs.Answers.{bad_answer, refused_answer}
 use Rattle.dubp_replay.specs.declared.command.Command.{Command}
 use Rattle.dubp_replay.specs.declared.command.Command.TheVariants as command
-use Rattle.dubp_replay.specs.BuiltTurns.{BuiltTurn, IsServed, frame_of}
+use Rattle.dubp_replay.specs.BuiltTurns.{BuiltBlockTurn, BuiltTurn, IsServed, frame_of}
 use Rattle.dubp_replay.specs.Turns.{State}
 use Rattle.dubp_node.specs.Entries.{Entry, Line, Frame, IsWhole, IsBad, HeadsFrame}
 use Rattle.dubp_node.specs.Turns.{EntryTurn, IsHanded, Acts}
@@ -46,12 +46,15 @@ frame_turn old new head frame answer last c ends f acts = record {
 }
 
 -- a frame that is too long is refused
-long_served : (old : State) (c : Command) (frame answer : List ℕ) → frame_of c ≡ Some (length frame) → longest_block < length frame → answer ≡ refused_answer (codes "X01") → BuiltTurn old c frame answer old
-long_served old (command.Block len) frame answer e long is = record {
+pub long_block_turn : (old : State) (bytes answer : List ℕ) → longest_block < length bytes → answer ≡ refused_answer (codes "X01") → BuiltBlockTurn old bytes answer old
+long_block_turn old bytes answer long is = record {
   broken = Some X01;
   first = record { before = []; after = P01 ∷ L01 ∷ G51 ∷ []; stands = refl; passed = tt; fails = λ short. omega (arith, long, short) };
   decides = (is, refl);
 }
+
+long_served : (old : State) (c : Command) (frame answer : List ℕ) → frame_of c ≡ Some (length frame) → longest_block < length frame → answer ≡ refused_answer (codes "X01") → BuiltTurn old c frame answer old
+long_served old (command.Block len) frame answer e long is = long_block_turn old frame answer long is
 long_served old (command.Verdict key hash sig) frame answer e long is = absurd cc
 long_served old (command.Revert count) frame answer e long is = absurd cc
 long_served old (command.Offer len) frame answer e long is = absurd cc

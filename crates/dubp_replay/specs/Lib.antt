@@ -1,5 +1,4 @@
 pub mod Answers
-pub mod RefusedLines
 pub mod Turns
 pub mod BuiltRules
 pub mod BuiltTurns

@@ -17,7 +17,7 @@ use Rattle.dubp_replay.specs.declared.query.Query.TheVariants as query
 use Rattle.dubp_chain.specs.Chains.{Chain}
 use Rattle.dubp_verdict.specs.Verdicts.{Verdicts, with_verdict}
 use Rattle.dubp_validity.specs.Rules.{FirstBroken, FirstBrokenRaw, HoldsRaw, IsTextOf, longest_block}
-use Rattle.dubp_replay.specs.RefusedLines.{IsRefusedLine}
+use Rattle.dubp_block.specs.RefusedLine.{IsRefusedLine}
 use Rattle.dubp_replay.specs.Answers.{noted_answer, accepted_answer, refused_answer, unread_answer, reverted_answer, too_deep_answer, stored_answer, known_answer, full_answer, switched_answer, unknown_answer, detached_answer, branch_refused_answer, forgotten_answer, bad_answer, no_memory_answer, IsAnswered}
 
 -- what all answers depend on: the verdicts, the chain of accepted and unreversed blocks, how many of them can be reversed, and

@@ -1,4 +1,4 @@
-use Rattle.std.proofs.Common.{inl, sym, ◌∙◌, arith, ◌+◌, take, drop, refl, ◌≡◌}
+use Rattle.std.proofs.Common.{sym, ◌∙◌, arith, ◌+◌, take, drop, refl}
 use Rattle.dubp_node.specs.Entries.{Line}
 use Rattle.dubp_node.proofs.Cuts.{text_begins_none, line_shape}
 use Rattle.dubp_node.proofs.Wholes.{whole_line, bad_no_len, heads_none_no_len}

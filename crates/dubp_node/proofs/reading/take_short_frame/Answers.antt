@@ -1,7 +1,6 @@
-use Rattle.std.proofs.Common.{◌≡◌, ◌+◌, ◌<◌, ◌≤◌, ◌-◌, ◌∷◌, ◌++◌, ap, sym, subst, ◌∙◌, arith, rules, length, take, drop, get_or, length-drop, length-take-le, Some, ℕ}
+use Rattle.std.proofs.Common.{◌≡◌, ◌+◌, ◌<◌, ◌≤◌, ◌-◌, ◌∷◌, ◌++◌, ap, sym, subst, ◌∙◌, arith, rules, length, take, drop, get_or, length-drop, length-take-le, Some}
 use Rattle.std.proofs.lemmas.List.{take_all}
 use Rattle.dubp_node.specs.Entries.{Frame, HeadsFrame}
-use Rattle.dubp_node.specs.Reading.{IsCommandLine}
 use Rattle.dubp_node.proofs.Wholes.{heads_len}
 use Rattle.dubp_node.proofs.Taking.{frame_waits, frame_bytes, line_heads, line_short}
 use Rattle.dubp_node.proofs.reading.take_short_frame.Goals as goal

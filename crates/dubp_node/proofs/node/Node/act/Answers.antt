@@ -1,0 +1,9 @@
+use Rattle.std.proofs.Common.{sym, subst}
+use Rattle.dubp_replay.specs.declared.command.Command.{Command}
+use Rattle.dubp_query.specs.AnswerBytes.{answer_bytes}
+use Rattle.dubp_node.specs.Turns.{Acts}
+use Rattle.dubp_node.proofs.node.Node.act.Goals as goal
+
+pub returns-in-Block : goal.returns-in-Block
+returns-in-Block g c =
+    subst (λ (k : Command). Acts c.args.self.now k c.args.frame.now (answer_bytes c.act_block.result) c.act_block.new.self) (sym c.in-Block.is) c.act_block.ensures
