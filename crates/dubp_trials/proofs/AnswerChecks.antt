@@ -4,13 +4,14 @@ use Rattle.std.specs.Fmt.{decimal, digits}
 use Rattle.std.proofs.Common.{refl, sym, subst, arith}
 use Rattle.dubp_atoms.specs.Same.{Text}
 use Rattle.dubp_lines.specs.Lines.{unlines}
-use Rattle.dubp_pow.specs.Ladder.{rung}
+use Rattle.dubp_pow.specs.Ladder.{table_row}
 use Rattle.dubp_pow.specs.Difficulty.{greatest_reached}
+use Rattle.dubp_block.specs.declared.block.Block.{Block}
 use Rattle.dubp_replay.specs.declared.query.Query.{Query}
 use Rattle.dubp_replay.specs.declared.query.Query.TheVariants as query
 use Rattle.dubp_chain.specs.Chains.{Chain}
 use Rattle.dubp_replay.specs.Answers.{IsAnswered, values_line}
-use Rattle.dubp_trials.specs.Samples.{key0, key1, key2, one_block, three_blocks, spent_chain}
+use Rattle.dubp_trials.specs.Samples.{key0, key1, key2, member_line, paying_params, block1, one_block, revoking_chain, aged, three_blocks, spent_chain}
 use Rattle.dubp_trials.proofs.Checks.{reached_by_two, condition_of, left_after_clearing}
 use Rattle.dubp_trials.proofs.MoreSamples.{key9}
 
@@ -40,6 +41,30 @@ name_said = refl
 
 unknown_name : Says one_block (query.Uid (codes "user9")) none
 unknown_name = refl
+
+-- the four states: key0 leaves, key2 is excluded or revoked, and at 5000 all are revoked by time
+abbrev leaving_block : Block
+leaving_block = record block1 { leavers = member_line key0 (codes "user0") ∷ [] }
+
+leaving_said : Says (leaving_block ∷ one_block) (query.Identity key0) (keyed (codes "IDENTITY ") key0 (codes " user0 0 LEAVING 3000 2 2") ∷ [])
+unfolding digits
+leaving_said = refl
+
+out_said : Says (record leaving_block { excluded = key0 ∷ [] } ∷ one_block) (query.Identity key0) (keyed (codes "IDENTITY ") key0 (codes " user0 0 OUT 3000 2 2") ∷ [])
+unfolding digits
+out_said = refl
+
+revoked_said : Says revoking_chain (query.Identity key2) (keyed (codes "IDENTITY ") key2 (codes " user2 0 REVOKED 3000 2 2") ∷ [])
+unfolding digits
+revoked_said = refl
+
+member_until_revoked : Says (aged paying_params 8998) (query.Identity key0) (keyed (codes "IDENTITY ") key0 (codes " user0 0 MEMBER 3000 2 2") ∷ [])
+unfolding digits
+member_until_revoked = refl
+
+revoked_by_time_said : Says (aged paying_params 9000) (query.Identity key0) (keyed (codes "IDENTITY ") key0 (codes " user0 0 REVOKED 3000 2 2") ∷ [])
+unfolding digits
+revoked_by_time_said = refl
 
 -- what was received stands before what was issued
 certs_said : Says one_block (query.Certs key0) (
@@ -75,11 +100,11 @@ unknown_distance = refl
 -- ---- blocks
 
 difficulty_of_issuer : Says one_block (query.Diff key0) (codes "DIFF 4" ∷ [])
-unfolding greatest_reached rung digits
+unfolding greatest_reached table_row digits
 difficulty_of_issuer = refl
 
 difficulty_of_member : Says one_block (query.Diff key1) (codes "DIFF 0" ∷ [])
-unfolding greatest_reached rung digits
+unfolding greatest_reached table_row digits
 difficulty_of_member = refl
 
 difficulty_of_stranger : Says one_block (query.Diff key9) none

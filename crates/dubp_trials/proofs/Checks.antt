@@ -8,20 +8,22 @@ use Rattle.std.proofs.lemmas.Map.Views.{list_any-from_Contains, Contains-from_an
 use Rattle.std.specs.Cmp.Lexicographic.{same_text as one_text}
 use Rattle.dubp_atoms.specs.Same.{Text, same_text}
 use Rattle.dubp_atoms.specs.Walks.{Reaches, IsWalk, d_sen_of}
-use Rattle.dubp_pow.specs.Ladder.{rung}
+use Rattle.dubp_pow.specs.Ladder.{table_row}
 use Rattle.dubp_pow.specs.Difficulty.{greatest_reached}
 use Rattle.dubp_cond.specs.declared.source.Input.{Input}
 use Rattle.dubp_docs.specs.Spelling.{tx_hash}
+use Rattle.dubp_block.specs.Text.{block_hash_of, stamp_of}
+use Rattle.dubp_block.specs.declared.block.MemberLine.{MemberLine}
 use Rattle.dubp_chain.specs.declared.head.Head.{Head}
 use Rattle.dubp_chain.specs.Words.{names}
 use Rattle.dubp_chain.specs.Chains.{Chain}
 use Rattle.dubp_chain.specs.Members.{members}
 use Rattle.dubp_chain.specs.Heads.{head_of, difficulty, issued, time_of}
-use Rattle.dubp_chain.specs.People.{expiry, revoked, expired}
-use Rattle.dubp_chain.specs.Live.{live, received, stock, certification, end_of, live_pairs, kick}
+use Rattle.dubp_chain.specs.People.{expiry, revocation, leaving, revoked, expired}
+use Rattle.dubp_chain.specs.Live.{live, received, stock, certification, wrote, end_of, live_pairs, kick}
 use Rattle.dubp_chain.specs.Distance.{sentries, sentry_count, IsReached, Passes}
 use Rattle.dubp_chain.specs.Money.{Source, unspent_units, cleared_units, balance, sources_of}
-use Rattle.dubp_trials.specs.Samples.{key0, key1, key2, key3, paying_params, short_params, block0, one_block, two_blocks, three_blocks, spending, spent_chain, aged, revoking_chain, quiet_chain, dividend_input}
+use Rattle.dubp_trials.specs.Samples.{key0, key1, key2, key3, member_line, certifies, empty_block, paying_params, short_params, block0, block2, one_block, two_blocks, three_blocks, spending, spent_chain, aged, revoking_chain, quiet_chain, dividend_input}
 
 -- ---- heads
 
@@ -69,11 +71,11 @@ end_of_pair = refl
 
 -- the issuer of the only block has a handicap, another member has none
 difficulty_of_issuer : difficulty one_block key0 ≡ Some 4
-unfolding greatest_reached rung
+unfolding greatest_reached table_row
 difficulty_of_issuer = refl
 
 difficulty_of_member : difficulty one_block key1 ≡ Some 0
-unfolding greatest_reached rung
+unfolding greatest_reached table_row
 difficulty_of_member = refl
 
 -- ---- time goes by
@@ -106,6 +108,36 @@ revoked_at_once = (refl, refl)
 -- where one block has a key in Joiners and in Excluded, the later section wins
 joined_and_excluded : members (record block0 { excluded = key2 ∷ [] } ∷ []) ≡ key0 ∷ key1 ∷ []
 joined_and_excluded = refl
+
+-- a certification of block 1 is the last of its pair, and was made on block 1
+abbrev renewing_chain : Chain
+renewing_chain = record block2 { certifications = certifies key0 key1 1 ∷ [] } ∷ two_blocks
+
+last_of_pair : (option_map (end_of renewing_chain) (certification renewing_chain key0 key1) ≡ Some 6000) × (wrote renewing_chain key0 ≡ Some 2) × (wrote renewing_chain key1 ≡ Some 0)
+last_of_pair = (refl, refl, refl)
+
+-- who stays by a document made on block 2, at 1150, is a member for 2000 seconds more; who leaves by one gains nothing
+abbrev made_on_block2 : MemberLine
+made_on_block2 = record (member_line key0 (codes "user0")) { stamp = stamp_of block2 }
+
+abbrev staying_chain : Chain
+staying_chain = record (empty_block 3 key0 1200 1150) { actives = made_on_block2 ∷ [] } ∷ three_blocks
+
+stays_longer : expiry staying_chain key0 ≡ Some 3150
+stays_longer = rw (nat_list_eq_equiv.refl (block_hash_of block2))
+
+stays_unrevoked : revocation staying_chain key0 ≡ Some 5150
+stays_unrevoked = rw (nat_list_eq_equiv.refl (block_hash_of block2))
+
+abbrev left_chain : Chain
+left_chain = record (empty_block 3 key0 1200 1150) { leavers = made_on_block2 ∷ [] } ∷ three_blocks
+
+leaves_no_later : (expiry left_chain key0 ≡ Some 3000) × (leaving left_chain key0 ≡ true) × (leaving left_chain key1 ≡ false) × (leaving staying_chain key0 ≡ false)
+leaves_no_later = (refl, refl, refl, refl)
+
+-- who leaves is a member still
+leaver_is_member : members left_chain ≡ key0 ∷ key1 ∷ key2 ∷ []
+leaver_is_member = refl
 
 -- ---- distance
 
@@ -171,6 +203,13 @@ dividend_of_one = refl
 
 source_of_one : map input_of (sources_of three_blocks (condition_of key0)) ≡ dividend_input ∷ []
 source_of_one = refl
+
+-- key3 joins and key1 is excluded in the block that pays
+abbrev changing_chain : Chain
+changing_chain = record block2 { joiners = member_line key3 (codes "user3") ∷ []; excluded = key1 ∷ [] } ∷ two_blocks
+
+pays_new_members : map (λ key. balance changing_chain (condition_of key)) (key0 ∷ key1 ∷ key2 ∷ key3 ∷ []) ≡ 1000 ∷ 0 ∷ 1000 ∷ 1000 ∷ []
+pays_new_members = refl
 
 -- an account of 100 units stays, one of 99 is cleared
 kept_account : (issued (spent_chain 100 900) ≡ 3000) × (unspent_units (spent_chain 100 900) ≡ 3000) × (cleared_units (spent_chain 100 900) ≡ 0)

@@ -1,7 +1,16 @@
 pub mod AnswerChecks
+pub mod Apart
+pub mod CertificationTrials
 pub mod Checks
+pub mod FirstBrokenTrials
+pub mod HeadTrials
+pub mod LocalTrials
+pub mod MoneyTrials
 pub mod MoreSamples
+pub mod PeopleTrials
 pub mod RecordChecks
-pub mod RuleChecks
+pub mod RisingChecks
+pub mod SwitchTrials
 pub mod TableChecks
+pub mod TransactionTrials
 pub mod TurnChecks

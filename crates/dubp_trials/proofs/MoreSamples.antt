@@ -1,6 +1,6 @@
 -- More small chains on which the definitions are tried: time goes by in a currency that pays no dividend, a dividend is some time
 -- old, and a transaction spends what another makes. Protocol: chains.
-use Rattle.std.specs.Prelude.{ℕ, [], ◌∷◌, codes}
+use Rattle.std.specs.Prelude.{ℕ, List, [], ◌∷◌, codes}
 use Rattle.dubp_atoms.specs.Same.{Text}
 use Rattle.dubp_params.specs.declared.params.Params.{Params}
 use Rattle.dubp_cond.specs.declared.source.SourceId.TheVariants.{T}
@@ -20,6 +20,10 @@ key9 = key_ending (codes "11A")
 -- certifications last 200 seconds
 abbrev pub short_quiet_params : Params
 short_quiet_params = record quiet_params { sig_validity = 200 }
+
+-- identities, memberships and certifications may wait 600, 700 and 800 seconds
+abbrev pub windows : Params
+windows = record quiet_params { idty_window = 600; ms_window = 700; sig_window = 800 }
 
 -- two blocks: with a third the time is the mean of 1000 and the Time of the second
 abbrev pub waiting : Params → ℕ → Chain
@@ -51,3 +55,10 @@ kept_input = record { amount = 901; base = 0; source = T (tx_hash (codes "test_c
 
 abbrev pub passing_on : Tx
 passing_on = record (spending 99 901) { inputs = kept_input ∷ []; outputs = output_to key1 901 ∷ [] }
+
+-- block 3 with these transactions
+abbrev pub moving_all : List Tx → Block
+moving_all txs = record (empty_block 3 key0 1200 1150) { transactions = txs }
+
+abbrev pub moving : Tx → Block
+moving tx = moving_all (tx ∷ [])

@@ -1,19 +1,25 @@
 -- Which records blocks write to the indexes on small chains.
-use Rattle.std.specs.Prelude.{◌≡◌, ℕ, [], ◌∷◌, ◌++◌, codes}
+use Rattle.std.specs.Prelude.{◌≡◌, ℕ, None, [], ◌∷◌, ◌++◌, codes}
 use Rattle.std.specs.Fmt.{digits}
 use Rattle.std.proofs.Common.{refl}
 use Rattle.dubp_atoms.specs.Same.{Text, empty_stamp}
 use Rattle.dubp_cond.specs.declared.source.SourceId.TheVariants.{D, T}
 use Rattle.dubp_cond.specs.declared.source.Input.{Input}
 use Rattle.dubp_docs.specs.Spelling.{tx_hash}
+use Rattle.dubp_block.specs.declared.block.Block.{Block}
+use Rattle.dubp_block.specs.declared.block.MemberLine.{MemberLine}
 use Rattle.dubp_validity.specs.declared.record.Record.{Record}
-use Rattle.dubp_validity.specs.declared.record.Record.TheVariants.{Create, Enter, Exit, Join, Revoke, Expire, ExpireRev, Cert, CertExpire, Spend, Make, Dividend, Clear}
+use Rattle.dubp_validity.specs.declared.record.Record.TheVariants.{Create, Enter, Exit, Join, Active, Leave, Revoke, Expire, ExpireRev, Cert, CertExpire, Spend, Make, Dividend, Clear}
 use Rattle.dubp_validity.specs.Records.{records, record_text}
-use Rattle.dubp_trials.specs.Samples.{key0, key1, key2, key3, block0, block1, block2, one_block, two_blocks, three_blocks, dividend_input, spending, spending_block, quiet_params}
+use Rattle.dubp_trials.specs.Samples.{key0, key1, key2, key3, member_line, certifies, first_of_members, block0, block1, block2, one_block, two_blocks, three_blocks, dividend_input, spending, spending_block, quiet_params}
 use Rattle.dubp_trials.proofs.Checks.{condition_of, spending_hash}
 use Rattle.dubp_trials.proofs.MoreSamples.{short_quiet_params, waiting, third_block, expired_chain, fourth_block, revoking}
 
 -- ---- lines
+
+-- the dividend that the third block gives to a key
+abbrev dividend_to : Text → Input
+dividend_to key = record { amount = 1000; base = 0; source = D key 2 }
 
 -- three names, three members and six certifications, by section and line
 first_block_writes : records [] block0 ≡ (
@@ -44,6 +50,26 @@ excluded_goes = refl
 
 revoked_ends : records one_block (revoking block1) ≡ Revoke key2 ∷ []
 revoked_ends = refl
+
+-- who stays and who leaves, by documents of the first block
+abbrev moving_block : Block
+moving_block =
+    record (first_of_members quiet_params) {
+      identities = [];
+      joiners = [];
+      certifications = [];
+      actives = member_line key0 (codes "user0") ∷ [];
+      leavers = member_line key1 (codes "user1") ∷ [];
+    }
+
+stays_and_leaves : records [] moving_block ≡ Active key0 1000 ∷ Leave key1 1000 ∷ []
+stays_and_leaves = refl
+
+-- a certification made on the first block, at 1000, behind the lines of members
+certifies_again : records two_blocks (record block2 { certifications = certifies key0 key1 0 ∷ []; dividend = None }) ≡ (
+    Cert key0 key1 1000 ∷ Dividend (dividend_to key0) ∷ Dividend (dividend_to key1) ∷ Dividend (dividend_to key2) ∷ []
+    )
+certifies_again = refl
 
 -- ---- time goes by
 
@@ -86,12 +112,23 @@ at_ends = refl
 
 -- ---- money
 
--- the dividend that the third block gives to a key
-abbrev dividend_to : Text → Input
-dividend_to key = record { amount = 1000; base = 0; source = D key 2 }
-
 third_block_pays : records two_blocks block2 ≡ Dividend (dividend_to key0) ∷ Dividend (dividend_to key1) ∷ Dividend (dividend_to key2) ∷ []
 third_block_pays = refl
+
+-- who joins in the block is paid with the others, and who is excluded in it is not; the joiner's stamp has no time
+abbrev joiner : MemberLine
+joiner = record (member_line key3 (codes "user3")) { stamp = record { number = 7; hash = codes "AB" } }
+
+pays_the_joiner : records two_blocks (record block2 { joiners = joiner ∷ []; excluded = key1 ∷ [] }) ≡ (
+    Enter key3
+    ∷ Join key3 0
+    ∷ Exit key1
+    ∷ Dividend (dividend_to key0)
+    ∷ Dividend (dividend_to key2)
+    ∷ Dividend (dividend_to key3)
+    ∷ []
+    )
+pays_the_joiner = refl
 
 text_of_dividend : record_text (Dividend (dividend_to key0)) ≡ codes "SIDX DIVIDEND 1000:0:D:" ++ (key0 ++ codes ":2")
 unfolding digits

@@ -1,10 +1,11 @@
 -- What stands in the tables of small chains.
-use Rattle.std.specs.Prelude.{◌≡◌, [], codes, Some, None, true, false}
+use Rattle.std.specs.Prelude.{◌≡◌, [], ◌∷◌, codes, Some, None, true, false}
 use Rattle.std.proofs.Common.{refl}
 use Rattle.dubp_atoms.specs.Same.{empty_stamp}
 use Rattle.dubp_cond.specs.declared.source.SourceId.TheVariants.{D}
+use Rattle.dubp_chain.specs.Chains.{Chain}
 use Rattle.dubp_chain.specs.Tables.{IdentityRow, identity_row, MembershipRow, membership_row, CertificationRow, certification_row, SourceRow, source_row, Membership, Revocation, Certification, is_queued, Totals, totals}
-use Rattle.dubp_trials.specs.Samples.{key0, key1, unread, one_block, three_blocks}
+use Rattle.dubp_trials.specs.Samples.{key0, key1, key2, unread, member_line, block1, one_block, revoking_chain, three_blocks}
 use Rattle.dubp_trials.proofs.Checks.{condition_of}
 use Rattle.dubp_trials.proofs.MoreSamples.{key9}
 
@@ -31,6 +32,23 @@ has_certification = refl
 -- of a key that no block names nothing stands there
 has_no_rows : (identity_row one_block key9 ≡ None) × (membership_row one_block key9 ≡ None) × (certification_row one_block key0 key9 ≡ None)
 has_no_rows = (refl, refl, refl)
+
+-- who leaves keeps the time at which its membership was made; the identity of key2 is revoked by a line, and it is a member still
+abbrev leaving_chain : Chain
+leaving_chain = record block1 { leavers = record (member_line key0 (codes "user0")) { stamp = record { number = 7; hash = unread } } ∷ [] } ∷ one_block
+
+abbrev left_membership : MembershipRow
+left_membership = record { last_number = 7; made = 1000; written = 1; is_leaving = true; is_revoked = false }
+
+has_left : membership_row leaving_chain key0 ≡ Some left_membership
+has_left = refl
+
+has_been_revoked : (membership_row revoking_chain key2 ≡ Some (record first_membership { is_revoked = true })) × (identity_row revoking_chain key2 ≡ Some (record first_identity { uid = codes "user2" }))
+has_been_revoked = (refl, refl)
+
+-- an excluded key is a member no more
+has_been_excluded : identity_row (record block1 { excluded = key0 ∷ [] } ∷ one_block) key0 ≡ Some (record first_identity { is_member = false })
+has_been_excluded = refl
 
 -- ---- the queue
 
