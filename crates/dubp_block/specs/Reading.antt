@@ -171,16 +171,3 @@ if_last (Err left) = Err left
 -- all of a text
 unfoldable pub block_of : Place → Result Block ℕ
 block_of p = if_last (block_at p)
-
--- the headings of empty sections
-abbrev pub headings : List (List ℕ)
-headings =
-    codes "Identities:"
-    ∷ codes "Joiners:"
-    ∷ codes "Actives:"
-    ∷ codes "Leavers:"
-    ∷ codes "Revoked:"
-    ∷ codes "Excluded:"
-    ∷ codes "Certifications:"
-    ∷ codes "Transactions:"
-    ∷ []

@@ -149,37 +149,3 @@ pub record IsBlock (b : Block) : Type 0 where
   pub inner_hash : is_hash b.inner_hash ≡ true
   pub nonce : IsNumber b.nonce
   pub sig : is_sig b.sig ≡ true
-
--- there are parameters, and they have a text
-abbrev pub HasParams : Option Params → Type 0
-HasParams None = ⊥
-HasParams (Some params) = IsParams params
-
--- the blocks of the one form that is read and written so far: number 0, no dividend, and empty sections
-pub record IsBuilt (b : Block) : Type 0 where
-  pub version : IsVersion b.version
-  pub currency : is_currency b.currency ≡ true
-  pub number : b.number ≡ 0
-  pub pow_min : IsNumber b.pow_min
-  pub time : IsNumber b.time
-  pub median_time : IsNumber b.median_time
-  pub dividend : b.dividend ≡ None
-  pub unit_base : b.unit_base ≤ 15
-  pub issuer : is_key b.issuer ≡ true
-  pub frame : IsNumber b.frame
-  pub frame_var : IsSigned b.frame_var
-  pub issuers : IsNumber b.issuers
-  pub previous : b.previous ≡ None
-  pub params : HasParams b.params
-  pub members : IsNumber b.members
-  pub identities : b.identities ≡ []
-  pub joiners : b.joiners ≡ []
-  pub actives : b.actives ≡ []
-  pub leavers : b.leavers ≡ []
-  pub revoked : b.revoked ≡ []
-  pub excluded : b.excluded ≡ []
-  pub certifications : b.certifications ≡ []
-  pub transactions : b.transactions ≡ []
-  pub inner_hash : is_hash b.inner_hash ≡ true
-  pub nonce : IsNumber b.nonce
-  pub sig : is_sig b.sig ≡ true

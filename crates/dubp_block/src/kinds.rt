@@ -13,7 +13,7 @@ const MAX_BASE: u64 = 15;
 /// The most lines of a list of a transaction.
 const MAX_ROWS: u64 = 100;
 
-// The version of a block: 10 or 11.
+/// The version of a block: 10 or 11.
 pub struct Version;
 
 impl ReadText for Version {
@@ -32,7 +32,7 @@ impl ReadText for Version {
     }
 }
 
-// The power of ten of a unit: at most 15.
+/// The power of ten of a unit: at most 15.
 pub struct Base;
 
 impl ReadText for Base {
@@ -47,7 +47,7 @@ impl ReadText for Base {
     }
 }
 
-// The parameters of a currency.
+/// The parameters of a currency.
 pub struct Parameters;
 
 impl ReadText for Parameters {
@@ -60,7 +60,7 @@ impl ReadText for Parameters {
     }
 }
 
-// A stamp that is the whole line.
+/// A stamp that is the whole line.
 pub struct StampLine;
 
 impl ReadText for StampLine {

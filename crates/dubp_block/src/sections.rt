@@ -10,7 +10,7 @@ use dubp_cond::Tx;
 use dubp_lines::{LineRefusal, Lines};
 use std::alloc::Global;
 
-// The first four sections.
+/// The first four sections.
 #[derive(Drop)]
 pub struct FirstSections {
     pub identities: Items<IdentityLine>,
@@ -39,7 +39,7 @@ pub fn take_first_sections(
     })
 }
 
-// The last four sections.
+/// The last four sections.
 #[derive(Drop)]
 pub struct LastSections {
     pub revoked: Items<RevokedLine>,

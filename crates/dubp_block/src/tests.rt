@@ -209,8 +209,14 @@ fn filled(alloc: Global) -> Result<Block, Fail>
     let joiners = repeated(alloc, member, 2)?;
     let excluded = repeated(alloc, key, 3)?;
     let mut block = read_block(alloc, FIRST_BLOCK)?;
+    block.identities = Items::new(alloc);
     block.joiners = joiners;
+    block.actives = Items::new(alloc);
+    block.leavers = Items::new(alloc);
+    block.revoked = Items::new(alloc);
     block.excluded = excluded;
+    block.certifications = Items::new(alloc);
+    block.transactions = Items::new(alloc);
     Ok(block)
 }
 

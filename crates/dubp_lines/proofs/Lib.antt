@@ -1,6 +1,5 @@
 pub mod Split
 pub mod Taken
-pub mod Written
 pub mod Readers
 pub mod Rows
 pub mod Entries

@@ -1,9 +1,9 @@
 -- A field before a `:`, and what is read behind it.
 use Rattle.std.proofs.Common.{◌≡◌, ℕ, List, ◌∷◌, ◌++◌, Option, Some, refl, ap, ◌∙◌}
 use Rattle.dubp_atoms.specs.Letters.{COLON}
-use Rattle.dubp_atoms.specs.Reading.{◌>>=◌, Lacks, cut_at, text_if}
+use Rattle.dubp_atoms.specs.Reading.{◌>>=◌, Lacks, cut_at}
 use Rattle.dubp_atoms.proofs.Numbers.{bind_some, some_is}
-use Rattle.dubp_atoms.proofs.Fields.{cut_found, cut_again, text_found, text_again}
+use Rattle.dubp_atoms.proofs.Fields.{cut_found, cut_again}
 use Rattle.dubp_params.specs.Reading.{field_at}
 
 -- the value of a field, what stands behind it, and that reading goes on there

@@ -3,7 +3,7 @@
 use Rattle.std.proofs.Common.{◌≡◌, ℕ, List, ◌∷◌, ◌++◌, Option, Some, None, refl, sym, ap, subst, ◌∙◌, arith, decimal}
 use Rattle.std.specs.Prelude.{IfSome}
 use Rattle.dubp_atoms.specs.Letters.{COLON}
-use Rattle.dubp_atoms.specs.Reading.{◌>>=◌, Lacks, cut_at, number_of, dec_of}
+use Rattle.dubp_atoms.specs.Reading.{◌>>=◌, number_of, dec_of}
 use Rattle.dubp_atoms.specs.Spelling.{IsNumber, IsDec, dec_text}
 use Rattle.dubp_atoms.specs.declared.dec.Dec.{Dec}
 use Rattle.dubp_atoms.proofs.Numbers.{bind_some, some_is, number_found, number_again}
