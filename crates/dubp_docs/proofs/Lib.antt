@@ -1,1 +1,9 @@
 pub mod Added
+pub mod Values
+pub mod Passing
+pub mod OneLine
+pub mod ManyLines
+pub mod ShortDocs
+pub mod WholeTx
+pub mod LineEnds
+pub mod Documents

@@ -1,2 +1,4 @@
 pub mod Spelling
 pub mod AddsLines
+pub mod Reading
+pub mod Passing
