@@ -1,14 +1,14 @@
 -- What a reader keeps, from one place to the next. `Reads` says of a reader which values it reads and how each is spelled: what it
 -- reads is the spelling, and the spelling is read; where it refuses a line, the lines before begin the spelling of some value, and
 -- it looks at no line behind the refused one. One reader behind another keeps all of it (`behind_reads`, `then_reads`).
-use Rattle.std.proofs.Common.{◌≡◌, ◌⊎◌, inl, inr, ℕ, suc, Bool, true, false, cond, List, [], ◌∷◌, ◌++◌, length, Option, Some, None, Result, Ok, Err, refl, sym, ap, subst, ◌∙◌, append_assoc}
+use Rattle.std.proofs.Common.{◌≡◌, ◌⊎◌, inl, inr, ℕ, suc, Bool, true, false, cond, List, [], ◌∷◌, ◌++◌, length, Option, Some, None, Result, Ok, Err, refl, sym, ap, subst, ◌∙◌, append_assoc, append-nil, arith}
 use Rattle.std.specs.Prelude.{nat_lt, ◌||◌}
 use Rattle.std.specs.List.{AllByRecursion, list_all}
 use Rattle.dubp_atoms.specs.Reading.{Lacks}
 use Rattle.dubp_atoms.proofs.Fields.{Lacks-append}
 use Rattle.dubp_lines.specs.Lines.{Place}
-use Rattle.dubp_lines.specs.Taking.{line_at, named, just, taken_or, line_of, same_line}
-use Rattle.dubp_lines.specs.Readers.{Reader, go_on, and_then, gives}
+use Rattle.dubp_lines.specs.Taking.{line_at, named, just, taken_or, line_of, begins_with, next_passes, value_of, same_line}
+use Rattle.dubp_lines.specs.Readers.{Reader, go_on, and_then, gives, optional}
 use Rattle.dubp_lines.proofs.Taken.{ok_is, named_found, named_again, just_found, just_again, codes_lack}
 
 abbrev pub Rows : Type 0
@@ -125,9 +125,9 @@ module _ {A B : Type 0} (r : Reader A) (f : A → Reader B) (s : A → Rows) (G 
 
   behind_refused : (p : Place) (n : ℕ) → and_then r f p ≡ Err n → Refusal (and_then r f) spell Good p.0 n
   behind_refused p n e = elim (stopped r f p n e) [
-    | inl h ↦ at_first (first.refused p n h)
-    | inr w ↦ at_next w (first.found p w.value w.place w.first)
-  ]
+      | inl h ↦ at_first (first.refused p n h)
+      | inr w ↦ at_next w (first.found p w.value w.place w.first)
+    ]
     where
       at_first : Refusal r s G p.0 n → Refusal (and_then r f) spell Good p.0 n
       at_first x =
@@ -143,7 +143,6 @@ module _ {A B : Type 0} (r : Reader A) (f : A → Reader B) (s : A → Rows) (G 
             begins = spelled x.value y.value y.is ∙ ap (λ z. z ++ u y.value) x.begins ∙ append_assoc x.taken x.more (u y.value);
             local = λ l ks ks' t at. halts r f (x.taken ++ l ∷ ks', t) (suc (length ks')) (x.local l ks ks' t at);
           }
-
       at_next : (w : Went r f p (Err n)) → Reading r s G p w.value w.place → Refusal (and_then r f) spell Good p.0 n
       at_next w fa =
           let a = w.value in
@@ -288,7 +287,6 @@ just_spelled text clear = record {
     just_by : (line a : List ℕ) (b : Bool) → cond b (Some line) None ≡ Some a → line ≡ a
     just_by line a true e = cc
     just_by line a false e = absurd cc
-
     just_is : (line a : List ℕ) → just text line ≡ Some a → line ≡ a
     just_is line a e = just_by line a (same_line text line) e
 

@@ -1,3 +1,4 @@
 pub mod Lines
 pub mod Taking
+pub mod Takes
 pub mod Readers

@@ -1,23 +1,28 @@
 -- Reading line after line: at each place one line is taken. An Err has how many lines are left, from the first that is not
 -- taken at its place, so that the number of that line follows.
-use Rattle.std.specs.Prelude.{◌≡◌, ℕ, ◌+◌, ◌-◌, Bool, List, [], ◌∷◌, length, take, drop, nat_eq, false, Option, Some, None, Result, Ok, Err, option_and_then, if◌then◌else◌}
+use Rattle.std.specs.Prelude.{◌≡◌, ℕ, ℤ, ◌+◌, ◌-◌, Bool, List, [], ◌∷◌, length, take, drop, nat_eq, false, Option, Some, None, Result, Ok, Err, option_and_then, if◌then◌else◌}
 use Rattle.std.specs.Cmp.Lexicographic.{pointwise}
+use Rattle.dubp_atoms.specs.Reading.{text_if, number_of, signed_of}
 use Rattle.dubp_lines.specs.declared.refusal.Refused.{Refused}
 use Rattle.dubp_lines.specs.declared.refusal.LineRefusal.{LineRefusal}
 use Rattle.dubp_lines.specs.declared.refusal.LineRefusal.TheVariants as refusals
 use Rattle.dubp_lines.specs.Lines.{Place, split}
+
+infixl 10 ◌>>=◌
+abbrev pub ◌>>=◌ : {A B : Type 0} → Result A ℕ → (A → Result B ℕ) → Result B ℕ
+(Ok x) >>= f = f x
+(Err e) >>= f = Err e
 
 -- what a function returned, seen by view, is what reading gives
 abbrev pub Gives : {X Y : Type 0} → (X → Y) → Result X Refused → Result Y ℕ → Type 0
 Gives view (Ok x) read = read ≡ Ok (view x)
 Gives view (Err refused) read = read ≡ Err refused.left
 
--- the refusal is that of reading; where there was no room, it says nothing of the lines
+-- the same of a function that takes memory: where there is no room, it says nothing of the lines
 abbrev pub Refuses : {Y : Type 0} → LineRefusal → Result Y ℕ → Type 0
 Refuses refusals.NoMemory read = Unit {0}
 Refuses (refusals.Left n) read = read ≡ Err n
 
--- the same as Gives, of a function that takes memory
 abbrev pub GivesInRoom : {X Y : Type 0} → (X → Y) → Result X LineRefusal → Result Y ℕ → Type 0
 GivesInRoom view (Ok x) read = read ≡ Ok (view x)
 GivesInRoom view (Err e) read = Refuses e read
@@ -65,6 +70,16 @@ named name read line = option_and_then read (value_of name line)
 -- just this line
 abbrev pub just : List ℕ → List ℕ → Option (List ℕ)
 just text line = if same_line text line then Some line else None
+
+abbrev pub number_line : List ℕ → Place → Result (ℕ × Place) ℕ
+number_line name p = line_at (named name number_of) p
+
+abbrev pub signed_line : List ℕ → Place → Result (ℤ × Place) ℕ
+signed_line name p = line_at (named name signed_of) p
+
+-- a line of a name and a text that passes the test
+abbrev pub text_line : (List ℕ → Bool) → List ℕ → Place → Result (List ℕ × Place) ℕ
+text_line test name p = line_at (named name (text_if test)) p
 
 -- the number of the first line that is not taken at its place, from 1
 abbrev pub line_number : List ℕ → ℕ → ℕ
