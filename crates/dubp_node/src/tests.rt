@@ -33,9 +33,9 @@ AAAAAAAAAAAAAAAAAAAAAAAAAAAAAAAAAAAAAAAAAAAAAAAAAAAAAAAAAAAAAAAAAAAAAAAAAAAAAAAA
 const OUTPUT: &[u8] =
     b"NONE\nACCEPTED 0-213EECFB0EEA61A655E64854E92BE5C3C4F3DE3D12DAD82F421E4DFA250CBB36\n\
 HEAD 0-213EECFB0EEA61A655E64854E92BE5C3C4F3DE3D12DAD82F421E4DFA250CBB36 1488987127 0 0 1000 0 0 1 0 0\n\
-REFUSED G51\nREFUSED U01\nBAD\n";
+REFUSED G51\nREFUSED P01 1\nBAD\n";
 
-// HEAD, the block, HEAD, the block again, a frame that is no block, and a line that is no command and lacks its LF.
+// HEAD, the block, HEAD, the block again, a frame that has no line, and a line that is no command and lacks its LF.
 fn input(alloc: Global) -> Result<Vec<u8>, AllocError> {
     let mut bytes = b"HEAD\nBLOCK 647\n".to_vec(alloc)?;
     bytes.extend_from_slice(FIRST_BLOCK)?;
@@ -58,7 +58,7 @@ fn answers_in_small_pieces(rt: HostRuntime) -> Result<(), Fail> {
 }
 
 // Where each whole command of the input ends, and how long the answers up to it are.
-const ENDS: [(usize, usize); 5] = [(5, 5), (663, 81), (668, 183), (1326, 195), (1338, 207)];
+const ENDS: [(usize, usize); 5] = [(5, 5), (663, 81), (668, 183), (1326, 195), (1338, 209)];
 
 // The answers of the whole commands among the first bytes of the input.
 fn answers_of(taken: usize) -> &'static [u8] {
