@@ -64,48 +64,100 @@ pub doc_clear : (d : Doc) → IsDoc d → AllClear (signed_lines d ++ signature_
 doc_clear (Identity d) is =
     let o = opening (codes "Type: Identity") d.currency refl is.currency in (
       o.0,
-      (o.1.0,
-      (o.1.1.0,
-      (named (codes "Issuer: ") d.issuer refl (key d.issuer is.issuer),
-      (named (codes "UniqueID: ") d.unique_id refl (uid_lacks LF line_end d.unique_id is.unique_id),
-      (named (codes "Timestamp: ") (stamp_text d.timestamp) refl (stamp_lacks LF line_end d.timestamp is.timestamp),
-      (sig d.sig is.sig, tt)))))),
+      (
+        o.1.0,
+        (
+          o.1.1.0,
+          (
+            named (codes "Issuer: ") d.issuer refl (key d.issuer is.issuer),
+            (
+              named (codes "UniqueID: ") d.unique_id refl (uid_lacks LF line_end d.unique_id is.unique_id),
+              (
+                named (codes "Timestamp: ") (stamp_text d.timestamp) refl (stamp_lacks LF line_end d.timestamp is.timestamp),
+                (sig d.sig is.sig, tt),
+              ),
+            ),
+          ),
+        ),
+      ),
     )
 doc_clear (Revocation d) is =
     let o = opening (codes "Type: Revocation") d.currency refl is.currency in (
       o.0,
-      (o.1.0,
-      (o.1.1.0,
-      (named (codes "Issuer: ") d.issuer refl (key d.issuer is.issuer),
-      (named (codes "IdtyUniqueID: ") d.idty_unique_id refl (uid_lacks LF line_end d.idty_unique_id is.idty_unique_id),
-      (named (codes "IdtyTimestamp: ") (stamp_text d.idty_timestamp) refl (stamp_lacks LF line_end d.idty_timestamp is.idty_timestamp),
-      (named (codes "IdtySignature: ") d.idty_signature refl (sig d.idty_signature is.idty_signature),
-      (sig d.sig is.sig, tt))))))),
+      (
+        o.1.0,
+        (
+          o.1.1.0,
+          (
+            named (codes "Issuer: ") d.issuer refl (key d.issuer is.issuer),
+            (
+              named (codes "IdtyUniqueID: ") d.idty_unique_id refl (uid_lacks LF line_end d.idty_unique_id is.idty_unique_id),
+              (
+                named (codes "IdtyTimestamp: ") (stamp_text d.idty_timestamp) refl (stamp_lacks LF line_end d.idty_timestamp is.idty_timestamp),
+                (
+                  named (codes "IdtySignature: ") d.idty_signature refl (sig d.idty_signature is.idty_signature),
+                  (sig d.sig is.sig, tt),
+                ),
+              ),
+            ),
+          ),
+        ),
+      ),
     )
 doc_clear (Certification d) is =
     let o = opening (codes "Type: Certification") d.currency refl is.currency in (
       o.0,
-      (o.1.0,
-      (o.1.1.0,
-      (named (codes "Issuer: ") d.issuer refl (key d.issuer is.issuer),
-      (named (codes "IdtyIssuer: ") d.idty_issuer refl (key d.idty_issuer is.idty_issuer),
-      (named (codes "IdtyUniqueID: ") d.idty_unique_id refl (uid_lacks LF line_end d.idty_unique_id is.idty_unique_id),
-      (named (codes "IdtyTimestamp: ") (stamp_text d.idty_timestamp) refl (stamp_lacks LF line_end d.idty_timestamp is.idty_timestamp),
-      (named (codes "IdtySignature: ") d.idty_signature refl (sig d.idty_signature is.idty_signature),
-      (named (codes "CertTimestamp: ") (stamp_text d.cert_timestamp) refl (stamp_lacks LF line_end d.cert_timestamp is.cert_timestamp),
-      (sig d.sig is.sig, tt))))))))),
+      (
+        o.1.0,
+        (
+          o.1.1.0,
+          (
+            named (codes "Issuer: ") d.issuer refl (key d.issuer is.issuer),
+            (
+              named (codes "IdtyIssuer: ") d.idty_issuer refl (key d.idty_issuer is.idty_issuer),
+              (
+                named (codes "IdtyUniqueID: ") d.idty_unique_id refl (uid_lacks LF line_end d.idty_unique_id is.idty_unique_id),
+                (
+                  named (codes "IdtyTimestamp: ") (stamp_text d.idty_timestamp) refl (stamp_lacks LF line_end d.idty_timestamp is.idty_timestamp),
+                  (
+                    named (codes "IdtySignature: ") d.idty_signature refl (sig d.idty_signature is.idty_signature),
+                    (
+                      named (codes "CertTimestamp: ") (stamp_text d.cert_timestamp) refl (stamp_lacks LF line_end d.cert_timestamp is.cert_timestamp),
+                      (sig d.sig is.sig, tt),
+                    ),
+                  ),
+                ),
+              ),
+            ),
+          ),
+        ),
+      ),
     )
 doc_clear (Membership d) is =
     let o = opening (codes "Type: Membership") d.currency refl is.currency in (
       o.0,
-      (o.1.0,
-      (o.1.1.0,
-      (named (codes "Issuer: ") d.issuer refl (key d.issuer is.issuer),
-      (named (codes "Block: ") (stamp_text d.block) refl (stamp_lacks LF line_end d.block is.block),
-      (named (codes "Membership: ") (direction_text d.membership) refl (direction d.membership),
-      (named (codes "UserID: ") d.user_id refl (uid_lacks LF line_end d.user_id is.user_id),
-      (named (codes "CertTS: ") (stamp_text d.cert_ts) refl (stamp_lacks LF line_end d.cert_ts is.cert_ts),
-      (sig d.sig is.sig, tt)))))))),
+      (
+        o.1.0,
+        (
+          o.1.1.0,
+          (
+            named (codes "Issuer: ") d.issuer refl (key d.issuer is.issuer),
+            (
+              named (codes "Block: ") (stamp_text d.block) refl (stamp_lacks LF line_end d.block is.block),
+              (
+                named (codes "Membership: ") (direction_text d.membership) refl (direction d.membership),
+                (
+                  named (codes "UserID: ") d.user_id refl (uid_lacks LF line_end d.user_id is.user_id),
+                  (
+                    named (codes "CertTS: ") (stamp_text d.cert_ts) refl (stamp_lacks LF line_end d.cert_ts is.cert_ts),
+                    (sig d.sig is.sig, tt),
+                  ),
+                ),
+              ),
+            ),
+          ),
+        ),
+      ),
     )
 doc_clear (Transaction d) is =
     let tx = d.tx in
@@ -119,7 +171,7 @@ doc_clear (Transaction d) is =
     let inputs_clear : AllClear inputs = (codes_lack (codes "Inputs:") refl, each input_text IsInput input_lacks tx.inputs (recursion_from_All IsInput tx.inputs is.tx.inputs.each)) in
     let unlocks = codes "Unlocks:" ∷ map unlock_line_text tx.unlocks in
     let unlocks_clear : AllClear unlocks =
-        (codes_lack (codes "Unlocks:") refl, each unlock_line_text IsUnlockLine unlock_line_lacks tx.unlocks (recursion_from_All IsUnlockLine tx.unlocks is.tx.unlocks.each)) in
+    (codes_lack (codes "Unlocks:") refl, each unlock_line_text IsUnlockLine unlock_line_lacks tx.unlocks (recursion_from_All IsUnlockLine tx.unlocks is.tx.unlocks.each)) in
     let outputs = codes "Outputs:" ∷ map output_text tx.outputs in
     let outputs_clear : AllClear outputs = (codes_lack (codes "Outputs:") refl, each output_text IsOutput output_lacks tx.outputs (recursion_from_All IsOutput tx.outputs is.tx.outputs.each)) in
     let comment = (codes "Comment: " ++ tx.comment) ∷ [] in

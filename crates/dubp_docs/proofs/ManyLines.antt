@@ -109,5 +109,5 @@ pub sigs_again : (n : ℕ) (xs : Rows) (t : List ℕ) → All IsSig xs → lengt
 unfolding sigs_at
 sigs_again n xs t good e =
     let all : values_at (text_if is_sig) n xs ≡ (xs, []) =
-        ap (λ m. values_at (text_if is_sig) m xs) (sym e) ∙ ap (values_at (text_if is_sig) (length xs)) (sym (append-nil xs) ∙ ap (λ v. v ++ []) (sym (map-id xs))) ∙ values_all (text_is is_sig) xs [] (recursion_from_All IsSig xs good) in
+    ap (λ m. values_at (text_if is_sig) m xs) (sym e) ∙ ap (values_at (text_if is_sig) (length xs)) (sym (append-nil xs) ∙ ap (λ v. v ++ []) (sym (map-id xs))) ∙ values_all (text_is is_sig) xs [] (recursion_from_All IsSig xs good) in
     rw (all, eq-eqb (length xs) n e) refl

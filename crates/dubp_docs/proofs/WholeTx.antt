@@ -64,7 +64,7 @@ module _ (p : Place) (d : TxDoc) (q : Place) where
       let issuers : Spans c.0.1 (codes "Issuers:" ∷ e.0.0) e.0.1 = subst (λ keys. Spans c.0.1 (codes "Issuers:" ∷ keys) e.0.1) (map-id e.0.0) e'.1 in
       let head = then_lines a'.1 (then_lines b'.1 (then_lines c'.1 issuers)) in
       let made : TxDoc × Place =
-          (record { currency = a.0.0; tx = record { stamp = b.0.0; locktime = c.0.0; issuers = e.0.0; inputs = f.0.0; unlocks = g.0.0; outputs = i.0.0; comment = j.0.0; sigs = s.0.0 } }, s.0.1) in
+      (record { currency = a.0.0; tx = record { stamp = b.0.0; locktime = c.0.0; issuers = e.0.0; inputs = f.0.0; unlocks = g.0.0; outputs = i.0.0; comment = j.0.0; sigs = s.0.0 } }, s.0.1) in
       subst (λ (z : TxDoc × Place). IsTxDoc z.0 × Spans p (transaction_lines z.0.currency z.0.tx ++ z.0.tx.sigs) z.1) (ok_is made y s.2) (
         record {
           currency = a'.0;
@@ -116,8 +116,8 @@ transaction_again d is =
     let stamp = codes "Blockstamp: " ++ stamp_text tx.stamp in
     let head : Rows → Rows = λ keys. codes "Version: 10" ∷ codes "Type: Transaction" ∷ (codes "Currency: " ++ d.currency) ∷ stamp ∷ locktime ∷ codes "Issuers:" ∷ keys in
     let lines : transaction_lines d.currency tx ++ tx.sigs ≡ head issuers =
-        regroup (head tx.issuers) (codes "Inputs:" ∷ map input_text tx.inputs) (codes "Unlocks:" ∷ map unlock_line_text tx.unlocks) (codes "Outputs:" ∷ map output_text tx.outputs) tx.sigs comment
-        ∙ ap (λ keys. head (keys ++ codes "Inputs:" ∷ inputs)) (sym (map-id tx.issuers)) in
+    regroup (head tx.issuers) (codes "Inputs:" ∷ map input_text tx.inputs) (codes "Unlocks:" ∷ map unlock_line_text tx.unlocks) (codes "Outputs:" ∷ map output_text tx.outputs) tx.sigs comment
+    ∙ ap (λ keys. head (keys ++ codes "Inputs:" ∷ inputs)) (sym (map-id tx.issuers)) in
     let placed : Rows → Place = λ v. (v, []) in
     ap (λ v. transaction_at (placed v)) lines
     ∙ rw (

@@ -1,4 +1,5 @@
 pub mod Spelling
 pub mod AddsLines
+pub mod Fields
 pub mod Reading
 pub mod Passing

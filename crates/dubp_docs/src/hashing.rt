@@ -1,6 +1,7 @@
 ghost use Rattle.std.specs.Prelude.{◌≡◌, List, ℕ};
 ghost use Rattle.dubp_atoms.specs.Hashing.{hash_of};
 ghost use Rattle.dubp_cond.specs.Transactions.{IsTx};
+ghost use Rattle.dubp_docs.specs.Fields.{identity_of, revocation_of, certification_of, membership_of};
 ghost use Rattle.dubp_docs.specs.Spelling.{signed_text, signed_tx, tx_hash as hash_of_tx};
 ghost use Rattle.dubp_docs.specs.declared.doc.Doc.TheVariants.{Identity, Revocation, Certification, Membership};
 
@@ -14,7 +15,7 @@ use std::alloc::Global;
 
 /// The SHA-256 of the signed text of an identity. It takes no memory.
 pub fn identity_hash(currency: &Currency, issuer: &Key, uid: &Uid, timestamp: &Stamp) -> Hash
-    ensures { (sig : List ℕ) → result ≡ hash_of (signed_text (Identity (record { currency = currency.now; issuer = issuer.now; unique_id = uid.now; timestamp = timestamp.now; sig = sig }))) }
+    ensures { (sig : List ℕ) → result ≡ hash_of (signed_text (Identity (identity_of currency.now issuer.now uid.now timestamp.now sig))) }
 {
     let mut hashing = Hashing::new();
     let Ok(()) = add_identity(&mut hashing, currency, issuer, uid, timestamp);
@@ -30,7 +31,7 @@ pub fn membership_hash(
     user_id: &Uid,
     cert_ts: &Stamp,
 ) -> Hash
-    ensures { (sig : List ℕ) → result ≡ hash_of (signed_text (Membership (record { currency = currency.now; issuer = issuer.now; block = block.now; membership = membership; user_id = user_id.now; cert_ts = cert_ts.now; sig = sig }))) }
+    ensures { (sig : List ℕ) → result ≡ hash_of (signed_text (Membership (membership_of currency.now issuer.now block.now membership user_id.now cert_ts.now sig))) }
 {
     let mut hashing = Hashing::new();
     let Ok(()) = add_membership(
@@ -53,7 +54,7 @@ pub fn revocation_hash(
     timestamp: &Stamp,
     idty_signature: &Sig,
 ) -> Hash
-    ensures { (sig : List ℕ) → result ≡ hash_of (signed_text (Revocation (record { currency = currency.now; issuer = issuer.now; idty_unique_id = uid.now; idty_timestamp = timestamp.now; idty_signature = idty_signature.now; sig = sig }))) }
+    ensures { (sig : List ℕ) → result ≡ hash_of (signed_text (Revocation (revocation_of currency.now issuer.now uid.now timestamp.now idty_signature.now sig))) }
 {
     let mut hashing = Hashing::new();
     let Ok(()) = add_revocation(
@@ -77,7 +78,7 @@ pub fn certification_hash(
     idty_signature: &Sig,
     cert_timestamp: &Stamp,
 ) -> Hash
-    ensures { (sig : List ℕ) → result ≡ hash_of (signed_text (Certification (record { currency = currency.now; issuer = issuer.now; idty_issuer = idty_issuer.now; idty_unique_id = uid.now; idty_timestamp = idty_timestamp.now; idty_signature = idty_signature.now; cert_timestamp = cert_timestamp.now; sig = sig }))) }
+    ensures { (sig : List ℕ) → result ≡ hash_of (signed_text (Certification (certification_of currency.now issuer.now idty_issuer.now uid.now idty_timestamp.now idty_signature.now cert_timestamp.now sig))) }
 {
     let mut hashing = Hashing::new();
     let Ok(()) = add_certification(

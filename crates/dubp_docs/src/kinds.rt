@@ -44,6 +44,10 @@ impl ReadText for DirectionText {
         if text == b"IN".as_slice() {
             return Some(true);
         }
-        if text == b"OUT".as_slice() { Some(false) } else { None }
+        if text == b"OUT".as_slice() {
+            Some(false)
+        } else {
+            None
+        }
     }
 }

@@ -1,4 +1,14 @@
 //! Documents: what people sign, and the text that they sign.
+//!
+//! Contracts see a `Doc` as the record of its fields. `specs/Spelling` has the text of each document, the part of it that is
+//! signed, and which documents have one. `read_doc` accepts exactly such a text, `put_doc` writes it, and the hashes of what is
+//! signed are made from the fields alone, without the text. Protocol: documents.
+//!
+//! ```text
+//! let doc = read_doc(alloc, b"Version: 10\nType: Identity\n..")?;
+//! let signed = identity_hash(&currency, &issuer, &uid, &timestamp);
+//! let hashes = tx_hashes(&currency, &tx);
+//! ```
 #![tactic(auto)]
 
 mod doc;

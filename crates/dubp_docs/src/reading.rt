@@ -104,13 +104,7 @@ fn whole<T: Drop>(taken: Result<T, Refused>, lines: &Lines<'_>) -> Option<T>
     ensures { (read : Result (T × Place) ℕ) → Gives (λ x. (x, lines.now)) taken read → result ≡ last read }
 {
     match taken {
-        Ok(value) => {
-            if lines.is_done() {
-                Some(value)
-            } else {
-                None
-            }
-        }
+        Ok(value) => { if lines.is_done() { Some(value) } else { None } }
         Err(_) => None,
     }
 }

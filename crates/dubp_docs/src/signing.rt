@@ -1,6 +1,7 @@
 ghost use Rattle.std.specs.Prelude.{◌≡◌, true, ◌+◌, ◌≤◌, ◌++◌, ◌∷◌, [], length, map, codes, decimal, OnOk, All};
 ghost use Rattle.dubp_cond.specs.Transactions.{is_comment, IsTx};
 ghost use Rattle.dubp_docs.specs.AddsLines.{AddsLines};
+ghost use Rattle.dubp_docs.specs.Fields.{identity_of, revocation_of, certification_of, membership_of};
 ghost use Rattle.dubp_docs.specs.Spelling.{opening_lines, identity_lines, revocation_lines, certification_lines, membership_lines, direction_text, transaction_lines};
 
 use crate::put_text::PutText;
@@ -87,7 +88,7 @@ pub fn add_identity<S: TextSink>(
     unique_id: &Uid,
     timestamp: &Stamp,
 ) -> Result<(), S::Refusal>
-    ensures { OnOk result (AddsLines S.has out.old out.new (identity_lines (record { currency = currency.now; issuer = issuer.now; unique_id = unique_id.now; timestamp = timestamp.now; sig = [] }))) }
+    ensures { OnOk result (AddsLines S.has out.old out.new (identity_lines (identity_of currency.now issuer.now unique_id.now timestamp.now []))) }
 {
     add_opening(out, b"Identity", currency)?;
     add_field(out, b"Issuer: ", issuer)?;
@@ -105,7 +106,7 @@ pub fn add_revocation<S: TextSink>(
     timestamp: &Stamp,
     idty_signature: &Sig,
 ) -> Result<(), S::Refusal>
-    ensures { OnOk result (AddsLines S.has out.old out.new (revocation_lines (record { currency = currency.now; issuer = issuer.now; idty_unique_id = unique_id.now; idty_timestamp = timestamp.now; idty_signature = idty_signature.now; sig = [] }))) }
+    ensures { OnOk result (AddsLines S.has out.old out.new (revocation_lines (revocation_of currency.now issuer.now unique_id.now timestamp.now idty_signature.now []))) }
 {
     add_opening(out, b"Revocation", currency)?;
     add_field(out, b"Issuer: ", issuer)?;
@@ -126,7 +127,7 @@ pub fn add_certification<S: TextSink>(
     idty_signature: &Sig,
     cert_timestamp: &Stamp,
 ) -> Result<(), S::Refusal>
-    ensures { OnOk result (AddsLines S.has out.old out.new (certification_lines (record { currency = currency.now; issuer = issuer.now; idty_issuer = idty_issuer.now; idty_unique_id = unique_id.now; idty_timestamp = idty_timestamp.now; idty_signature = idty_signature.now; cert_timestamp = cert_timestamp.now; sig = [] }))) }
+    ensures { OnOk result (AddsLines S.has out.old out.new (certification_lines (certification_of currency.now issuer.now idty_issuer.now unique_id.now idty_timestamp.now idty_signature.now cert_timestamp.now []))) }
 {
     add_opening(out, b"Certification", currency)?;
     add_field(out, b"Issuer: ", issuer)?;
@@ -158,7 +159,7 @@ pub fn add_membership<S: TextSink>(
     user_id: &Uid,
     cert_ts: &Stamp,
 ) -> Result<(), S::Refusal>
-    ensures { OnOk result (AddsLines S.has out.old out.new (membership_lines (record { currency = currency.now; issuer = issuer.now; block = block.now; membership = membership; user_id = user_id.now; cert_ts = cert_ts.now; sig = [] }))) }
+    ensures { OnOk result (AddsLines S.has out.old out.new (membership_lines (membership_of currency.now issuer.now block.now membership user_id.now cert_ts.now []))) }
 {
     add_opening(out, b"Membership", currency)?;
     add_field(out, b"Issuer: ", issuer)?;

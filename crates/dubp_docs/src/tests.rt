@@ -114,11 +114,26 @@ fn signed_hash(doc: &Doc) -> Hash
 #[test]
 fn documents_are_read_written_and_hashed(rt: HostRuntime) -> Result<(), Fail> {
     let rows = [
-        (IDENTITY, b"A120515CE66D04A02429DA159E9130B4DFB0627ABB9E3B40485DC9DC70DF32E9"),
-        (REVOCATION, b"36252970A18FE27062756F05AB3685914FFD8035A031EE3F1F468A746986D382"),
-        (CERTIFICATION, b"49A2EB1875325B82C80A7ECBB743B9F15C5B95C4BD4B52F120D8050D1A757DD6"),
-        (MEMBERSHIP, b"FC96F47FC3EF7D38800077031B55ADDADDB51F399D058D7DEA0625EB1E08E159"),
-        (TRANSACTION, b"43D5E0F9EE4B50B893C2A7B779DB2D0B274445FFEEA8D8C53B0AAC78F6E5708F"),
+        (
+            IDENTITY,
+            b"A120515CE66D04A02429DA159E9130B4DFB0627ABB9E3B40485DC9DC70DF32E9",
+        ),
+        (
+            REVOCATION,
+            b"36252970A18FE27062756F05AB3685914FFD8035A031EE3F1F468A746986D382",
+        ),
+        (
+            CERTIFICATION,
+            b"49A2EB1875325B82C80A7ECBB743B9F15C5B95C4BD4B52F120D8050D1A757DD6",
+        ),
+        (
+            MEMBERSHIP,
+            b"FC96F47FC3EF7D38800077031B55ADDADDB51F399D058D7DEA0625EB1E08E159",
+        ),
+        (
+            TRANSACTION,
+            b"43D5E0F9EE4B50B893C2A7B779DB2D0B274445FFEEA8D8C53B0AAC78F6E5708F",
+        ),
     ];
     for (text, hash) in rows {
         let Ok(Some(doc)) = read_doc(rt.alloc(), text) else {
@@ -139,7 +154,10 @@ fn a_transaction_is_named_by_its_whole_text(rt: HostRuntime) -> Result<(), Fail>
         return Err(Fail::from("no transaction"));
     };
     let hash = tx_hash(rt.alloc(), &d.currency, &d.tx).map_err(|_| "no memory")?;
-    assert!(rt; hash.as_bytes() == b"E6DB10DCB63E92B9F77B1C05D3864DA9FF54F21275E057C384AEE989ED34E98D".as_slice());
+    assert!(rt;
+        hash.as_bytes()
+            == b"E6DB10DCB63E92B9F77B1C05D3864DA9FF54F21275E057C384AEE989ED34E98D".as_slice()
+    );
     let signed = signed_tx(rt.alloc(), &d.currency, &d.tx).map_err(|_| "no memory")?;
     assert!(rt; Hash::of(&signed) == tx_hashes(&d.currency, &d.tx).signed);
     Ok(())
@@ -147,7 +165,8 @@ fn a_transaction_is_named_by_its_whole_text(rt: HostRuntime) -> Result<(), Fail>
 
 #[test]
 fn other_texts_are_no_documents(rt: HostRuntime) -> Result<(), Fail> {
-    let sig = b"AAAAAAAAAAAAAAAAAAAAAAAAAAAAAAAAAAAAAAAAAAAAAAAAAAAAAAAAAAAAAAAAAAAAAAAAAAAAAAAAAAAAAA==\n";
+    let sig =
+        b"AAAAAAAAAAAAAAAAAAAAAAAAAAAAAAAAAAAAAAAAAAAAAAAAAAAAAAAAAAAAAAAAAAAAAAAAAAAAAAAAAAAAAA==\n";
     let rows: [(&[u8], &[u8]); 6] = [
         (b"", b""),
         (IDENTITY, b"\n"),
