@@ -1,11 +1,10 @@
 -- The reader of a block reads exactly the lines of the blocks in range.
-use Rattle.std.proofs.Common.{◌≡◌, ◌≢◌, ℕ, ℤ, List, [], ◌∷◌, ◌++◌, Option, refl, sym, ap, subst, ◌∙◌, append_assoc, append-nil, decimal}
+use Rattle.std.proofs.Common.{◌≡◌, ℕ, List, [], ◌∷◌, ◌++◌, refl, sym, ap, subst, append_assoc, append-nil, decimal}
 use Rattle.std.specs.Prelude.{codes, map}
 use Rattle.dubp_atoms.specs.Spelling.{IsNumber}
-use Rattle.dubp_lines.specs.Readers.{and_then, gives}
 use Rattle.dubp_lines.proofs.Readers.{Rows, Always, Reads, named_spelled, line_reads, then_reads, then_before, gives_reads, reads_as, spelled_as}
 use Rattle.dubp_block.specs.Sections.{section, identity_text, member_text, revoked_text, certification_text, transaction_lines}
-use Rattle.dubp_block.specs.Text.{IsBlock, block_lines, opening_lines, dividend_lines, issuer_lines, previous_lines, params_lines}
+use Rattle.dubp_block.specs.Text.{IsBlock, block_lines, dividend_lines, issuer_lines, previous_lines, params_lines}
 use Rattle.dubp_block.specs.Reading.{made, block_at}
 use Rattle.dubp_block.specs.declared.block.Block.{Block}
 use Rattle.dubp_block.specs.declared.reading.Opening.{Opening}

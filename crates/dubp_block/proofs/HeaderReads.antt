@@ -1,17 +1,15 @@
 -- The readers of a block's header and end read exactly the spelling of their fields. Each field is a step: the last argument of a
 -- step is what the fields behind it keep.
-use Rattle.std.proofs.Common.{◌≡◌, ◌≢◌, ◌≤◌, ℕ, ℤ, Bool, true, false, cond, eqb, List, [], ◌∷◌, ◌++◌, drop, Option, Some, None, refl, sym, ap, subst, ◌∙◌, decimal}
+use Rattle.std.proofs.Common.{◌≡◌, ◌≢◌, ◌≤◌, ℕ, Bool, true, false, cond, eqb, List, [], ◌∷◌, ◌++◌, drop, Option, Some, None, refl, sym, ap, subst, decimal}
 use Rattle.std.proofs.lemmas.Bool.{eqb-true, eqb-false}
 use Rattle.std.specs.Prelude.{codes}
-use Rattle.std.specs.Fmt.{signed_decimal}
 use Rattle.dubp_atoms.specs.Letters.{is_key, is_hash, is_sig, is_currency}
 use Rattle.dubp_atoms.specs.Reading.{number_of}
 use Rattle.dubp_atoms.specs.Spelling.{IsNumber, IsSigned}
-use Rattle.dubp_lines.specs.Taking.{line_at, named}
-use Rattle.dubp_lines.specs.Readers.{and_then, gives, optional}
-use Rattle.dubp_lines.proofs.Readers.{Rows, Always, Reads, IsSpelled, named_spelled, line_reads, just_then, then_reads, then_before, behind_reads, gives_reads, only_reads, reads_as, spelled_as}
+use Rattle.dubp_lines.specs.Readers.{optional}
+use Rattle.dubp_lines.proofs.Readers.{Rows, Always, Reads, named_spelled, line_reads, just_then, then_reads, then_before, behind_reads, gives_reads, only_reads, reads_as, spelled_as}
 use Rattle.dubp_lines.proofs.Rows.{optional_row, IsOptional, NotNext, optional_reads}
-use Rattle.dubp_params.specs.Spelling.{IsParams, params_text}
+use Rattle.dubp_params.specs.Spelling.{IsParams}
 use Rattle.dubp_params.specs.declared.params.Params.{Params}
 use Rattle.dubp_block.specs.Text.{IsVersion, IsDividend, IsPrevious, IsFirstParams, opening_lines, dividend_lines, issuer_lines, previous_lines, params_lines}
 use Rattle.dubp_block.specs.Reading.{opening_at, issuing_at, first_links_at, later_links_at, links_at, closing_at}

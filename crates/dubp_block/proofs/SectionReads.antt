@@ -1,19 +1,16 @@
 -- The readers of the eight sections read exactly their lines.
-use Rattle.std.proofs.Common.{◌≡◌, ◌<◌, ◌≤◌, ℕ, Bool, true, false, leb, List, [], ◌∷◌, ◌++◌, length, length-append, Option, refl, sym, ap, ◌∙◌, arith}
+use Rattle.std.proofs.Common.{◌≡◌, ◌<◌, ◌≤◌, ℕ, Bool, true, List, [], ◌∷◌, ◌++◌, length, length-append, Option, refl, ap, arith}
 use Rattle.std.specs.Prelude.{codes, map, All, not, nat_lt, ◌||◌}
-use Rattle.std.specs.List.{list_all, flat_map}
+use Rattle.std.specs.List.{list_all}
 use Rattle.std.proofs.lemmas.Bool.{leb-true}
-use Rattle.dubp_atoms.specs.Letters.{is_between, is_key}
-use Rattle.dubp_atoms.specs.Reading.{text_if}
+use Rattle.dubp_atoms.specs.Letters.{is_key}
 use Rattle.dubp_atoms.proofs.Numbers.{both}
-use Rattle.dubp_lines.specs.Taking.{line_at, just, same_line, begins_with, next_passes}
-use Rattle.dubp_lines.specs.Readers.{and_then, gives, entries}
-use Rattle.dubp_lines.proofs.Readers.{Rows, Always, Reads, IsSpelled, line_reads, just_then, then_before, gives_reads, reads_as, spelled_as}
+use Rattle.dubp_lines.specs.Taking.{line_at, same_line, begins_with, next_passes}
+use Rattle.dubp_lines.specs.Readers.{entries}
+use Rattle.dubp_lines.proofs.Readers.{Rows, Reads, IsSpelled, line_reads, just_then, then_before, gives_reads, reads_as, spelled_as}
 use Rattle.dubp_lines.proofs.Entries.{spell_all, all_rows, all_lines, longer_apart, entries_reads}
 use Rattle.dubp_cond.specs.Transactions.{IsTx}
-use Rattle.dubp_cond.specs.declared.tx.Tx.{Tx}
 use Rattle.dubp_block.specs.Sections.{section, identity_text, member_text, revoked_text, certification_text, IsIdentity, IsMembership, IsRevocation, IsCertification, compact_lines, transaction_lines}
-use Rattle.dubp_block.specs.ReadingLines.{identity_of, member_of, revoked_of, certification_of}
 use Rattle.dubp_block.specs.Reading.{section_at, first_sections_at, last_sections_at, transactions_at, tx_at}
 use Rattle.dubp_block.specs.declared.sections.FirstSections.{FirstSections}
 use Rattle.dubp_block.specs.declared.sections.LastSections.{LastSections}

@@ -1,16 +1,14 @@
 -- Each kind of line is read exactly from its spelling, which has no LF.
-use Rattle.std.proofs.Common.{◌≡◌, ℕ, ℤ, pos, ◌^◌, ◌<◌, ◌≤◌, Bool, true, false, cond, List, [], ◌∷◌, ◌++◌, length, Option, Some, None, refl, sym, ap, subst, ◌∙◌, arith, lit<, inl, decimal, unsigned_abs}
-use Rattle.std.specs.Prelude.{codes}
+use Rattle.std.proofs.Common.{◌≡◌, ℕ, pos, ◌<◌, ◌≤◌, Bool, true, List, [], ◌∷◌, ◌++◌, length, Some, refl, subst, arith, lit<, inl, decimal}
 use Rattle.std.specs.Fmt.{signed_decimal}
-use Rattle.std.specs.List.{list_all}
 use Rattle.dubp_atoms.specs.Letters.{is_key, is_hash, is_sig, is_uid, is_currency}
 use Rattle.dubp_atoms.specs.Reading.{Lacks, text_if, number_of, signed_of, stamp_of}
 use Rattle.dubp_atoms.specs.Spelling.{IsNumber, IsSigned, IsStamp, stamp_text}
 use Rattle.dubp_atoms.specs.declared.stamp.Stamp.{Stamp}
 use Rattle.dubp_atoms.proofs.Numbers.{bind_some, some_is, by_test, number_found, number_again}
 use Rattle.dubp_atoms.proofs.Signed.{signed_found, signed_again}
-use Rattle.dubp_atoms.proofs.Fields.{text_found, text_again, Lacks-append, Lacks-cons}
-use Rattle.dubp_atoms.proofs.Stamps.{IsApart, colon, line_end, number_lacks, key_lacks, hash_lacks, sig_lacks, uid_lacks, currency_lacks, stamp_lacks, stamp_found, stamp_again}
+use Rattle.dubp_atoms.proofs.Fields.{text_found, text_again}
+use Rattle.dubp_atoms.proofs.Stamps.{colon, line_end, number_lacks, key_lacks, hash_lacks, sig_lacks, uid_lacks, currency_lacks, stamp_lacks, stamp_found, stamp_again}
 use Rattle.dubp_lines.proofs.Readers.{IsSpelled}
 use Rattle.dubp_params.specs.Reading.{params_of, field_at}
 use Rattle.dubp_params.specs.Spelling.{IsParams, params_text}

@@ -1,24 +1,21 @@
 -- The reader of a transaction in compact form reads exactly its lines. What its first line says is known of the lists behind it.
-use Rattle.std.proofs.Common.{◌≡◌, ◌≤◌, ◌<◌, ℕ, zero, suc, Bool, true, false, leb, List, [], ◌∷◌, ◌++◌, length, length-append, append-nil, Option, Some, None, refl, sym, ap, subst, ◌∙◌, arith, decimal}
+use Rattle.std.proofs.Common.{◌≡◌, ◌≤◌, ◌<◌, ℕ, zero, suc, true, leb, List, [], ◌∷◌, ◌++◌, length, length-append, append-nil, Some, refl, sym, ap, subst, ◌∙◌, arith, decimal}
 use Rattle.std.specs.Prelude.{codes, map, All}
 use Rattle.std.proofs.lemmas.Bool.{leb-true, le-leb}
 use Rattle.dubp_atoms.specs.Letters.{is_between, is_key, is_sig}
-use Rattle.dubp_atoms.specs.Reading.{Lacks, number_of, text_if, stamp_of}
+use Rattle.dubp_atoms.specs.Reading.{Lacks, number_of}
 use Rattle.dubp_atoms.specs.Spelling.{IsNumber, IsStamp, stamp_text}
 use Rattle.dubp_atoms.proofs.Numbers.{both, bind_some, some_is, number_found, number_again}
 use Rattle.dubp_atoms.proofs.Stamps.{colon, line_end, number_lacks}
-use Rattle.dubp_lines.specs.Taking.{line_at, named}
-use Rattle.dubp_lines.specs.Readers.{and_then, gives, rows}
 use Rattle.dubp_lines.proofs.Readers.{Rows, Always, Reads, IsSpelled, named_spelled, line_reads, then_reads, gives_reads, reads_as, spelled_as}
 use Rattle.dubp_lines.proofs.Rows.{rows_reads, known_then}
 use Rattle.dubp_lines.proofs.Loops.{Shrinks}
 use Rattle.dubp_params.specs.Reading.{field_at}
 use Rattle.dubp_params.proofs.Fields.{step, field_again, behind}
-use Rattle.dubp_cond.specs.ReadingLines.{input_of, unlock_line_of, output_of}
 use Rattle.dubp_cond.specs.Sources.{IsInput, input_text}
 use Rattle.dubp_cond.specs.Unlocks.{IsUnlockLine, unlock_line_text}
 use Rattle.dubp_cond.specs.Outputs.{IsOutput, output_text}
-use Rattle.dubp_cond.specs.Transactions.{is_comment, IsList, IsTx}
+use Rattle.dubp_cond.specs.Transactions.{is_comment, IsTx}
 use Rattle.dubp_cond.specs.declared.tx.Tx.{Tx}
 use Rattle.dubp_block.specs.Sections.{compact_lines, has_comment, comment_lines}
 use Rattle.dubp_block.specs.ReadingLines.{count_of, comments_of, comment_of, head_of}

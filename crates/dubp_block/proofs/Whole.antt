@@ -1,9 +1,9 @@
 -- The laws of a whole text: what is read is a block's text, a block's text is read, and the refused line is the first with which the
 -- lines begin no block any more.
-use Rattle.std.proofs.Common.{◌≡◌, ◌⊎◌, inl, inr, ℕ, zero, suc, ◌+◌, ◌-◌, ◌≤◌, Bool, true, false, cond, eqb, List, [], ◌∷◌, ◌++◌, length, length-append, take, Result, Ok, Err, refl, sym, ap, subst, ◌∙◌, append_assoc, append-nil, arith}
-use Rattle.std.proofs.lemmas.Bool.{eqb-true, eqb-false}
+use Rattle.std.proofs.Common.{◌≡◌, ◌⊎◌, inl, inr, ℕ, suc, ◌+◌, ◌-◌, Bool, true, false, cond, eqb, List, [], ◌∷◌, ◌++◌, length, length-append, take, Result, Ok, Err, refl, sym, ap, subst, ◌∙◌, append_assoc, append-nil, arith}
+use Rattle.std.proofs.lemmas.Bool.{eqb-true}
 use Rattle.std.proofs.lemmas.List.{take_at}
-use Rattle.dubp_lines.specs.Lines.{Place, split, unlines}
+use Rattle.dubp_lines.specs.Lines.{Place, split}
 use Rattle.dubp_lines.specs.Taking.{line_number}
 use Rattle.dubp_lines.proofs.Split.{split_unlines}
 use Rattle.dubp_lines.proofs.Taken.{nothing_left, text_of_lines}

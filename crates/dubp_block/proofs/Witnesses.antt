@@ -1,5 +1,5 @@
 -- Some value of each kind that a line has: the shortest rest of a block is made of them.
-use Rattle.std.proofs.Common.{◌≡◌, ℕ, true, List, [], ◌∷◌, Some, refl, arith, lit≤, lit<, ◌≤◌, length, length-append, decimal}
+use Rattle.std.proofs.Common.{◌≡◌, ℕ, true, List, [], ◌∷◌, refl, arith, lit≤, lit<, ◌≤◌, length, length-append, decimal}
 use Rattle.std.specs.Prelude.{codes}
 use Rattle.std.proofs.lemmas.Fmt.{length-decimal-le}
 use Rattle.std.proofs.lemmas.List.Elements.{All-nil, All-cons}

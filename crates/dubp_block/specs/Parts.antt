@@ -1,6 +1,5 @@
 -- The parts of a block's text as the code writes them, one function a part.
-use Rattle.std.specs.Prelude.{ℕ, List, [], ◌∷◌, ◌++◌, map}
-use Rattle.dubp_block.specs.Sections.{section, identity_text, member_text, revoked_text, certification_text}
+use Rattle.std.specs.Prelude.{ℕ, List, [], ◌∷◌, ◌++◌}
 use Rattle.dubp_block.specs.Text.{opening_lines, issuer_lines, signed_lines}
 use Rattle.dubp_block.specs.declared.block.Block.{Block}
 

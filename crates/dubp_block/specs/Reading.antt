@@ -1,11 +1,11 @@
 -- How the code reads a block, place after place. An Err has how many lines are left, from the first that is not taken. The
 -- laws that join it to the block's text stand in the contract of `read_block`.
-use Rattle.std.specs.Prelude.{ℕ, zero, suc, ◌+◌, ◌==◌, Bool, not, List, [], ◌∷◌, length, codes, Option, Some, None, Result, Ok, Err, if◌then◌else◌}
+use Rattle.std.specs.Prelude.{ℕ, zero, suc, ◌+◌, ◌==◌, Bool, not, List, [], length, codes, Option, Some, None, Result, Ok, Err, if◌then◌else◌}
 use Rattle.dubp_atoms.specs.Letters.{is_key, is_hash, is_currency, is_sig}
 use Rattle.dubp_atoms.specs.Reading.{number_of, signed_of, stamp_of, text_if}
 use Rattle.dubp_lines.specs.Lines.{Place}
 use Rattle.dubp_lines.specs.Taking.{line_at, just, named, same_line, begins_with, next_passes}
-use Rattle.dubp_lines.specs.Readers.{Reader, ◌>>=◌, and_then, gives, optional, rows, entries, go_on}
+use Rattle.dubp_lines.specs.Readers.{Reader, ◌>>=◌, gives, optional, rows, entries}
 use Rattle.dubp_cond.specs.ReadingLines.{input_of, unlock_line_of, output_of}
 use Rattle.dubp_cond.specs.declared.tx.Tx.{Tx}
 use Rattle.dubp_params.specs.Reading.{params_of}

@@ -1,5 +1,5 @@
 -- What a refusal says of the bytes that were to be a block.
-use Rattle.std.specs.Prelude.{ℕ, List, Result, IfErr, ⊤}
+use Rattle.std.specs.Prelude.{ℕ, List, ⊤}
 use Rattle.dubp_block.specs.RefusedLine.{IsRefusedLine}
 use Rattle.dubp_block.specs.declared.refusal.ReadRefusal.{ReadRefusal}
 use Rattle.dubp_block.specs.declared.refusal.ReadRefusal.TheVariants.{NotABlock, NoMemory}

@@ -18,8 +18,8 @@ use std::alloc::Global;
 
 /// The block that this text is.
 ///
-/// `NotABlock` comes exactly where the bytes are no block's text, with the line that is refused. Memory and time are linear in the
-/// text.
+/// `NotABlock` comes only where the bytes are no block's text, with the line that is refused; `NoMemory` where there is no room for
+/// what the lines so far say. Room for a line is taken when the line comes, however many its transaction announces.
 pub fn read_block(alloc: Global, text: &[u8]) -> Result<Block, ReadRefusal>
     ensures found { IfOk result (λ b. IsBlock b × (text.now ≡ block_text b)) }
     ensures only { (b : BlockValue) → IsBlock b → text.now ≡ block_text b → MatchResult result (λ v. v ≡ b) (λ e. e ≡ Memory) }

@@ -1,10 +1,10 @@
-use Rattle.std.proofs.Common.{◌≡◌, ap, sym, ◌∙◌, List}
+use Rattle.std.proofs.Common.{ap, sym, ◌∙◌, List}
 use Rattle.std.proofs.Common.{ℕ}
 use Rattle.std.proofs.lemmas.Result.{err_from_is_err_and}
 use Rattle.dubp_lines.specs.Taking.{line_at, just, next_passes, same_line}
-use Rattle.dubp_lines.specs.Readers.{entries, and_then}
+use Rattle.dubp_lines.specs.Readers.{entries}
 use Rattle.dubp_lines.proofs.Readers.{goes, halts}
-use Rattle.dubp_lines.proofs.Loops.{behind, behind_more, behind_all, behind_refused, line_shrinks, line_shorter, entries_step, entries_stop, entries_refused}
+use Rattle.dubp_lines.proofs.Loops.{behind, behind_more, behind_all, behind_refused, line_shrinks, entries_step, entries_stop, entries_refused}
 use Rattle.dubp_block.specs.Reading.{section_at}
 use Rattle.dubp_block.proofs.Refusing.{refuses_on}
 use Rattle.dubp_block.proofs.sections.take_section.Goals as goal

@@ -1,8 +1,8 @@
-use Rattle.std.proofs.Common.{◌≡◌, ℕ, Bool, List, ap, sym, ◌∙◌}
+use Rattle.std.proofs.Common.{ℕ, Bool, List, ap, sym, ◌∙◌}
 use Rattle.std.specs.Prelude.{not, codes}
 use Rattle.std.proofs.lemmas.Result.{err_from_is_err_and}
 use Rattle.dubp_lines.specs.Taking.{line_at, just, next_passes, begins_with}
-use Rattle.dubp_lines.specs.Readers.{Reader, entries, and_then}
+use Rattle.dubp_lines.specs.Readers.{Reader, entries}
 use Rattle.dubp_lines.proofs.Readers.{goes, halts}
 use Rattle.dubp_lines.proofs.Loops.{behind, behind_more, behind_all, behind_refused, entries_step, entries_stop, entries_refused}
 use Rattle.dubp_cond.specs.declared.tx.Tx.{Tx}
