@@ -8,7 +8,6 @@ use crate::entries::{add_field, add_line, add_values};
 use arrayvec::ArrayVec;
 use dubp_atoms::{Items, Line, TextSink, put_bytes, put_number};
 use dubp_cond::Tx;
-use dubp_lines::put_line;
 
 /// Adds the lines of the transactions, one transaction behind the other.
 pub fn add_transactions<S: TextSink>(
@@ -47,7 +46,8 @@ fn add_first_line<S: TextSink>(out: &mut S, tx: &Tx) -> Result<(), S::Refusal>
 {
     let mut line: Line = ArrayVec::new();
     put_first_line(tx, &mut line);
-    put_line(out, line.as_slice())
+    put_bytes(&mut line, b"\n");
+    out.put(line.as_slice())
 }
 
 // Appends how many lines of each kind a transaction has, and its locktime.
@@ -74,7 +74,7 @@ fn put_first_line(tx: &Tx, out: &mut Line)
 fn has_comment(comment: &Items<u8>) -> u128
     ensures { result ≡ has_comment_of comment.now }
 {
-    if comment.is_empty() { 0 } else { 1 }
+    u128::from(!comment.is_empty())
 }
 
 // Adds the line of a comment, where it is not empty.
