@@ -1,4 +1,5 @@
 pub mod AddsLines
+pub mod Examples
 pub mod Parts
 pub mod Sections
 pub mod Text

@@ -8,7 +8,6 @@ use crate::entries::{add_field, add_line, add_values};
 use arrayvec::ArrayVec;
 use dubp_atoms::{Items, Line, TextSink, put_bytes, put_number};
 use dubp_cond::Tx;
-use dubp_lines::put_line;
 
 /// Adds the lines of the transactions, one transaction behind the other.
 pub fn add_transactions<S: TextSink>(
@@ -29,7 +28,7 @@ pub fn add_transaction<S: TextSink>(out: &mut S, tx: &Tx) -> Result<(), S::Refus
     requires { IsTx tx.now }
     ensures { OnOk result (AddsLines S.has out.old out.new (compact_lines tx.now)) }
 {
-    add_counts(out, tx)?;
+    add_first_line(out, tx)?;
     add_field(out, b"", &tx.stamp)?;
     add_values(out, &tx.issuers)?;
     add_values(out, &tx.inputs)?;
@@ -42,16 +41,17 @@ pub fn add_transaction<S: TextSink>(out: &mut S, tx: &Tx) -> Result<(), S::Refus
 
 // Adds the first line of a transaction.
 #[tactic(auto, using(crate::proofs::Added::one_line))]
-fn add_counts<S: TextSink>(out: &mut S, tx: &Tx) -> Result<(), S::Refusal>
+fn add_first_line<S: TextSink>(out: &mut S, tx: &Tx) -> Result<(), S::Refusal>
     ensures { OnOk result (AddsLines S.has out.old out.new (tx_line tx.now ∷ [])) }
 {
     let mut line: Line = ArrayVec::new();
-    put_counts(tx, &mut line);
-    put_line(out, line.as_slice())
+    put_first_line(tx, &mut line);
+    put_bytes(&mut line, b"\n");
+    out.put(line.as_slice())
 }
 
 // Appends how many lines of each kind a transaction has, and its locktime.
-fn put_counts(tx: &Tx, out: &mut Line)
+fn put_first_line(tx: &Tx, out: &mut Line)
     requires { array_vec_len out.old + 300 ≤ 2048 }
     ensures text { out.new.items ≡ out.old.items ++ tx_line tx.now }
     ensures room { array_vec_len out.new ≤ array_vec_len out.old + 300 }
@@ -74,7 +74,7 @@ fn put_counts(tx: &Tx, out: &mut Line)
 fn has_comment(comment: &Items<u8>) -> u128
     ensures { result ≡ has_comment_of comment.now }
 {
-    if comment.is_empty() { 0 } else { 1 }
+    u128::from(!comment.is_empty())
 }
 
 // Adds the line of a comment, where it is not empty.

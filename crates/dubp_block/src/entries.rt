@@ -30,7 +30,8 @@ pub fn add_field<T: PutText, S: TextSink>(
     let mut line: Line = ArrayVec::new();
     put_bytes(&mut line, name);
     value.put_text(&mut line);
-    put_line(out, line.as_slice())
+    put_bytes(&mut line, b"\n");
+    out.put(line.as_slice())
 }
 
 /// Adds a line for each value.

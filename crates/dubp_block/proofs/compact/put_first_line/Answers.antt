@@ -2,7 +2,7 @@ use Rattle.std.proofs.Common.{◌≡◌, ℕ, List, ◌∷◌, ◌++◌, append_
 use Rattle.std.specs.Prelude.{codes}
 use Rattle.dubp_atoms.specs.Letters.{COLON}
 use Rattle.dubp_block.specs.Sections.{has_comment}
-use Rattle.dubp_block.proofs.compact.put_counts.Goals as goal
+use Rattle.dubp_block.proofs.compact.put_first_line.Goals as goal
 
 nested_right : (o t a b c d e f : List ℕ) → ((((((((((((o ++ t) ++ a) ++ codes ":") ++ b) ++ codes ":") ++ c) ++ codes ":") ++ d) ++ codes ":") ++ e) ++ codes ":") ++ f) ≡ o ++ (t ++ (a ++ COLON ∷ (b ++ COLON ∷ (c ++ COLON ∷ (d ++ COLON ∷ (e ++ COLON ∷ f))))))
 nested_right o t a b c d e f = simp append_assoc
