@@ -6,7 +6,7 @@
 //! ```text
 //! let block = read_block(alloc, text)?;
 //! let stamp = stamp_of(&block);
-//! let is_right = block.inner_hash == inner_hash(alloc, &block)?;
+//! let is_right = block.inner_hash == inner_hash_of(&block);
 //! ```
 #![tactic(auto)]
 

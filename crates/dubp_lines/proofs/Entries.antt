@@ -155,6 +155,7 @@ module _ {A : Type 0} (stops : Rows → Bool) (r : Reader A) (s : A → Rows) (G
     where
       whole : p.0 ≡ (s a ++ y.taken) ++ y.rest
       whole = f.lines ∙ ap (λ z. s a ++ z) y.lines ∙ sym (append_assoc (s a) y.taken y.rest)
+
       at_bound : (m : ℕ) (l : List ℕ) (ks ks' : Rows) (t : List ℕ) → y.rest ≡ l ∷ ks → length ((s a ++ y.taken) ++ l ∷ ks') < m → many m stops r ((s a ++ y.taken) ++ l ∷ ks', t) ≡ Err (suc (length ks'))
       at_bound zero l ks ks' t at lt = absurd (omega arith)
       at_bound (suc m) l ks ks' t at lt =
@@ -170,9 +171,9 @@ module _ {A : Type 0} (stops : Rows → Bool) (r : Reader A) (s : A → Rows) (G
   refused_by : (n : ℕ) (p : Place) (b : Bool) (m : ℕ) → ((q : Place) (k : ℕ) → length q.0 < n → many n stops r q ≡ Err k → Refused q.0 k) → length p.0 < suc n → stops p.0 ≡ b → chosen n b p ≡ Err m → Refused p.0 m
   refused_by n p true m later lt e g = absurd cc
   refused_by n p false m later lt e g = elim (stopped r (λ a. and_then (many n stops r) (λ vs. gives (a ∷ vs))) p m g) [
-      | inl h ↦ refused_first p m e (x.refused p m h)
-      | inr w ↦ behind w (stopped (many n stops r) (λ vs. gives (w.value ∷ vs)) w.place m w.then)
-    ]
+    | inl h ↦ refused_first p m e (x.refused p m h)
+    | inr w ↦ behind w (stopped (many n stops r) (λ vs. gives (w.value ∷ vs)) w.place m w.then)
+  ]
     where
       behind : (w : Went r (λ a. and_then (many n stops r) (λ vs. gives (a ∷ vs))) p (Err m)) → (many n stops r w.place ≡ Err m) ⊎ Went (many n stops r) (λ vs. gives (w.value ∷ vs)) w.place (Err m) → Refused p.0 m
       behind w (inl h) =

@@ -125,9 +125,9 @@ module _ {A B : Type 0} (r : Reader A) (f : A → Reader B) (s : A → Rows) (G 
 
   behind_refused : (p : Place) (n : ℕ) → and_then r f p ≡ Err n → Refusal (and_then r f) spell Good p.0 n
   behind_refused p n e = elim (stopped r f p n e) [
-      | inl h ↦ at_first (first.refused p n h)
-      | inr w ↦ at_next w (first.found p w.value w.place w.first)
-    ]
+    | inl h ↦ at_first (first.refused p n h)
+    | inr w ↦ at_next w (first.found p w.value w.place w.first)
+  ]
     where
       at_first : Refusal r s G p.0 n → Refusal (and_then r f) spell Good p.0 n
       at_first x =
@@ -143,6 +143,7 @@ module _ {A B : Type 0} (r : Reader A) (f : A → Reader B) (s : A → Rows) (G 
             begins = spelled x.value y.value y.is ∙ ap (λ z. z ++ u y.value) x.begins ∙ append_assoc x.taken x.more (u y.value);
             local = λ l ks ks' t at. halts r f (x.taken ++ l ∷ ks', t) (suc (length ks')) (x.local l ks ks' t at);
           }
+
       at_next : (w : Went r f p (Err n)) → Reading r s G p w.value w.place → Refusal (and_then r f) spell Good p.0 n
       at_next w fa =
           let a = w.value in
@@ -287,6 +288,7 @@ just_spelled text clear = record {
     just_by : (line a : List ℕ) (b : Bool) → cond b (Some line) None ≡ Some a → line ≡ a
     just_by line a true e = cc
     just_by line a false e = absurd cc
+
     just_is : (line a : List ℕ) → just text line ≡ Some a → line ≡ a
     just_is line a e = just_by line a (same_line text line) e
 

@@ -9,13 +9,13 @@
 --   G69   member_is_certified, joiner_is_certified    stranger_is_certified, excluded_is_certified
 --   G70   who_stays_is_certified      who_leaves_is_certified, who_left_before_is_certified
 --   G71   certified_again, ended_before_version_11    certified_too_soon, certified_again_before, made_no_later
---   G72   certification_signed        certification_unsigned, stranger_certified_by_signature
+--   G72   certification_signed, certification_signed_on_chain     certification_unsigned, stranger_certified_by_signature
 --   G79   enough_received             too_few_received, none_received
 --   G76   all_must_reach               more_than_all, stranger_joins_from_afar; steps are tried in `Reaches`: reached_in_two_steps,
 --         not_reached_in_one
 --   G85   excludes_only_revoked       excludes_another
 --   G86   excludes_revoked            does_not_exclude_revoked
-use Rattle.std.specs.Prelude.{◌≡◌, ℕ, ◌*◌, ◌≤◌, List, [], ◌∷◌, ◌++◌, codes, count_by, true, false, Bool, IsTrue}
+use Rattle.std.specs.Prelude.{◌≡◌, ℕ, ◌*◌, ◌≤◌, List, [], ◌∷◌, ◌++◌, codes, take, count_by, true, false, Bool, IsTrue}
 use Rattle.std.specs.Fmt.{digits}
 use Rattle.std.specs.List.{Contains, AllByRecursion}
 use Rattle.std.proofs.Common.{refl, sym, subst, ap, zero, suc, arith}
@@ -26,6 +26,7 @@ use Rattle.dubp_atoms.specs.Hashing.{hash_of}
 use Rattle.dubp_atoms.specs.Walks.{Reaches, IsWalk}
 use Rattle.dubp_lines.specs.Lines.{unlines}
 use Rattle.dubp_docs.specs.Spelling.{signed_text as signed_document}
+use Rattle.dubp_block.specs.Text.{block_hash_of}
 use Rattle.dubp_block.specs.declared.block.Block.{Block}
 use Rattle.dubp_block.specs.declared.block.MemberLine.{MemberLine}
 use Rattle.dubp_block.specs.declared.block.CertLine.{CertLine}
@@ -191,6 +192,14 @@ signing_first = record block0 { certifications = certifies key0 key2 0 ∷ [] }
 certification_signed : Holds (record { key = key0; hash = hash_of (unlines certification_lines); sig = unread } ∷ []) [] signing_first G72
 unfolding signed_document digits
 certification_signed = ((0, omega arith, refl), tt)
+
+-- on a chain the document names the block by its hash
+abbrev stamped_lines : List (List ℕ)
+stamped_lines = take 8 certification_lines ++ (codes "CertTimestamp: 0-" ++ block_hash_of block0) ∷ []
+
+certification_signed_on_chain : Holds (record { key = key0; hash = hash_of (unlines stamped_lines); sig = unread } ∷ []) one_block to_key2 G72
+unfolding signed_document digits
+certification_signed_on_chain = ((0, omega arith, refl), tt)
 
 certification_unsigned : ¬ Holds [] [] signing_first G72
 certification_unsigned h = nothing_there _ h.0
