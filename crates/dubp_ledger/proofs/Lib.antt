@@ -1,2 +1,3 @@
-pub mod Firsts
-pub mod FirstHeads
+pub mod Orders
+pub mod Chains
+pub mod Growing

@@ -1,1 +1,3 @@
+pub mod ReadRules
 pub mod States
+pub mod KeptChain

@@ -1,30 +1,77 @@
-ghost use Rattle.std.specs.Prelude.{◌≡◌, ◌↔◌, ◌∷◌, [], IsTrue};
-ghost use Rattle.dubp_block.specs.Text.{IsBlock, block_hash_of};
-ghost use Rattle.dubp_chain.specs.Heads.{head_of};
-ghost use Rattle.dubp_replay.specs.BuiltRules.{IsBuilt};
-ghost use Rattle.dubp_validity.specs.LocalRules.{InnerHashIsRight};
-ghost use Rattle.dubp_ledger.specs.States.{HasNoLines};
+ghost use Rattle.std.specs.Prelude.{◌≡◌, ◌≤◌, ◌↔◌, ℕ, IsTrue, None, option_copied, reverse};
+ghost use Rattle.dubp_block.specs.declared.block.Block.{Block as BlockValue};
+ghost use Rattle.dubp_chain.specs.Chains.{first_block};
+ghost use Rattle.dubp_chain.specs.Heads.{next_head};
+ghost use Rattle.dubp_validity.specs.HeadRules.{CurrencyAndVersionFit, NumberIsNext, PreviousHashIsRight, PreviousIssuerIsRight};
+ghost use Rattle.dubp_head.specs.HeadsStates.{AreOver};
+ghost use Rattle.dubp_ledger.specs.KeptChain.{IsKept};
+ghost use Rattle.dubp_ledger.specs.ReadRules.{HasNoLines};
 
-use dubp_atoms::Hash;
-use dubp_block::{Block, inner_hash_of};
-use dubp_replay::Head;
+use dubp_block::Block;
+use dubp_chain::Head;
+use dubp_head::Heads;
+use dubp_params::Params;
 
-/// Whether InnerHash is the hash of the text before it: rule `L01`. It takes no memory.
-pub fn inner_hash_is_right(block: &Block) -> bool
-    requires { IsBlock block.now }
-    ensures { IsTrue result ↔ InnerHashIsRight block.now }
+// The blocks of a chain stand oldest first here; contracts speak of the chain, which is these blocks turned round.
+
+/// Number is the length of the chain: rule `G51`.
+pub fn number_is_next(blocks: &[Block], block: &Block) -> bool
+    ensures { IsTrue result ↔ NumberIsNext (reverse blocks.now) block.now }
 {
-    block.inner_hash == inner_hash_of(block)
+    block.number == blocks.len() as u64
 }
 
-/// Whether the block is of the form that is built: a first block without a dividend and without lines in its sections.
-pub fn is_built(block: &Block) -> bool
-    ensures { IsTrue result ↔ IsBuilt block.now }
+/// The chain is empty, or PreviousHash is the hash of its last block: rule `G52`.
+pub fn previous_hash_is_right(blocks: &[Block], heads: &Heads, block: &Block) -> bool
+    requires { IsKept (reverse blocks.now) heads.now }
+    ensures { IsTrue result ↔ PreviousHashIsRight (reverse blocks.now) block.now }
 {
-    block.number == 0 && block.dividend.is_none() && has_no_lines(block)
+    match (heads.last(), &block.previous) {
+        (None, _) => true,
+        (Some(head), Some((hash, _))) => *hash == head.hash,
+        (Some(_), None) => false,
+    }
 }
 
-fn has_no_lines(block: &Block) -> bool
+/// The chain is empty, or PreviousIssuer is the issuer of its last block: rule `G53`.
+pub fn previous_issuer_is_right(blocks: &[Block], heads: &Heads, block: &Block) -> bool
+    requires { IsKept (reverse blocks.now) heads.now }
+    ensures { IsTrue result ↔ PreviousIssuerIsRight (reverse blocks.now) block.now }
+{
+    match (heads.last(), &block.previous) {
+        (None, _) => true,
+        (Some(head), Some((_, issuer))) => *issuer == head.issuer,
+        (Some(_), None) => false,
+    }
+}
+
+/// The chain is empty, or Currency is that of its first block and Version is not below that of its last: rule `G49`.
+pub fn currency_and_version_fit(blocks: &[Block], heads: &Heads, block: &Block) -> bool
+    requires { IsKept (reverse blocks.now) heads.now }
+    ensures { IsTrue result ↔ CurrencyAndVersionFit (reverse blocks.now) block.now }
+{
+    match (first_of(blocks), heads.last()) {
+        (Some(first), Some(head)) => fits_between(first, head, block),
+        _ => true,
+    }
+}
+
+fn fits_between(first: &Block, last: &Head, block: &Block) -> bool
+    ensures { IsTrue result ↔ ((block.now.currency ≡ first.now.currency) × (last.now.version ≤ block.now.version)) }
+{
+    block.currency == first.currency && last.version <= block.version
+}
+
+/// The first block of the chain.
+#[tactic(auto, using(crate::proofs::Chains::first_turned))]
+pub fn first_of(blocks: &[Block]) -> Option<&Block>
+    ensures { option_copied result ≡ first_block (reverse blocks.now) }
+{
+    blocks.first()
+}
+
+/// Whether no section of the block has a line.
+pub fn has_no_lines(block: &Block) -> bool
     ensures { IsTrue result ↔ HasNoLines block.now }
 {
     block.identities.is_empty()
@@ -37,34 +84,16 @@ fn has_no_lines(block: &Block) -> bool
         && block.transactions.is_empty()
 }
 
-/// The head of the chain of this one block, which has no member, given its hash. It takes no memory.
-pub fn first_head(block: &Block, hash: Hash) -> Option<Head>
-    requires block { IsBlock block.now }
-    requires built { IsBuilt block.now }
-    requires hash { hash ≡ block_hash_of block.now }
-    ensures { result ≡ head_of (block.now ∷ []) }
+/// Whether the next block has no dividend: the time of the next one has not come, or there is no block yet.
+pub fn is_unpaid(heads: &Heads, params: &Params) -> bool
+    requires { AreOver heads.now params.now }
+    ensures { (count : ℕ) (b : BlockValue) → IsTrue result ↔ ((next_head params.now count heads.now.list b).ud ≡ None) }
 {
-    let params = block.params?;
-    Some(Head {
-        version: block.version,
-        number: block.number,
-        hash,
-        issuer: block.issuer,
-        time: block.time,
-        median_time: block.time,
-        frame: 1,
-        frame_var: 0,
-        issuers: 0,
-        pow_min: block.pow_min,
-        diff_number: params.dt_diff_eval,
-        members: 0,
-        dividend: params.ud0,
-        unit_base: 0,
-        mass: 0,
-        mass_reeval: 0,
-        ud_time: params.ud_time0,
-        ud_reeval_time: params.ud_reeval_time0,
-        ud: None,
-        size: 0,
-    })
+    match heads.last() {
+        None => true,
+        Some(head) => {
+            let median = heads.median().unwrap_or(0);
+            head.ud_time > head.median_time.max(median)
+        }
+    }
 }

@@ -1,40 +1,39 @@
-ghost use Rattle.std.specs.Prelude.{◌≡◌, [], IfOk, IfErr, MatchOption, Some, None, IsTrue, ◌↔◌};
+ghost use Rattle.std.specs.Prelude.{◌≡◌, ◌∷◌, [], IfOk, IfErr, MatchOption, Some, None};
 ghost use Rattle.dubp_block.specs.Text.{IsBlock};
-ghost use Rattle.dubp_replay.specs.BuiltRules.{FirstRead, IsBuilt, read_rules};
-ghost use Rattle.dubp_chain.specs.Chains.{block_of_number};
-ghost use Rattle.dubp_validity.specs.HeadRules.{NumberIsNext};
+ghost use Rattle.dubp_chain.specs.Chains.{block_of_number, params as params_of};
 ghost use Rattle.dubp_chain.specs.Heads.{head_of};
-ghost use Rattle.dubp_validity.specs.Rules.{Holds};
-ghost use Rattle.dubp_rules.specs.First.{FirstOf};
+ghost use Rattle.dubp_ledger.specs.ReadRules.{Keeps};
 ghost use Rattle.dubp_ledger.specs.States.{Accepted, HandedBack};
 
-use crate::checks::{first_head, inner_hash_is_right, is_built};
+use crate::judgement::Judgement;
+use crate::judging::judge;
 use crate::refusal::SubmitRefusal;
-use dubp_atoms::{Stamp, Steps};
-use dubp_block::{Block, stamp_of};
-use dubp_replay::Head;
-use dubp_rules::{Rule, first_of};
+use dubp_atoms::{NoMemory, Stamp, Steps};
+use dubp_block::Block;
+use dubp_chain::Head;
+use dubp_head::Heads;
+use dubp_params::Params;
+use dubp_verdict::Verdicts;
 use std::alloc::Global;
 use std::marker::Model;
 use std::sync::ledger::Ledger as StepBook;
 
-/// The chain of accepted blocks.
+/// The chain of accepted blocks, with its heads.
 ///
-/// Contracts see it as a record with the chain, newest block first. Each block of the chain keeps the rules on the blocks
-/// before it.
+/// Contracts see it as a record with the chain, newest block first. Each block of the chain keeps the rules that are read on the
+/// blocks before it.
 #[derive(Drop)]
 pub struct Ledger {
+    alloc: Global,
     // Oldest first.
     blocks: Vec<Block>,
-    head: Option<Head>,
+    heads: Heads,
 }
 
 impl Model for Ledger {
-    ghost use Rattle.std.specs.Prelude.{◌≡◌, reverse};
-    ghost use Rattle.dubp_replay.specs.BuiltRules.{IsAccepted};
-    ghost use Rattle.dubp_chain.specs.Heads.{head_of};
-    ghost use Rattle.dubp_rules.specs.First.{FirstOf};
+    ghost use Rattle.std.specs.Prelude.{reverse};
     ghost use Rattle.dubp_ledger.specs.States.{LedgerState};
+    ghost use Rattle.dubp_ledger.specs.KeptChain.{IsKept};
 
     ghost Value = { LedgerState };
 
@@ -45,7 +44,7 @@ impl Model for Ledger {
 
     ghost view = { λ s. record { chain = reverse s.blocks.items } };
 
-    ghost invariant = { λ s. (s.head ≡ head_of (reverse s.blocks.items)) × IsAccepted (reverse s.blocks.items) };
+    ghost invariant = { λ s. IsKept (reverse s.blocks.items) s.heads };
 }
 
 impl Ledger {
@@ -54,8 +53,9 @@ impl Ledger {
         ensures { result.chain ≡ [] }
     {
         Ledger {
+            alloc,
             blocks: Vec::new(alloc),
-            head: None,
+            heads: Heads::new(alloc),
         }
     }
 
@@ -63,7 +63,7 @@ impl Ledger {
     pub fn head(&self) -> Option<Head>
         ensures { result ≡ head_of self.now.chain }
     {
-        self.head
+        self.heads.last().copied()
     }
 
     /// The block of this number. None exactly where the chain has none. It takes no memory.
@@ -74,83 +74,53 @@ impl Ledger {
     }
 
     /// Accepts the block exactly where it breaks no rule that is read on the chain and is of the form that is built; else names
-    /// the first rule that it breaks, or says that its form is not built.
+    /// the first rule that it breaks, or says that its form is not built, which is asked behind `G51`.
     ///
-    /// On each refusal the block is handed back and the ledger is as before. `NoMemory` where there is no room to keep the
-    /// block. Nothing is counted of the steps yet.
+    /// On each refusal the block is handed back and the ledger is as before. `NoMemory` where there is no memory to check the block
+    /// or to keep it. Nothing is counted of the steps yet.
     pub fn submit<L: StepBook>(
         &mut self,
         block: Block,
+        verdicts: &Verdicts,
         _steps: &mut Steps<L>,
     ) -> Result<Stamp, SubmitRefusal>
         requires { IsBlock block }
-        ensures accepted { IfOk result (λ stamp. Accepted self.old block stamp self.new) }
-        ensures refused { IfErr result (λ refusal. HandedBack self.old block refusal self.new) }
+        ensures accepted { IfOk result (λ stamp. Accepted verdicts.now self.old block stamp self.new) }
+        ensures refused { IfErr result (λ refusal. HandedBack verdicts.now self.old block refusal self.new) }
     {
-        match self.first_broken(&block) {
-            Some(rule) => Err(SubmitRefusal::Refused { rule, block }),
-            None => self.join(block),
+        match judge(self.alloc, &self.blocks, &self.heads, &block, verdicts) {
+            Ok(Judgement::Breaks(rule)) => Err(SubmitRefusal::Refused { rule, block }),
+            Ok(Judgement::Unbuilt) => Err(SubmitRefusal::Unbuilt { block }),
+            Ok(Judgement::Keeps(head, params)) => self.join(block, head, &params, verdicts),
+            Err(NoMemory) => Err(SubmitRefusal::NoMemory { block }),
         }
     }
 
-    // The first rule that the block breaks on the chain.
-    fn first_broken(&self, block: &Block) -> Option<Rule>
-        requires { IsBlock block.now }
-        ensures { FirstRead self.now.chain block.now result }
+    // The block, which breaks no rule, joins the chain, and its head the heads.
+    fn join(
+        &mut self,
+        block: Block,
+        head: Head,
+        params: &Params,
+        verdicts: &Verdicts,
+    ) -> Result<Stamp, SubmitRefusal>
+        requires text { IsBlock block }
+        requires keeps { Keeps verdicts.now self.old.chain block }
+        requires head { Some head ≡ head_of (block ∷ self.old.chain) }
+        requires params { params.now ≡ params_of (block ∷ self.old.chain) }
+        ensures accepted { IfOk result (λ stamp. Accepted verdicts.now self.old block stamp self.new) }
+        ensures refused { IfErr result (λ refusal. HandedBack verdicts.now self.old block refusal self.new) }
     {
-        self.first_found(block)
-    }
-
-    // The same, by going down the rules that are read; the first two hold of each block.
-    fn first_found(&self, block: &Block) -> Option<Rule>
-        requires { IsBlock block.now }
-        ensures { FirstOf (Holds [] self.now.chain block.now) read_rules result }
-    {
-        first_of!(
-            Rule::X01 => true,
-            Rule::P01 => true,
-            Rule::L01 => inner_hash_is_right(block),
-            Rule::G51 => self.number_is_next(block),
-        )
-    }
-
-    // The number of the block is the length of the chain.
-    fn number_is_next(&self, block: &Block) -> bool
-        ensures { IsTrue result ↔ NumberIsNext self.now.chain block.now }
-    {
-        block.number == self.blocks.len() as u64
-    }
-
-    // The block, which breaks no rule, joins the chain where it is of the form that is built.
-    fn join(&mut self, block: Block) -> Result<Stamp, SubmitRefusal>
-        requires block { IsBlock block }
-        requires keeps { FirstRead self.old.chain block None }
-        ensures accepted { IfOk result (λ stamp. Accepted self.old block stamp self.new) }
-        ensures refused { IfErr result (λ refusal. HandedBack self.old block refusal self.new) }
-    {
-        if !is_built(&block) {
-            return Err(SubmitRefusal::Unbuilt { block });
+        let stamp = head.stamp();
+        if let Err(_) = self.blocks.reserve(1) {
+            return Err(SubmitRefusal::NoMemory { block });
         }
-        self.append(block)
-    }
-
-    fn append(&mut self, block: Block) -> Result<Stamp, SubmitRefusal>
-        requires block { IsBlock block }
-        requires built { IsBuilt block }
-        requires keeps { FirstRead self.old.chain block None }
-        ensures accepted { IfOk result (λ stamp. Accepted self.old block stamp self.new) }
-        ensures refused { IfErr result (λ refusal. HandedBack self.old block refusal self.new) }
-    {
-        let stamp = stamp_of(&block);
-        let head = first_head(&block, stamp.hash);
-        match self.blocks.push(block) {
+        match self.heads.push(head, params) {
             Ok(()) => {
-                self.head = head;
+                self.blocks.push_reserved(block);
                 Ok(stamp)
             }
-            Err(failed) => Err(SubmitRefusal::NoMemory {
-                block: failed.value,
-            }),
+            Err(_) => Err(SubmitRefusal::NoMemory { block }),
         }
     }
 }

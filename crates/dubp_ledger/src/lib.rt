@@ -1,18 +1,23 @@
 //! The chain of accepted blocks.
 //!
 //! Contracts see a `Ledger` as its chain, newest block first. `submit` accepts a block exactly where it breaks no rule that is
-//! read on the chain, and else names the first rule that it breaks; a refusal hands the block back and changes nothing.
+//! read on the chain with the verdicts given, and else names the first rule that it breaks; a refusal hands the block back and changes
+//! nothing. Nothing is computed twice: the hash of a block stands in its head. Protocol: chains; rules.
 //!
 //! ```text
 //! let mut ledger = Ledger::new(alloc);
-//! let stamp = ledger.submit(block, &mut steps)?;
+//! let stamp = ledger.submit(block, &verdicts, &mut steps)?;
 //! let head = ledger.head();
 //! ```
 #![tactic(auto)]
 
 mod checks;
+mod judgement;
+mod judging;
+mod laws;
 mod ledger;
 mod refusal;
 
+pub use laws::rules_that_are_read;
 pub use ledger::Ledger;
 pub use refusal::SubmitRefusal;

@@ -6,8 +6,8 @@ use dubp_rules::Rule;
 pub enum SubmitRefusal {
     /// The first rule of the table that the block breaks.
     Refused { rule: Rule, block: Block },
-    /// The block breaks no rule that is read, and is of a form that is not built yet.
+    /// The block keeps the rules up to `G51`, and is of a form that is not built yet.
     Unbuilt { block: Block },
-    /// There was no room to keep the block, which breaks no rule that is read.
+    /// There was no memory to check the block, or to keep it.
     NoMemory { block: Block },
 }

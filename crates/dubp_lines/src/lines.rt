@@ -1,12 +1,13 @@
-ghost use Rattle.std.specs.Prelude.{◌≡◌, ◌≤◌, ◌<◌, ◌^◌, ◌+◌, ◌==◌, count_by, length, List, [], ◌∷◌, IfSome, IfNone, OnErr, drop};
+ghost use Rattle.std.specs.Prelude.{◌≡◌, ◌≤◌, ◌<◌, ◌^◌, ◌+◌, ◌++◌, ◌==◌, count_by, length, List, [], ◌∷◌, IfSome, IfNone, OnErr, drop};
 ghost use Rattle.dubp_atoms.specs.Letters.{LF};
+ghost use Rattle.dubp_atoms.specs.Reading.{Lacks};
 ghost use Rattle.dubp_lines.specs.Lines.{split};
 ghost use Rattle.dubp_lines.specs.Readers.{optional};
 ghost use Rattle.dubp_lines.specs.Taking.{Gives, line_at, just, named, first_at, next_passes, begins_with, same_line};
 
 use crate::reading::ReadText;
 use crate::refusal::Refused;
-use dubp_atoms::cut;
+use memchr::memchr;
 use std::marker::Model;
 
 /// The lines of a text that are not taken yet, and what stands behind the last LF.
@@ -48,7 +49,16 @@ pub fn next_line(text: &[u8]) -> Option<(&[u8], &[u8])>
     ensures some { IfSome result (λ p. split text.now ≡ (p.0.now ∷ (split p.1.now).0, (split p.1.now).1)) }
     ensures none { IfNone result ((split text.now).0 ≡ []) }
 {
-    cut(text, b'\n')
+    cut_line(text)
+}
+
+// What is before the first LF, and what is after it.
+fn cut_line(text: &[u8]) -> Option<(&[u8], &[u8])>
+    ensures found { IfSome result (λ p. Lacks LF p.0.now × (text.now ≡ p.0.now ++ LF ∷ p.1.now)) }
+    ensures none { IfNone result (Lacks LF text.now) }
+{
+    let end = memchr(b'\n', text)?;
+    Some((&text[..end], &text[end + 1..]))
 }
 
 impl<'a> Lines<'a> {

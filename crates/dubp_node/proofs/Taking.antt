@@ -6,11 +6,8 @@ use Rattle.dubp_validity.specs.Rules.{longest_block}
 use Rattle.dubp_node.specs.Entries.{Line, Frame, text_of, IsText, longest_line, HeadsFrame, IsBad}
 use Rattle.dubp_node.proofs.Wholes.{frame_len, whole_line, whole_frame, heads_len, len_heads, heads_none_no_len, heads_short}
 use Rattle.dubp_node.specs.Cut.{BeginsNone}
-use Rattle.dubp_replay.specs.declared.command.Command.{Command}
-use Rattle.dubp_replay.specs.BuiltTurns.{frame_of}
-use Rattle.dubp_script.proofs.Commands.{says_once}
-use Rattle.dubp_node.specs.Reading.{InLongLine, InLongFrame, TakesOne, IsCommandLine}
-use Rattle.dubp_node.specs.declared.item.Item.TheVariants.{Bad, LongFrame as LongFramePast}
+use Rattle.dubp_node.specs.Reading.{InLongLine, InLongFrame, TakesOne}
+use Rattle.dubp_node.specs.declared.item.Item.TheVariants.{LongLine, LongFrame as LongFramePast}
 use Rattle.dubp_node.proofs.Cuts.{text_begins_none, part_begins_none, line_shape, frame_shape}
 
 -- a list at a place
@@ -76,7 +73,7 @@ long_line_passes hand bytes t f = record {
   long = omega (arith, length-append f.gone hand);
 }
 
-pub long_line_ends : (hand bytes : List ℕ) (i : ℕ) → IsText (take i hand) → hand ≡ take i hand ++ LF ∷ drop (i + 1) hand → InLongLine hand bytes → TakesOne bytes (drop (i + 1) hand) Bad
+pub long_line_ends : (hand bytes : List ℕ) (i : ℕ) → IsText (take i hand) → hand ≡ take i hand ++ LF ∷ drop (i + 1) hand → InLongLine hand bytes → TakesOne bytes (drop (i + 1) hand) LongLine
 long_line_ends hand bytes i t e f =
     let text = f.gone ++ take i hand in
     let long : longest_line < length text = omega (arith, length-append f.gone (take i hand)) in
@@ -84,7 +81,7 @@ long_line_ends hand bytes i t e f =
       command = Line text;
       bytes_are = f.bytes_are ∙ ap (λ u. f.gone ++ u) e ∙ sym (append_assoc f.gone (take i hand) (LF ∷ drop (i + 1) hand)) ∙ sym (line_shape text (drop (i + 1) hand));
       whole = whole_line text (is_text-append f.gone (take i hand) f.text t) (long_no_head text long);
-      shows = (text, refl, inl long);
+      shows = (text, refl, long);
     }
 
 -- from the start of a command
@@ -121,16 +118,3 @@ frame_bytes hand bytes behind end len e b within is =
     is ∙ e ∙ ap (λ t. take end hand ++ LF ∷ t) (split_at behind len within)
     ∙ ap (λ t. take end hand ++ LF ∷ (take len behind ++ get_or behind len 0 ∷ t)) after
     ∙ sym (frame_shape (take end hand) (take len behind) (drop (end + len + 2) hand) (get_or behind len 0))
-
--- what is known of a line that is a command
-pub line_heads : {text : List ℕ} {command : Command} {len : ℕ} → IsCommandLine text command (Some len) → HeadsFrame text len
-line_heads {command = command} line = record { command = command; says = line.says; frame_is = line.frame_is }
-
-pub line_short : {text : List ℕ} {command : Command} {len : ℕ} → IsCommandLine text command (Some len) → length text ≤ 22
-line_short {text = text} {len = len} line = heads_short text len (line_heads line)
-
-pub line_heads_none : {text : List ℕ} {command : Command} → IsCommandLine text command None → (len : ℕ) → HeadsFrame text len → ⊥
-line_heads_none {text = text} {command = command} line len h =
-    let same : command ≡ h.command = says_once text command h.command line.says h.says in
-    let differ : None ≡ Some len = sym line.frame_is ∙ ap frame_of same ∙ h.frame_is in
-    cc

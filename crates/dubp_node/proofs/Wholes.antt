@@ -4,7 +4,7 @@ use Rattle.std.specs.Prelude.{codes}
 use Rattle.std.proofs.lemmas.Fmt.{length-decimal-le}
 use Rattle.dubp_replay.specs.declared.command.Command.{Command}
 use Rattle.dubp_replay.specs.declared.command.Command.TheVariants as command
-use Rattle.dubp_replay.specs.BuiltTurns.{frame_of}
+use Rattle.dubp_node.specs.BuiltTurns.{frame_of}
 use Rattle.dubp_script.specs.Spelling.{Says}
 use Rattle.dubp_script.specs.Reading.{command_of}
 use Rattle.dubp_script.proofs.Commands.{command_says, says_command}

@@ -4,19 +4,21 @@ use Rattle.std.specs.Option.{MatchOption}
 use Rattle.dubp_atoms.specs.declared.stamp.Stamp.{Stamp}
 use Rattle.dubp_block.specs.declared.block.Block.{Block}
 use Rattle.dubp_rules.specs.declared.rule.Rule.{Rule}
+use Rattle.dubp_rules.specs.First.{IsFirst}
 use Rattle.dubp_rules.specs.Table.{code_text}
+use Rattle.dubp_validity.specs.Rules.{Holds}
 use Rattle.dubp_replay.specs.Answers.{accepted_answer, no_memory_answer, refused_answer}
-use Rattle.dubp_replay.specs.BuiltRules.{FirstRead}
-use Rattle.dubp_replay.specs.BuiltTurns.{BuiltBlockTurn, Joins}
 use Rattle.dubp_replay.specs.Turns.{State, Only}
+use Rattle.dubp_ledger.specs.ReadRules.{opening_rules}
 use Rattle.dubp_ledger.specs.declared.refusal.SubmitRefusal.{SubmitRefusal}
 use Rattle.dubp_ledger.specs.declared.refusal.SubmitRefusal.TheVariants.{Refused, Unbuilt, NoMemory}
+use Rattle.dubp_node.specs.BuiltTurns.{BuiltBlockTurn, JudgedTurn}
 
--- the block breaks a rule, which is named, or joins the chain
+-- the block breaks a rule up to G51, which is named, or is judged by the rules behind it
 pub record Decision (old : State) (b : Block) (answer : List ℕ) (new : State) : Type 0 where
   pub broken : Option Rule
-  pub first : FirstRead old.chain b broken
-  pub decides : MatchOption broken (Joins old b answer new) (λ rule. Only (refused_answer (code_text rule)) old answer new)
+  pub first : IsFirst (Holds old.verdicts old.chain b) opening_rules broken
+  pub decides : MatchOption broken (JudgedTurn old b answer new) (λ rule. Only (refused_answer (code_text rule)) old answer new)
 
 -- or memory ran out
 abbrev pub Decided : State → Block → List ℕ → State → Type 0

@@ -3,7 +3,7 @@
 use Rattle.std.specs.Prelude.{◌≡◌, ◌≢◌, ◌⊎◌, ℕ, ◌<◌, ◌≤◌, List, [], ◌∷◌, ◌++◌, length, Option, Some, None}
 use Rattle.dubp_atoms.specs.Letters.{LF}
 use Rattle.dubp_replay.specs.declared.command.Command.{Command}
-use Rattle.dubp_replay.specs.BuiltTurns.{frame_of}
+use Rattle.dubp_node.specs.BuiltTurns.{frame_of}
 use Rattle.dubp_replay.specs.Turns.{Asked}
 use Rattle.dubp_script.specs.Spelling.{Says}
 

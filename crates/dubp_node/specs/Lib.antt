@@ -1,3 +1,4 @@
+pub mod BuiltTurns
 pub mod Entries
 pub mod NodeStates
 pub mod Cut

@@ -1,31 +1,15 @@
 -- What the bytes at hand are of the bytes of the input.
-use Rattle.std.specs.Prelude.{◌≡◌, ◌≢◌, ℕ, ◌+◌, ◌<◌, ◌≤◌, List, ◌∷◌, ◌++◌, length, drop, Option, Some, None}
+use Rattle.std.specs.Prelude.{◌≡◌, ◌≢◌, ℕ, ◌+◌, ◌<◌, ◌≤◌, List, ◌∷◌, ◌++◌, length, drop}
 use Rattle.dubp_atoms.specs.Letters.{LF}
 use Rattle.dubp_validity.specs.Rules.{longest_block}
-use Rattle.dubp_replay.specs.declared.command.Command.{Command}
-use Rattle.dubp_replay.specs.BuiltTurns.{frame_of}
-use Rattle.dubp_script.specs.Spelling.{Says}
-use Rattle.dubp_node.specs.Entries.{Entry, Line, Frame, text_of, IsWhole, IsText, IsBad, HeadsFrame, longest_line}
+use Rattle.dubp_node.specs.Entries.{Entry, Line, Frame, text_of, IsWhole, IsText, HeadsFrame, longest_line}
 use Rattle.dubp_node.specs.Cut.{BeginsNone}
 use Rattle.dubp_node.specs.declared.item.Item.{Item}
 use Rattle.dubp_node.specs.declared.item.Item.TheVariants as item
-use Rattle.dubp_node.specs.declared.item.LineKind.{LineKind}
-use Rattle.dubp_node.specs.declared.item.LineKind.TheVariants as kind
 use Rattle.dubp_node.specs.declared.reading.Phase.{Phase}
 use Rattle.dubp_node.specs.declared.reading.Phase.TheVariants.{Start, LongLine, LongFrame}
 use Rattle.dubp_node.specs.declared.reading.Found.{Found}
 use Rattle.dubp_node.specs.declared.reading.Found.TheVariants.{Got, Pass, Wait}
-
--- the line is this command, and so many raw bytes stand behind it
-pub record IsCommandLine (text : List ℕ) (command : Command) (frame : Option ℕ) : Type 0 where
-  pub fits : length text ≤ longest_line
-  pub says : Says text command
-  pub frame_is : frame_of command ≡ frame
-
-abbrev pub IsKind : List ℕ → LineKind → Type 0
-IsKind text kind.Bad = IsBad text
-IsKind text (kind.Asks command) = IsCommandLine text command None
-IsKind text (kind.Heads command len) = IsCommandLine text command (Some len)
 
 -- the bytes are a part of a line that is too long, of which the last are at hand
 pub record InLongLine (hand bytes : List ℕ) : Type 0 where
@@ -51,16 +35,11 @@ Stands Start hand bytes = bytes ≡ hand
 Stands LongLine hand bytes = InLongLine hand bytes
 Stands (LongFrame left) hand bytes = InLongFrame left hand bytes
 
--- the frame of this command has these raw bytes
-pub record IsFramed (command : Command) (head payload : List ℕ) : Type 0 where
-  pub says : Says head command
-  pub frame_is : frame_of command ≡ Some (length payload)
-
 -- what is at hand of an entry, or was read past, is of this entry
 abbrev pub Shows : Item → Entry → Type 0
-Shows item.Bad entry = (text : List ℕ) × (entry ≡ Line text) × IsBad text
-Shows (item.Asked command) entry = (text : List ℕ) × (entry ≡ Line text) × IsCommandLine text command None
-Shows (item.Frame command payload last) entry = (head : List ℕ) × (entry ≡ Frame head payload.now last) × IsFramed command head payload.now × (length payload.now ≤ longest_block)
+Shows item.LongLine entry = (text : List ℕ) × (entry ≡ Line text) × (longest_line < length text)
+Shows (item.Line text) entry = entry ≡ Line text.now
+Shows (item.Frame payload last) entry = (head : List ℕ) × (entry ≡ Frame head payload.now last) × HeadsFrame head (length payload.now) × (length payload.now ≤ longest_block)
 Shows (item.LongFrame last) entry = (head : List ℕ) × (payload : List ℕ) × (entry ≡ Frame head payload last) × HeadsFrame head (length payload) × (longest_block < length payload)
 
 -- the bytes begin with the entry that the item shows

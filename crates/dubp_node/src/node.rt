@@ -1,4 +1,4 @@
-ghost use Rattle.std.specs.Prelude.{◌≡◌, ◌++◌, [], codes, length, ◌≤◌};
+ghost use Rattle.std.specs.Prelude.{◌≡◌, ◌++◌, [], codes, length, ◌≤◌, ℕ, List};
 ghost use Rattle.dubp_node.specs.Turns.{Acts};
 ghost use Rattle.dubp_query.specs.AnswerBytes.{answer_bytes};
 ghost use Rattle.dubp_replay.specs.Answers.{accepted_answer, bad_answer, no_memory_answer, refused_answer, unread_answer};
@@ -6,16 +6,17 @@ ghost use Rattle.dubp_block.specs.Text.{IsBlock};
 ghost use Rattle.dubp_validity.specs.Rules.{longest_block};
 ghost use Rattle.dubp_node.specs.Deciding.{ShortBlockActs, Decided, outcome_text};
 ghost use Rattle.dubp_replay.specs.Turns.{start};
-ghost use Rattle.dubp_replay.specs.declared.command.Command.TheVariants.{Block as BlockCommand};
+ghost use Rattle.dubp_replay.specs.declared.command.Command.TheVariants.{Block as BlockCommand, Verdict as VerdictCommand};
 ghost use Rattle.dubp_rules.specs.Table.{code_text};
 
 use arrayvec::ArrayVec;
-use dubp_atoms::{Line, Stamp, Steps, put_bytes, put_number};
+use dubp_atoms::{Hash, Key, Line, Sig, Stamp, Steps, put_bytes, put_number};
 use dubp_block::{Block, ReadRefusal, read_block};
 use dubp_ledger::{Ledger, SubmitRefusal};
 use dubp_query::{Answer, Query, head_line};
 use dubp_replay::Command;
 use dubp_rules::{Rule, code};
+use dubp_verdict::Verdicts;
 use std::alloc::Global;
 use std::marker::Model;
 use std::sync::ledger::Ledger as StepBook;
@@ -26,10 +27,11 @@ pub const LONGEST_BLOCK: usize = 1_048_576;
 /// The node: it answers commands, one after another.
 ///
 /// Contracts see the state that its answers depend on: the chain of accepted blocks, how many of them can be reversed, the
-/// verdicts and the stored blocks. It has no verdicts and stores no block yet.
+/// verdicts and the stored blocks. It stores no block yet.
 #[derive(Drop)]
 pub struct Node {
     alloc: Global,
+    verdicts: Verdicts,
     ledger: Ledger,
 }
 
@@ -45,7 +47,7 @@ impl Model for Node {
 
     ghost use Rattle.dubp_node.specs.NodeStates.{node_state};
 
-    ghost view = { λ n. node_state n.ledger };
+    ghost view = { λ n. node_state n.verdicts n.ledger };
 }
 
 impl Node {
@@ -55,6 +57,7 @@ impl Node {
     {
         Node {
             alloc,
+            verdicts: Verdicts::new(alloc),
             ledger: Ledger::new(alloc),
         }
     }
@@ -73,9 +76,20 @@ impl Node {
         ensures { Acts self.old command.now frame.now (answer_bytes result) self.new }
     {
         match command {
+            Command::Verdict { key, hash, sig } => self.note(*key, *hash, *sig),
             Command::Block { len } => self.act_block(*len, frame, steps),
             Command::Ask(Query::Head) => Answer::One(head_line(&self.ledger)),
             _ => bad(),
+        }
+    }
+
+    // The verdict joins those that were given; a repeat changes nothing.
+    fn note(&mut self, key: Key, hash: Hash, sig: Sig) -> Answer
+        ensures { (frame : List ℕ) → Acts self.old (VerdictCommand key hash sig) frame (answer_bytes result) self.new }
+    {
+        match self.verdicts.add(key, hash, sig) {
+            Ok(()) => one(b"NOTED\n"),
+            Err(_) => one(b"NOMEM\n"),
         }
     }
 
@@ -102,7 +116,7 @@ impl Node {
         requires { IsBlock block }
         ensures { Decided self.old block (answer_bytes result) self.new }
     {
-        outcome_answer(self.ledger.submit(block, steps))
+        outcome_answer(self.ledger.submit(block, &self.verdicts, steps))
     }
 }
 

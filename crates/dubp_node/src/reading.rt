@@ -1,14 +1,12 @@
-ghost use Rattle.std.specs.Prelude.{◌≡◌, ◌+◌, ◌<◌, ◌≤◌, ℕ, List, length, take, drop, MatchOption, ◌∷◌, ◌++◌, Some};
+ghost use Rattle.std.specs.Prelude.{◌≡◌, ◌+◌, ◌<◌, ◌≤◌, ℕ, List, length, take, drop, MatchOption, ◌∷◌, ◌++◌};
 ghost use Rattle.dubp_atoms.specs.Letters.{LF};
 ghost use Rattle.dubp_validity.specs.Rules.{longest_block};
-ghost use Rattle.dubp_replay.specs.BuiltTurns.{frame_of};
-ghost use Rattle.dubp_node.specs.Entries.{IsText};
-ghost use Rattle.dubp_node.specs.Reading.{IsCommandLine, IsKind, Takes};
+ghost use Rattle.dubp_node.specs.Entries.{HeadsFrame, IsText};
+ghost use Rattle.dubp_node.specs.Reading.{Takes};
 
-use crate::item::{Item, LineKind};
+use crate::item::Item;
 use crate::node::LONGEST_BLOCK;
-use dubp_replay::Command;
-use dubp_script::read_command;
+use dubp_script::block_len;
 use memchr::memchr;
 
 /// The longest line that is read, without its LF.
@@ -43,30 +41,11 @@ pub fn line_end(hand: &[u8]) -> Option<usize>
     memchr(b'\n', hand)
 }
 
-/// What a line is.
-pub fn read_line(line: &[u8]) -> LineKind
-    ensures { IsKind line.now result }
+/// How many raw bytes stand behind this line, where it heads a frame.
+pub fn frame_len(line: &[u8]) -> Option<u64>
+    ensures { MatchOption result ((len : ℕ) → HeadsFrame line.now len → ⊥) (HeadsFrame line.now) }
 {
-    if line.len() > LONGEST_LINE {
-        return LineKind::Bad;
-    }
-    match read_command(line) {
-        None => LineKind::Bad,
-        Some(command) => match frame_len(&command) {
-            None => LineKind::Asks(command),
-            Some(len) => LineKind::Heads(command, len),
-        },
-    }
-}
-
-// How many raw bytes stand behind the line of a command, where it heads a frame.
-fn frame_len(command: &Command) -> Option<u64>
-    ensures { result ≡ frame_of command.now }
-{
-    match command {
-        Command::Block { len } => Some(*len),
-        _ => None,
-    }
+    block_len(line)
 }
 
 /// What the bytes at hand begin with.
@@ -89,29 +68,29 @@ fn take_first<'a>(hand: &'a [u8]) -> Found<'a>
         }
         return Found::Wait;
     };
-    match read_line(&hand[..end]) {
-        LineKind::Bad => Found::Got(end + 1, Item::Bad),
-        LineKind::Asks(command) => Found::Got(end + 1, Item::Asked(command)),
-        LineKind::Heads(command, len) => take_frame(hand, end, command, len),
+    let line = &hand[..end];
+    match frame_len(line) {
+        None => Found::Got(end + 1, Item::Line(line)),
+        Some(len) => take_frame(hand, end, len),
     }
 }
 
-fn take_frame<'a>(hand: &'a [u8], end: usize, command: Command, len: u64) -> Found<'a>
+fn take_frame<'a>(hand: &'a [u8], end: usize, len: u64) -> Found<'a>
     requires line { IsText (take end hand.now) × (hand.now ≡ take end hand.now ++ LF ∷ drop (end + 1) hand.now) }
     requires within { end < length hand.now }
-    requires head { IsCommandLine (take end hand.now) command (Some len) }
+    requires head { HeadsFrame (take end hand.now) len }
     ensures { Takes Phase.Start hand.now result }
 {
     if len > LONGEST_BLOCK as u64 {
         return Found::Pass(end + 1, Phase::LongFrame(len + 1));
     }
-    take_short_frame(hand, end, command, len as usize)
+    take_short_frame(hand, end, len as usize)
 }
 
-fn take_short_frame<'a>(hand: &'a [u8], end: usize, command: Command, len: usize) -> Found<'a>
+fn take_short_frame<'a>(hand: &'a [u8], end: usize, len: usize) -> Found<'a>
     requires line { IsText (take end hand.now) × (hand.now ≡ take end hand.now ++ LF ∷ drop (end + 1) hand.now) }
     requires within { end < length hand.now }
-    requires head { IsCommandLine (take end hand.now) command (Some len) }
+    requires head { HeadsFrame (take end hand.now) len }
     requires fits { len ≤ longest_block }
     ensures { Takes Phase.Start hand.now result }
 {
@@ -119,17 +98,14 @@ fn take_short_frame<'a>(hand: &'a [u8], end: usize, command: Command, len: usize
     if behind.len() <= len {
         return Found::Wait;
     }
-    Found::Got(
-        end + len + 2,
-        Item::Frame(command, &behind[..len], behind[len]),
-    )
+    Found::Got(end + len + 2, Item::Frame(&behind[..len], behind[len]))
 }
 
 fn end_long_line<'a>(hand: &'a [u8]) -> Found<'a>
     ensures { Takes Phase.LongLine hand.now result }
 {
     match line_end(hand) {
-        Some(end) => Found::Got(end + 1, Item::Bad),
+        Some(end) => Found::Got(end + 1, Item::LongLine),
         None if hand.is_empty() => Found::Wait,
         None => Found::Pass(hand.len(), Phase::LongLine),
     }

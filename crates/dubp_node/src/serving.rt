@@ -7,16 +7,17 @@ ghost use Rattle.dubp_node.specs.Turns.{EntryTurn};
 ghost use Rattle.dubp_query.specs.AnswerBytes.{answer_bytes};
 ghost use Rattle.dubp_replay.specs.Turns.{State};
 ghost use Rattle.dubp_node.specs.Session.{Broke};
-ghost use Rattle.dubp_node.specs.Reading.{IsFramed, Shows, Stands, most_at_hand};
+ghost use Rattle.dubp_node.specs.Reading.{Shows, Stands, most_at_hand};
 ghost use Rattle.dubp_node.specs.Serving.{TurnWritten, TurnBroke, ServedAll, Finished};
 
-use crate::item::{Item, LineKind};
+use crate::item::Item;
 use crate::node::{Node, bad, refused};
-use crate::reading::{Found, Phase, line_end, read_line, take_one};
+use crate::reading::{Found, LONGEST_LINE, Phase, frame_len, line_end, take_one};
 use dubp_atoms::Steps;
 use dubp_outside::{Failed, Sink, write_whole};
 use dubp_query::Answer;
 use dubp_replay::Command;
+use dubp_script::read_command;
 use std::sync::ledger::Ledger as StepBook;
 
 /// The node takes its turn, and the answer is written.
@@ -39,26 +40,40 @@ fn answer_item<L: StepBook>(node: &mut Node, item: Item<'_>, steps: &mut Steps<L
     ensures { (entry : Entry) → IsWhole entry → Shows item.entry entry → EntryTurn node.old entry (answer_bytes result) node.new }
 {
     match item {
-        Item::Bad => bad(),
-        Item::Asked(command) => node.act(&command, b"".as_slice(), steps),
-        Item::Frame(command, frame, last) => answer_frame(node, &command, frame, last, steps),
+        Item::LongLine => bad(),
+        Item::Line(line) => answer_line(node, line, steps),
+        Item::Frame(frame, last) => answer_frame(node, frame, last, steps),
         Item::LongFrame(last) => answer_long_frame(last),
+    }
+}
+
+fn answer_line<L: StepBook>(node: &mut Node, line: &[u8], steps: &mut Steps<L>) -> Answer
+    ensures { IsWhole (line_entry line.now) → EntryTurn node.old (line_entry line.now) (answer_bytes result) node.new }
+{
+    if line.len() > LONGEST_LINE {
+        return bad();
+    }
+    match read_command(line) {
+        None => bad(),
+        Some(command) => node.act(&command, b"".as_slice(), steps),
     }
 }
 
 fn answer_frame<L: StepBook>(
     node: &mut Node,
-    command: &Command,
     frame: &[u8],
     last: u8,
     steps: &mut Steps<L>,
 ) -> Answer
-    ensures { (head : List ℕ) → IsFramed command.now head frame.now → EntryTurn node.old (frame_entry head frame.now last) (answer_bytes result) node.new }
+    ensures { (head : List ℕ) → HeadsFrame head (length frame.now) → EntryTurn node.old (frame_entry head frame.now last) (answer_bytes result) node.new }
 {
     if last != b'\n' {
         return bad();
     }
-    node.act(command, frame, steps)
+    let command = Command::Block {
+        len: frame.len() as u64,
+    };
+    node.act(&command, frame, steps)
 }
 
 // The frame was read past, and the node is left as it is.
@@ -140,7 +155,7 @@ pub fn finish<K: Sink, L: StepBook>(
     match phase {
         Phase::LongFrame(_) => Ok(InputEnd::InsideFrame),
         Phase::LongLine => {
-            if let Err(failed) = take_turn(node, sink, Item::Bad, steps) {
+            if let Err(failed) = take_turn(node, sink, Item::LongLine, steps) {
                 return Err(failed);
             }
             Ok(InputEnd::OnBoundary)
@@ -176,10 +191,9 @@ fn finish_line<K: Sink, L: StepBook>(
 fn last_item<'a>(line: &'a [u8]) -> Option<Item<'a>>
     ensures { MatchOption result ((len : ℕ) × HeadsFrame line.now len) (λ item. ((len : ℕ) → HeadsFrame line.now len → ⊥) × Shows item (line_entry line.now)) }
 {
-    match read_line(line) {
-        LineKind::Bad => Some(Item::Bad),
-        LineKind::Asks(command) => Some(Item::Asked(command)),
-        LineKind::Heads(_, _) => None,
+    match frame_len(line) {
+        None => Some(Item::Line(line)),
+        Some(_) => None,
     }
 }
 

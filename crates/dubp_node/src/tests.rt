@@ -1,6 +1,6 @@
 use crate::{Node, run_program};
 use dubp_outside::{MemSink, MemSource};
-use std::alloc::{AllocError, Global};
+use std::alloc::Global;
 use std::test::Fail;
 
 // A block of number 0, whose hashes were computed by another program.
@@ -30,14 +30,21 @@ InnerHash: 9880AB695793A40B4291DC5A5FB6FB082B901AFAD5E758E3B1B90168CFFB80B0\n\
 Nonce: 0\n\
 AAAAAAAAAAAAAAAAAAAAAAAAAAAAAAAAAAAAAAAAAAAAAAAAAAAAAAAAAAAAAAAAAAAAAAAAAAAAAAAAAAAAAA==\n";
 
-const OUTPUT: &[u8] =
-    b"NONE\nACCEPTED 0-213EECFB0EEA61A655E64854E92BE5C3C4F3DE3D12DAD82F421E4DFA250CBB36\n\
+const VERDICT: &[u8] = b"VERDICT 1111111111111111111111111111111111111111111 \
+6C90560750ACB11889FE4FC60CE3D13D06E09B6933A3287E5257C36FCDB122A6 \
+AAAAAAAAAAAAAAAAAAAAAAAAAAAAAAAAAAAAAAAAAAAAAAAAAAAAAAAAAAAAAAAAAAAAAAAAAAAAAAAAAAAAAA==\n";
+
+const OUTPUT: &[u8] = b"NONE\nNOTED\n\
+ACCEPTED 0-213EECFB0EEA61A655E64854E92BE5C3C4F3DE3D12DAD82F421E4DFA250CBB36\n\
 HEAD 0-213EECFB0EEA61A655E64854E92BE5C3C4F3DE3D12DAD82F421E4DFA250CBB36 1488987127 0 0 1000 0 0 1 0 0\n\
 REFUSED G51\nREFUSED P01 1\nBAD\n";
 
-// HEAD, the block, HEAD, the block again, a frame that has no line, and a line that is no command and lacks its LF.
-fn input(alloc: Global) -> Result<Vec<u8>, AllocError> {
-    let mut bytes = b"HEAD\nBLOCK 647\n".to_vec(alloc)?;
+// HEAD, the verdict of the block, the block, HEAD, the block again, a frame that has no line, and a line that is no command and lacks
+// its LF.
+fn input(alloc: Global) -> Result<Vec<u8>, Fail> {
+    let mut bytes = b"HEAD\n".to_vec(alloc)?;
+    bytes.extend_from_slice(VERDICT)?;
+    bytes.extend_from_slice(b"BLOCK 647\n")?;
     bytes.extend_from_slice(FIRST_BLOCK)?;
     bytes.extend_from_slice(b"\nHEAD\nBLOCK 647\n")?;
     bytes.extend_from_slice(FIRST_BLOCK)?;
@@ -45,20 +52,54 @@ fn input(alloc: Global) -> Result<Vec<u8>, AllocError> {
     Ok(bytes)
 }
 
+// What a run leaves.
+#[derive(Drop)]
+struct Ran {
+    status: u8,
+    left: usize,
+    held: Vec<u8>,
+}
+
+// Runs a new node over these bytes, which come in pieces of seven, and are answered in pieces of so many. The reads and the writes of these
+// numbers fail.
+fn run_on(
+    alloc: Global,
+    words: &[&str],
+    bytes: Vec<u8>,
+    reads: Vec<u64>,
+    writes: Vec<u64>,
+) -> Result<Ran, Fail> {
+    let most = if writes.is_empty() { 4096 } else { 1 };
+    let mut source = MemSource::new(bytes, 7, reads);
+    let mut sink = MemSink::new(alloc, 4096, most, writes)?;
+    let mut node = Node::new(alloc);
+    let status = run_program(alloc, words, &mut source, &mut sink, &mut node);
+    Ok(Ran {
+        status,
+        left: source.left().len(),
+        held: sink.held().to_vec(alloc)?,
+    })
+}
+
 #[test]
 fn answers_in_small_pieces(rt: HostRuntime) -> Result<(), Fail> {
     let alloc = rt.alloc();
-    let mut source = MemSource::new(input(alloc)?, 7, Vec::new(alloc));
-    let mut sink = MemSink::new(alloc, 4096, 1, Vec::new(alloc))?;
-    let mut node = Node::new(alloc);
-    let status = run_program(alloc, &["run"], &mut source, &mut sink, &mut node);
-    assert_eq!(rt; status, 0);
-    assert_eq!(rt; sink.held(), OUTPUT);
+    let never = vec![in alloc; u64::MAX]?;
+    let ran = run_on(alloc, &["run"], input(alloc)?, Vec::new(alloc), never)?;
+    assert_eq!(rt; ran.status, 0);
+    assert_eq!(rt; ran.held.as_slice(), OUTPUT);
     Ok(())
 }
 
 // Where each whole command of the input ends, and how long the answers up to it are.
-const ENDS: [(usize, usize); 5] = [(5, 5), (663, 81), (668, 183), (1326, 195), (1338, 209)];
+const ENDS: [(usize, usize); 6] = [
+    (5, 5),
+    (211, 11),
+    (869, 87),
+    (874, 189),
+    (1532, 201),
+    (1544, 215),
+];
 
 // The answers of the whole commands among the first bytes of the input.
 fn answers_of(taken: usize) -> &'static [u8] {
@@ -74,13 +115,15 @@ fn answers_of(taken: usize) -> &'static [u8] {
 #[test]
 fn a_failed_read_leaves_the_answers_of_what_was_read(rt: HostRuntime) -> Result<(), Fail> {
     let alloc = rt.alloc();
-    for call in 0..194u64 {
-        let mut source = MemSource::new(input(alloc)?, 7, vec![in alloc; call]?);
-        let mut sink = MemSink::new(alloc, 4096, 4096, Vec::new(alloc))?;
-        let mut node = Node::new(alloc);
-        let status = run_program(alloc, &["run"], &mut source, &mut sink, &mut node);
-        assert_eq!(rt; status, 3, "call {call}");
-        assert_eq!(rt; sink.held(), answers_of(7 * call as usize), "call {call}");
+    for call in 0..224u64 {
+        let reads = vec![in alloc; call]?;
+        let ran = run_on(alloc, &["run"], input(alloc)?, reads, Vec::new(alloc))?;
+        assert_eq!(rt; ran.status, 3, "call {call}");
+        assert_eq!(rt;
+            ran.held.as_slice(),
+            answers_of(7 * call as usize),
+            "call {call}"
+        );
     }
     Ok(())
 }
@@ -89,12 +132,10 @@ fn a_failed_read_leaves_the_answers_of_what_was_read(rt: HostRuntime) -> Result<
 fn each_write_fails(rt: HostRuntime) -> Result<(), Fail> {
     let alloc = rt.alloc();
     for call in 0..OUTPUT.len() {
-        let mut source = MemSource::new(input(alloc)?, 4096, Vec::new(alloc));
-        let mut sink = MemSink::new(alloc, 4096, 1, vec![in alloc; call as u64]?)?;
-        let mut node = Node::new(alloc);
-        let status = run_program(alloc, &["run"], &mut source, &mut sink, &mut node);
-        assert_eq!(rt; status, 5, "call {call}");
-        assert_eq!(rt; sink.held(), &OUTPUT[..call]);
+        let writes = vec![in alloc; call as u64]?;
+        let ran = run_on(alloc, &["run"], input(alloc)?, Vec::new(alloc), writes)?;
+        assert_eq!(rt; ran.status, 5, "call {call}");
+        assert_eq!(rt; ran.held.as_slice(), &OUTPUT[..call]);
     }
     Ok(())
 }
@@ -104,12 +145,10 @@ fn each_cut_inside_a_frame_has_status_4(rt: HostRuntime) -> Result<(), Fail> {
     let alloc = rt.alloc();
     let bytes = b"HEAD\nBLOCK 3\nabc\nHEAD\nBLOCK 0\n\nHEAD";
     for len in 0..bytes.len() {
-        let mut source = MemSource::new(bytes[..len].to_vec(alloc)?, 7, Vec::new(alloc));
-        let mut sink = MemSink::new(alloc, 4096, 4096, Vec::new(alloc))?;
-        let mut node = Node::new(alloc);
-        let status = run_program(alloc, &["run"], &mut source, &mut sink, &mut node);
+        let cut = bytes[..len].to_vec(alloc)?;
+        let ran = run_on(alloc, &["run"], cut, Vec::new(alloc), Vec::new(alloc))?;
         let inside = (len >= 12 && len < 17) || (len >= 29 && len < 31);
-        assert_eq!(rt; status, if inside { 4 } else { 0 }, "at {len}");
+        assert_eq!(rt; ran.status, if inside { 4 } else { 0 }, "at {len}");
     }
     Ok(())
 }
@@ -117,18 +156,13 @@ fn each_cut_inside_a_frame_has_status_4(rt: HostRuntime) -> Result<(), Fail> {
 #[test]
 fn other_words_read_and_write_nothing(rt: HostRuntime) -> Result<(), Fail> {
     let alloc = rt.alloc();
-    let mut source = MemSource::new(b"HEAD\n".to_vec(alloc)?, 7, Vec::new(alloc));
-    let mut sink = MemSink::new(alloc, 4096, 4096, Vec::new(alloc))?;
-    let mut node = Node::new(alloc);
-    let without = run_program(alloc, &[], &mut source, &mut sink, &mut node);
-    assert_eq!(rt; without, 2);
-    let other = run_program(alloc, &["walk"], &mut source, &mut sink, &mut node);
-    assert_eq!(rt; other, 2);
-    let more = run_program(alloc, &["run", "x"], &mut source, &mut sink, &mut node);
-    assert_eq!(rt; more, 2);
-    let generator = run_program(alloc, &["gen", "5", "7"], &mut source, &mut sink, &mut node);
-    assert_eq!(rt; generator, 2);
-    assert_eq!(rt; source.left(), b"HEAD\n".as_slice());
-    assert!(rt; sink.held().is_empty());
+    let rows: [&[&str]; 4] = [&[], &["walk"], &["run", "x"], &["gen", "5", "7"]];
+    for words in rows {
+        let bytes = b"HEAD\n".to_vec(alloc)?;
+        let ran = run_on(alloc, words, bytes, Vec::new(alloc), Vec::new(alloc))?;
+        assert_eq!(rt; ran.status, 2);
+        assert_eq!(rt; ran.left, 5);
+        assert!(rt; ran.held.is_empty());
+    }
     Ok(())
 }

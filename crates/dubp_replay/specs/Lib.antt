@@ -1,4 +1,2 @@
 pub mod Answers
 pub mod Turns
-pub mod BuiltRules
-pub mod BuiltTurns

@@ -9,11 +9,9 @@
 //! ```
 #![tactic(auto)]
 
-mod built;
 mod command;
 mod query;
 
-pub use built::rules_that_are_read;
 pub use command::Command;
 pub use dubp_chain::Head;
 pub use dubp_laws as laws;

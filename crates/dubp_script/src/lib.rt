@@ -15,4 +15,4 @@ mod tests;
 mod words;
 
 pub use dubp_replay::Command;
-pub use reading::read_command;
+pub use reading::{block_len, read_command};

@@ -1,7 +1,8 @@
-ghost use Rattle.std.specs.Prelude.{◌≡◌, IfSome, Some};
-ghost use Rattle.dubp_script.specs.Spelling.{IsCommand, command_text};
+ghost use Rattle.std.specs.Prelude.{◌≡◌, ℕ, IfSome, Some};
+ghost use Rattle.dubp_script.specs.Spelling.{IsCommand, Says, command_text};
 ghost use Rattle.dubp_script.specs.Reading.{command_of, change_of, keyed_of, other_of};
 ghost use Rattle.dubp_replay.specs.declared.command.Command.{Command as CommandValue};
+ghost use Rattle.dubp_replay.specs.declared.command.Command.TheVariants.{Block as BlockCommand};
 
 use crate::words::{
     cond_behind, key_behind, number_behind, stamp_behind, uid_behind, verdict_behind,
@@ -14,6 +15,15 @@ pub fn read_command(line: &[u8]) -> Option<Command>
     ensures only { (c : CommandValue) → IsCommand c → line.now ≡ command_text c → result ≡ Some c }
 {
     command(line)
+}
+
+/// How many raw bytes follow, where this line is a BLOCK. None exactly where it is none. It takes no memory, and looks at the number
+/// alone.
+pub fn block_len(line: &[u8]) -> Option<u64>
+    ensures found { IfSome result (λ len. Says line.now (BlockCommand len)) }
+    ensures only { (len : ℕ) → Says line.now (BlockCommand len) → result ≡ Some len }
+{
+    number_behind(b"BLOCK ", line)
 }
 
 #[tactic(auto, unfolding(crate::specs::Reading::command_of))]

@@ -1,8 +1,8 @@
 use Rattle.std.proofs.Common.{◌≡◌, ◌+◌, ◌<◌, ◌≤◌, ◌-◌, ◌∷◌, ◌++◌, ap, sym, subst, ◌∙◌, arith, rules, length, take, drop, get_or, length-drop, length-take-le, Some}
 use Rattle.std.proofs.lemmas.List.{take_all}
 use Rattle.dubp_node.specs.Entries.{Frame, HeadsFrame}
-use Rattle.dubp_node.proofs.Wholes.{heads_len}
-use Rattle.dubp_node.proofs.Taking.{frame_waits, frame_bytes, line_heads, line_short}
+use Rattle.dubp_node.proofs.Wholes.{heads_len, heads_short}
+use Rattle.dubp_node.proofs.Taking.{frame_waits, frame_bytes}
 use Rattle.dubp_node.proofs.reading.take_short_frame.Goals as goal
 
 pub returns-then-behind-len : goal.returns-then-behind-len
@@ -10,10 +10,10 @@ returns-then-behind-len c =
     let hand = c.args.hand.now in
     let n = length-drop (c.args.end + 1) hand in
     let head = c.requires.head in
-    let short_line : length (take c.args.end hand) ≤ 22 = line_short head in
+    let short_line : length (take c.args.end hand) ≤ 22 = heads_short (take c.args.end hand) c.args.len head in
     let short : length (drop (c.args.end + 1) hand) ≤ c.args.len = omega arith in
     let fits : length hand ≤ 1048600 = omega (arith, length-take-le c.args.end hand (omega arith)) in
-    (fits, λ bytes e. frame_waits hand bytes c.args.end c.args.len c.requires.line.0 c.requires.line.1 (heads_len _ _ (line_heads head)) short e)
+    (fits, λ bytes e. frame_waits hand bytes c.args.end c.args.len c.requires.line.0 c.requires.line.1 (heads_len _ _ head) short e)
 
 pub returns : goal.returns
 returns c =
@@ -29,7 +29,7 @@ returns c =
       λ bytes e. record {
         command = Frame (take c.args.end hand) (take c.args.len behind) (get_or behind c.args.len 0);
         bytes_are = frame_bytes hand bytes behind c.args.end c.args.len (c.requires.line.1 ∙ ap (λ t. take c.args.end hand ++ 10 ∷ t) (sym same)) same within e;
-        whole = (c.requires.line.0, subst (HeadsFrame (take c.args.end hand)) (sym long) (line_heads head));
-        shows = (take c.args.end hand, search rules, record { says = head.says; frame_is = head.frame_is ∙ ap Some (sym long) }, omega (arith, long, c.requires.fits));
+        whole = (c.requires.line.0, subst (HeadsFrame (take c.args.end hand)) (sym long) head);
+        shows = (take c.args.end hand, search rules, subst (HeadsFrame (take c.args.end hand)) (sym long) head, omega (arith, long, c.requires.fits));
       },
     )

@@ -1,4 +1,4 @@
-use Rattle.std.proofs.Common.{inl, refl, subst, arith}
+use Rattle.std.proofs.Common.{refl, subst, arith}
 use Rattle.dubp_node.specs.Cut.{BeginsNone}
 use Rattle.dubp_node.specs.Reading.{Stands}
 use Rattle.dubp_node.proofs.Serves.{finished_frame, finished_line, broke_line, long_line_open}
@@ -16,7 +16,7 @@ returns-in-Err-clause-broke g c = λ bytes s none.
     let f = subst (λ p. Stands p c.args.hand.now bytes) c.in-LongLine.is s in
     let t = long_line_open _ bytes f none in
     let whole = whole_line bytes t.0 (long_no_head bytes t.1) in
-    let w = c.in-Err.ensures.broke _ whole (bytes, refl, inl t.1) in
+    let w = c.in-Err.ensures.broke _ whole (bytes, refl, t.1) in
     broke_line _ _ _ _ bytes w.0 whole (omega (arith, t.1)) w.1 w.2
 
 pub returns-in_default-clause-finished : goal.returns-in_default-clause-finished
@@ -24,5 +24,5 @@ returns-in_default-clause-finished g c = λ bytes s none.
     let f = subst (λ p. Stands p c.args.hand.now bytes) c.in-LongLine.is s in
     let t = long_line_open _ bytes f none in
     let whole = whole_line bytes t.0 (long_no_head bytes t.1) in
-    let w = c.in_default.ensures.written _ whole (bytes, refl, inl t.1) in
+    let w = c.in_default.ensures.written _ whole (bytes, refl, t.1) in
     finished_line _ _ _ _ bytes w.0 whole (omega (arith, t.1)) w.1 w.2

@@ -1,0 +1,94 @@
+-- Twice the median of some numbers is the median of their doubles, so it depends only on how often each number is there, and of
+-- numbers in rising order it is the sum of the middle two.
+use Rattle.std.proofs.Common.{◌≡◌, ℕ, zero, suc, ◌+◌, ◌-◌, ◌*◌, ◌/◌, ◌<◌, ◌≤◌, Bool, true, false, cond, ◌&&◌, ◌==◌, List, [], ◌∷◌, map, Some, length, get_or, slice_index, find, unwrap_or, refl, ap, sym, ◌∙◌, nat_lt, nat_le, arith, IsPermutation}
+use Rattle.std.specs.List.{sum_by}
+use Rattle.std.specs.List.Sorted.{IsNonDecreasing}
+use Rattle.std.proofs.lemmas.Bool.Decides.{nat_tests}
+use Rattle.std.proofs.lemmas.List.{length-map}
+use Rattle.std.proofs.lemmas.List.Sums.{sum_by-cons}
+use Rattle.std.proofs.lemmas.List.Sorted.{sum_by-IsPermutation}
+use Rattle.dubp_time.specs.Median.{count_of, count_below, count_up_to, has_rank, ranked, mean_of_middle, median_of}
+use Rattle.dubp_time.proofs.MedianLaws.{median_of_same, median_of_rising}
+use Rattle.dubp_chain.specs.Heads.{doubled_median}
+
+abbrev doubles : List ℕ → List ℕ
+doubles ns = map (λ n. 2 * n) ns
+
+below_double : (t m : ℕ) → cond {A = ℕ} (nat_lt (2 * t) (2 * m)) 1 0 ≡ cond (nat_lt t m) 1 0
+below_double t m = grind (arith, nat_tests)
+
+up_to_double : (t m : ℕ) → cond {A = ℕ} (nat_le (2 * t) (2 * m)) 1 0 ≡ cond (nat_le t m) 1 0
+up_to_double t m = grind (arith, nat_tests)
+
+count_below-doubles : (m : ℕ) (ns : List ℕ) → count_below (2 * m) (doubles ns) ≡ count_below m ns
+count_below-doubles m [] = refl
+count_below-doubles m (n ∷ ns) =
+    omega (arith, sum_by-cons (λ t. cond (nat_lt t (2 * m)) 1 0) (2 * n) (doubles ns), sum_by-cons (λ t. cond (nat_lt t m) 1 0) n ns, below_double n m, count_below-doubles m ns)
+
+count_up_to-doubles : (m : ℕ) (ns : List ℕ) → count_up_to (2 * m) (doubles ns) ≡ count_up_to m ns
+count_up_to-doubles m [] = refl
+count_up_to-doubles m (n ∷ ns) =
+    omega (arith, sum_by-cons (λ t. cond (nat_le t (2 * m)) 1 0) (2 * n) (doubles ns), sum_by-cons (λ t. cond (nat_le t m) 1 0) n ns, up_to_double n m, count_up_to-doubles m ns)
+
+has_rank-doubles : (ns : List ℕ) (j m : ℕ) → has_rank (doubles ns) j (2 * m) ≡ has_rank ns j m
+has_rank-doubles ns j m =
+    ap (λ n. nat_le n j && nat_lt j (count_up_to (2 * m) (doubles ns))) (count_below-doubles m ns)
+    ∙ ap (λ n. nat_le (count_below m ns) j && nat_lt j n) (count_up_to-doubles m ns)
+
+find-doubles : (p q : ℕ → Bool) → ((m : ℕ) → p (2 * m) ≡ q m) → (ns : List ℕ) → unwrap_or (find p (doubles ns)) 0 ≡ 2 * unwrap_or (find q ns) 0
+find-doubles p q same [] = refl
+find-doubles p q same (n ∷ ns) =
+    ap (λ b. unwrap_or (cond b (Some (2 * n)) (find p (doubles ns))) 0) (same n)
+    ∙ elim (q n) as (λ b. unwrap_or (cond b (Some (2 * n)) (find p (doubles ns))) 0 ≡ 2 * unwrap_or (cond b (Some n) (find q ns)) 0) [
+      | true ↦ refl
+      | false ↦ find-doubles p q same ns
+    ]
+
+ranked-doubles : (ns : List ℕ) (j : ℕ) → ranked (doubles ns) j ≡ 2 * ranked ns j
+ranked-doubles ns j = find-doubles (has_rank (doubles ns) j) (has_rank ns j) (has_rank-doubles ns j) ns
+
+mean_of-doubles : (ns : List ℕ) → mean_of_middle (doubles ns) ≡ doubled_median ns
+mean_of-doubles ns =
+    let n = length ns in
+    ap (λ k. (ranked (doubles ns) ((k - 1) / 2) + ranked (doubles ns) (k / 2)) / 2) (length-map ns (λ m. 2 * m))
+    ∙ omega (arith, ranked-doubles ns ((n - 1) / 2), ranked-doubles ns (n / 2))
+
+median_of-doubles : (ns : List ℕ) → doubled_median ns ≡ unwrap_or (median_of (doubles ns)) 0
+median_of-doubles [] = refl
+median_of-doubles (n ∷ ns) = sym (mean_of-doubles (n ∷ ns))
+
+same_doubles : (ms ns : List ℕ) → IsPermutation ms ns → (m : ℕ) → count_of m (doubles ms) ≡ count_of m (doubles ns)
+same_doubles ms ns moved m = in_doubles ms ∙ sym (sum_by-IsPermutation (λ t. cond (2 * t == m) 1 0) ms ns moved) ∙ sym (in_doubles ns)
+  where
+    in_doubles : (xs : List ℕ) → count_of m (doubles xs) ≡ sum_by (λ t. cond (2 * t == m) 1 0) xs
+    in_doubles [] = refl
+    in_doubles (x ∷ xs) =
+        sum_by-cons (λ t. cond (t == m) 1 0) (2 * x) (doubles xs)
+        ∙ ap (λ n. cond (2 * x == m) 1 0 + n) (in_doubles xs)
+        ∙ sym (sum_by-cons (λ t. cond (2 * t == m) 1 0) x xs)
+
+-- the order does not matter
+pub doubled_median-permutation : (ms ns : List ℕ) → IsPermutation ms ns → doubled_median ms ≡ doubled_median ns
+doubled_median-permutation ms ns moved =
+    median_of-doubles ms ∙ ap (λ o. unwrap_or o 0) (median_of_same (doubles ms) (doubles ns) (record { each = same_doubles ms ns moved })) ∙ sym (median_of-doubles ns)
+
+get_or-doubles : (ns : List ℕ) (i d : ℕ) → i < length ns → get_or (doubles ns) i d ≡ 2 * get_or ns i d
+get_or-doubles [] i d lt = absurd (omega arith)
+get_or-doubles (n ∷ ns) zero d lt = refl
+get_or-doubles (n ∷ ns) (suc i) d lt = get_or-doubles ns i d (omega arith)
+
+doubles_rise : (ns : List ℕ) → IsNonDecreasing ns → IsNonDecreasing (doubles ns)
+doubles_rise ns rising i j d le lt =
+    let within : j < length ns = omega (arith, lt, length-map ns (λ m. 2 * m)) in
+    let up : get_or ns i d ≤ get_or ns j d = rising i j d le within in
+    omega (arith, get_or-doubles ns i d (omega arith), get_or-doubles ns j d within)
+
+-- in rising order it is the sum of the middle two
+pub doubled_median-rising : (ns : List ℕ) → 0 < length ns → IsNonDecreasing ns → doubled_median ns ≡ slice_index ns ((length ns - 1) / 2) + slice_index ns (length ns / 2)
+doubled_median-rising ns some rising =
+    let n = length ns in
+    let long : length (doubles ns) ≡ n = length-map ns (λ m. 2 * m) in
+    let rise = median_of_rising (doubles ns) (omega arith) (doubles_rise ns rising) in
+    median_of-doubles ns ∙ ap (λ o. unwrap_or o 0) rise
+    ∙ ap (λ k. (slice_index (doubles ns) ((k - 1) / 2) + slice_index (doubles ns) (k / 2)) / 2) long
+    ∙ omega (arith, get_or-doubles ns ((n - 1) / 2) 0 (omega arith), get_or-doubles ns (n / 2) 0 (omega arith))

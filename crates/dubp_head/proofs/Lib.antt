@@ -1,0 +1,11 @@
+pub mod Bounds
+pub mod Counting
+pub mod Doubling
+pub mod Entries
+pub mod KeptHeads
+pub mod LastBlocks
+pub mod LastTimes
+pub mod NextHeads
+pub mod Powers
+pub mod SameRules
+pub mod Sizes

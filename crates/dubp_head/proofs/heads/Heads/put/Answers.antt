@@ -1,0 +1,38 @@
+use Rattle.std.proofs.Common.{◌≡◌, ℕ, suc, ◌+◌, ◌-◌, List, ◌∷◌, ◌++◌, length, reverse, ap, subst, sym, ◌∙◌, arith}
+use Rattle.std.proofs.lemmas.List.{length-map}
+use Rattle.std.specs.Option.{option_to_list}
+use Rattle.dubp_time.specs.Median.{SameTimes}
+use Rattle.dubp_chain.specs.declared.head.Head.{Head}
+use Rattle.dubp_head.specs.HeadsStates.{HeadsState}
+use Rattle.dubp_head.proofs.LastBlocks.{length-before, length-last}
+use Rattle.dubp_head.proofs.LastTimes.{time_at}
+use Rattle.dubp_head.proofs.KeptHeads.{gone-among, room-push, AreKept-push, reverse-push}
+use Rattle.dubp_head.proofs.heads.Heads.put.Goals as goal
+
+pub exchange-requires-clause-there : goal.exchange-requires-clause-there
+exchange-requires-clause-there c =
+    let gone : c.time_before-gone.result ≡ time_at (reverse c.self.inside.heads.items) (c.self.inside.span - 1) = c.time_before-gone.ensures ∙ ap (λ (v : HeadsState). time_at v.list (c.self.inside.span - 1)) (sym c.self.view_is) in
+    let more : c.self.inside.span ≡ suc (c.self.inside.span - 1) = omega (arith, c.requires.span, ap (λ (v : HeadsState). v.span) c.self.view_is) in
+    rw gone (gone-among _ _ _ _ _ c.self.invariant more)
+
+pub exchange-requires-clause-room : goal.exchange-requires-clause-room
+exchange-requires-clause-room c =
+    let gone : c.time_before-gone.result ≡ time_at (reverse c.self.inside.heads.items) (c.self.inside.span - 1) = c.time_before-gone.ensures ∙ ap (λ (v : HeadsState). time_at v.list (c.self.inside.span - 1)) (sym c.self.view_is) in
+    let more : c.self.inside.span ≡ suc (c.self.inside.span - 1) = omega (arith, c.requires.span, ap (λ (v : HeadsState). v.span) c.self.view_is) in
+    rw gone (room-push _ _ _ _ _ c.self.invariant more)
+
+pub push-requires-clause-before : goal.push-requires-clause-before
+push-requires-clause-before c =
+    omega (arith, c.requires.room, ap (λ (v : HeadsState). length v.list) c.self.view_is, ap (λ (v : HeadsState). v.room) c.self.view_is, length-before _ _ c.self.invariant.issuers, length-map (reverse c.self.inside.heads.items) (λ (h : Head). h.issuer))
+
+pub push-requires-clause-last : goal.push-requires-clause-last
+push-requires-clause-last c =
+    omega (arith, c.requires.room, ap (λ (v : HeadsState). length v.list) c.self.view_is, ap (λ (v : HeadsState). v.room) c.self.view_is, length-last _ _ c.self.invariant.issuers, length-map (reverse c.self.inside.heads.items) (λ (h : Head). h.issuer))
+
+pub invariant_of-self : goal.invariant_of-self
+invariant_of-self c =
+    let gone : c.time_before-gone.result ≡ time_at (reverse c.self.inside.heads.items) (c.self.inside.span - 1) = c.time_before-gone.ensures ∙ ap (λ (v : HeadsState). time_at v.list (c.self.inside.span - 1)) (sym c.self.view_is) in
+    let more : c.self.inside.span ≡ suc (c.self.inside.span - 1) = omega (arith, c.requires.span, ap (λ (v : HeadsState). v.span) c.self.view_is) in
+    let exchanged = subst (λ o. (others : List ℕ) → SameTimes c.self.inside.times.times (option_to_list o ++ others) → SameTimes c.exchange.new.self.times (c.args.head.time ∷ others)) gone c.exchange.ensures.times in
+    let len = subst (λ o. length c.exchange.new.self.times + length (option_to_list o) ≡ length c.self.inside.times.times + 1) gone c.exchange.ensures.len in
+    rw (c.push_reserved.ensures.items, reverse-push) (AreKept-push _ _ _ _ _ c.self.invariant more c.args.head _ _ (c.push.ensures.issuers _ c.self.invariant.issuers) exchanged len c.exchange.ensures.width)

@@ -1,0 +1,11 @@
+pub mod Bounds
+pub mod Entries
+pub mod Following
+pub mod Frames
+pub mod HeadsStates
+pub mod KeptHeads
+pub mod LastBlocks
+pub mod LastTimes
+pub mod Laws
+pub mod Money
+pub mod NextHead

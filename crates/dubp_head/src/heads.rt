@@ -1,0 +1,234 @@
+ghost use Rattle.std.specs.Prelude.{◌≡◌, [], ◌∷◌, ◌<◌, ◌≤◌, ◌^◌, length, reverse, take, map, slice_get, OnOk, OnErr, MatchOption, None, Some};
+ghost use Rattle.std.specs.Option.{option_map};
+ghost use Rattle.dubp_params.specs.Ranges.{IsInRange};
+ghost use Rattle.dubp_chain.specs.Heads.{newest, last_issued};
+ghost use Rattle.dubp_head.specs.HeadsStates.{AreOver, KeepsRoom, median_over};
+
+use crate::issuers::Issuers;
+use crate::times::Times;
+use dubp_atoms::{Key, NoMemory};
+use dubp_chain::Head;
+use dubp_params::Params;
+use dubp_time::median_laws;
+use std::alloc::Global;
+use std::marker::Model;
+
+/// The heads of a chain.
+///
+/// Contracts see a `HeadsState`: the list of heads, newest first, and how much comes back without memory.
+#[derive(Drop)]
+pub struct Heads {
+    // Oldest first.
+    heads: Vec<Head>,
+    issuers: Issuers,
+    // Those of the last `span` heads.
+    times: Times,
+    span: u64,
+}
+
+impl Model for Heads {
+    ghost use Rattle.std.specs.Prelude.{reverse, min, vec_capacity};
+    ghost use Rattle.dubp_head.specs.HeadsStates.{HeadsState};
+    ghost use Rattle.dubp_head.specs.KeptHeads.{AreKept};
+
+    ghost Value = { HeadsState };
+
+    ghost view = { λ h. record {
+      list = reverse h.heads.items;
+      room = min (vec_capacity h.heads) h.issuers.room;
+      width = h.times.width;
+      span = h.span;
+    } };
+
+    ghost invariant = { λ h. AreKept (reverse h.heads.items) h.issuers h.times h.span };
+}
+
+impl Heads {
+    /// No heads. It takes no memory.
+    pub fn new(alloc: Global) -> Heads
+        ensures { result.list ≡ [] }
+    {
+        Heads {
+            heads: Vec::new(alloc),
+            issuers: Issuers::new(alloc),
+            times: Times::new(),
+            span: 0,
+        }
+    }
+
+    /// Puts a head behind the others. Its time is below 2^40, and the parameters are those of the chain with its block.
+    ///
+    /// `NoMemory` where there is no room for it; then the heads are as before. Neither `room` nor `width` falls.
+    pub fn push(&mut self, head: Head, params: &Params) -> Result<(), NoMemory>
+        requires time { head.time < 2 ^ 40 }
+        requires valid { IsInRange params.now }
+        requires over { AreOver self.old params.now }
+        ensures pushed { OnOk result (self.new.list ≡ head ∷ self.old.list) }
+        ensures span { OnOk result (self.new.span ≡ params.now.median_time_blocks) }
+        ensures room { OnOk result (length self.new.list ≤ self.new.room) }
+        ensures width { OnOk result (params.now.median_time_blocks ≤ self.new.width) }
+        ensures keeps { KeepsRoom self.old self.new }
+        ensures refused { OnErr result ((self.new.list ≡ self.old.list) × (self.new.span ≡ self.old.span)) }
+    {
+        self.reserve()?;
+        self.widen(params)?;
+        self.put_back(head, params);
+        Ok(())
+    }
+
+    /// Takes the last head off and hands it out. There is one. It takes no memory.
+    pub fn pop(&mut self) -> Head
+        requires { 0 < length self.old.list }
+        ensures popped { self.old.list ≡ result ∷ self.new.list }
+        ensures span { self.new.span ≡ self.old.span }
+        ensures keeps { KeepsRoom self.old self.new }
+    {
+        let come = self.time_before(self.span);
+        let head = self.heads.pop().unwrap();
+        self.issuers.pop(&head.issuer);
+        self.times.exchange(Some(head.time), come);
+        head
+    }
+
+    /// Puts a head back behind the others, without memory: there are fewer heads than `room`, and medianTimeBlocks is at most
+    /// `width`. Its time is below 2^40, and the parameters are those of the chain with its block.
+    pub fn put_back(&mut self, head: Head, params: &Params)
+        requires time { head.time < 2 ^ 40 }
+        requires valid { IsInRange params.now }
+        requires over { AreOver self.old params.now }
+        requires room { length self.old.list < self.old.room }
+        requires width { params.now.median_time_blocks ≤ self.old.width }
+        ensures pushed { self.new.list ≡ head ∷ self.old.list }
+        ensures span { self.new.span ≡ params.now.median_time_blocks }
+        ensures keeps { KeepsRoom self.old self.new }
+    {
+        self.begin(params);
+        self.put(head);
+    }
+
+    /// The last head. None exactly where there is none. It takes no memory.
+    pub fn last(&self) -> Option<&Head>
+        ensures { MatchOption result (newest self.now.list ≡ None) (λ h. newest self.now.list ≡ Some h.now) }
+    {
+        from_last(&self.heads, 0)
+    }
+
+    /// How many heads there are. It takes no memory.
+    pub fn len(&self) -> usize
+        ensures { result ≡ length self.now.list }
+    {
+        self.heads.len()
+    }
+
+    /// The head of the block that stands so many blocks before the last. None where there are not so many. It takes no memory.
+    pub fn before(&self, count: u64) -> Option<&Head>
+        ensures { MatchOption result (slice_get self.now.list count ≡ None) (λ h. slice_get self.now.list count ≡ Some h.now) }
+    {
+        from_last(&self.heads, count)
+    }
+
+    /// The last so many heads, or all where there are fewer, oldest first. It takes no memory.
+    pub fn newest(&self, count: u64) -> &[Head]
+        ensures { result.now ≡ reverse (take count self.now.list) }
+    {
+        let len = self.heads.len();
+        &self.heads[len.saturating_sub(count as usize)..]
+    }
+
+    /// The median of the times of the last medianTimeBlocks blocks. None exactly where there is no head. It takes no memory, and
+    /// looks at the middle of the times alone.
+    pub fn median(&self) -> Option<u64>
+        ensures { result ≡ median_over self.now }
+    {
+        median_laws();
+        self.times.middle()
+    }
+
+    /// The head of the last block that the key issued. None exactly where it issued none. It takes no memory, and looks the key up.
+    pub fn last_of(&self, key: &Key) -> Option<&Head>
+        ensures { MatchOption result (last_issued self.now.list key.now ≡ None) (λ h. last_issued self.now.list key.now ≡ Some h.now) }
+    {
+        match self.issuers.last_of(key) {
+            Some(place) => Some(&self.heads[place]),
+            None => None,
+        }
+    }
+
+    // Takes memory for one more head.
+    fn reserve(&mut self) -> Result<(), NoMemory>
+        ensures list { self.new.list ≡ self.old.list }
+        ensures span { self.new.span ≡ self.old.span }
+        ensures reserved { OnOk result (length self.new.list < self.new.room) }
+        ensures keeps { KeepsRoom self.old self.new }
+    {
+        self.heads.reserve(1).map_err(|_| NoMemory)?;
+        self.issuers.reserve(self.heads.len() + 1)?;
+        Ok(())
+    }
+
+    // Takes memory for as many times as these parameters ask for, where there is no head yet.
+    fn widen(&mut self, params: &Params) -> Result<(), NoMemory>
+        requires { AreOver self.old params.now }
+        ensures list { self.new.list ≡ self.old.list }
+        ensures span { self.new.span ≡ self.old.span }
+        ensures room { self.new.room ≡ self.old.room }
+        ensures wide { OnOk result (params.now.median_time_blocks ≤ self.new.width) }
+        ensures width { self.old.width ≤ self.new.width }
+    {
+        if self.heads.is_empty() {
+            let alloc = *self.heads.allocator();
+            self.times.widen(alloc, params.median_time_blocks as usize)?;
+        }
+        Ok(())
+    }
+
+    // The median is taken over as many blocks as these parameters say, from the first head on.
+    fn begin(&mut self, params: &Params)
+        requires over { AreOver self.old params.now }
+        requires width { params.now.median_time_blocks ≤ self.old.width }
+        ensures list { self.new.list ≡ self.old.list }
+        ensures span { self.new.span ≡ params.now.median_time_blocks }
+        ensures room { self.new.room ≡ self.old.room }
+        ensures width { self.new.width ≡ self.old.width }
+    {
+        if self.heads.is_empty() {
+            self.span = params.median_time_blocks;
+        }
+    }
+
+    // Puts a head behind the others. There is room for it.
+    fn put(&mut self, head: Head)
+        requires room { length self.old.list < self.old.room }
+        requires span { 0 < self.old.span }
+        ensures pushed { self.new.list ≡ head ∷ self.old.list }
+        ensures span { self.new.span ≡ self.old.span }
+        ensures room { self.new.room ≡ self.old.room }
+        ensures width { self.new.width ≡ self.old.width }
+    {
+        let gone = self.time_before(self.span - 1);
+        self.times.exchange(gone, Some(head.time));
+        self.issuers.push(head.issuer);
+        self.heads.push_reserved(head);
+    }
+
+    // The time of the block that stands so many blocks before the last.
+    fn time_before(&self, count: u64) -> Option<u64>
+        ensures { result ≡ option_map (λ h. h.time) (slice_get self.now.list count) }
+    {
+        match self.before(count) {
+            Some(head) => Some(head.time),
+            None => None,
+        }
+    }
+}
+
+// The head so many places before the last.
+fn from_last(heads: &[Head], count: u64) -> Option<&Head>
+    ensures { MatchOption result (slice_get (reverse heads.now) count ≡ None) (λ h. slice_get (reverse heads.now) count ≡ Some h.now) }
+{
+    if count < heads.len() as u64 {
+        Some(&heads[heads.len() - 1 - count as usize])
+    } else {
+        None
+    }
+}

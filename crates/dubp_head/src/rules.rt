@@ -1,0 +1,161 @@
+ghost use Rattle.std.specs.Prelude.{◌≡◌, ◌^◌, ◌<◌, ◌≤◌, ◌↔◌, IsTrue, IfOk, length, sum_by};
+ghost use Rattle.std.specs.List.{AllByRecursion};
+ghost use Rattle.dubp_params.specs.Ranges.{IsInRange};
+ghost use Rattle.dubp_block.specs.Text.{block_hash_of, size_of};
+ghost use Rattle.dubp_pow.specs.Meeting.{Meets};
+ghost use Rattle.dubp_rules.specs.First.{FirstOf, IsFirst};
+ghost use Rattle.dubp_validity.specs.HeadRules.{greatest_size};
+ghost use Rattle.dubp_chain.specs.Heads.{next_head};
+ghost use Rattle.dubp_head.specs.Bounds.{IsSmall};
+ghost use Rattle.dubp_head.specs.Frames.{frame_issuers};
+ghost use Rattle.dubp_head.specs.HeadsStates.{AreOver};
+ghost use Rattle.dubp_head.specs.Following.{AreHeads, MayFollow, KeepsLimits};
+ghost use Rattle.dubp_head.specs.NextHead.{HeaderHolds, header_rules, IsSmallEnough, difficulty_for};
+
+use crate::difficulties::difficulty_over;
+use crate::frame::Frame;
+use crate::heads::Heads;
+use dubp_atoms::NoMemory;
+use dubp_block::{Block, block_hash, size};
+use dubp_chain::Head;
+use dubp_params::Params;
+use dubp_pow::meets;
+use dubp_rules::{Rule, first_of};
+use std::alloc::Global;
+
+/// A size below this is always small enough.
+const ALWAYS_ALLOWED: u128 = 500;
+
+/// The first of G50 and G54 to G62 that fails. `head` is the head of the block behind the heads.
+pub fn head_rules(
+    alloc: Global,
+    heads: &Heads,
+    params: &Params,
+    head: &Head,
+    block: &Block,
+) -> Result<Option<Rule>, NoMemory>
+    requires valid { IsInRange params.now }
+    requires over { AreOver heads.now params.now }
+    requires heads { AreHeads params.now heads.now.list }
+    requires block { MayFollow head.now.members heads.now.list block.now }
+    requires limits { KeepsLimits params.now head.now.members heads.now.list block.now }
+    requires head { head.now ≡ next_head params.now head.now.members heads.now.list block.now }
+    ensures { IfOk result (IsFirst (HeaderHolds params.now heads.now.list head.now block.now) header_rules) }
+{
+    let frame = Frame::of(alloc, heads)?;
+    head_rules_over(alloc, heads, &frame, params, head, block)
+}
+
+/// The same over the frame of the heads, counted before.
+pub fn head_rules_over(
+    alloc: Global,
+    heads: &Heads,
+    frame: &Frame,
+    params: &Params,
+    head: &Head,
+    block: &Block,
+) -> Result<Option<Rule>, NoMemory>
+    requires valid { IsInRange params.now }
+    requires over { AreOver heads.now params.now }
+    requires heads { AreHeads params.now heads.now.list }
+    requires block { MayFollow head.now.members heads.now.list block.now }
+    requires limits { KeepsLimits params.now head.now.members heads.now.list block.now }
+    requires head { head.now ≡ next_head params.now head.now.members heads.now.list block.now }
+    requires frame { frame.now ≡ frame_issuers heads.now.list }
+    ensures { IfOk result (IsFirst (HeaderHolds params.now heads.now.list head.now block.now) header_rules) }
+{
+    first_broken(alloc, heads, frame, params, head, block)
+}
+
+fn first_broken(
+    alloc: Global,
+    heads: &Heads,
+    frame: &Frame,
+    params: &Params,
+    head: &Head,
+    block: &Block,
+) -> Result<Option<Rule>, NoMemory>
+    requires valid { IsInRange params.now }
+    requires over { AreOver heads.now params.now }
+    requires heads { AreHeads params.now heads.now.list }
+    requires frame { frame.now ≡ frame_issuers heads.now.list }
+    requires size { size_of block.now < 2 ^ 53 }
+    requires short { length heads.now.list ≤ 2 ^ 40 }
+    ensures { IfOk result (FirstOf (HeaderHolds params.now heads.now.list head.now block.now) header_rules) }
+{
+    Ok(first_of!(
+        Rule::G50 => is_small_enough(heads, head, block),
+        Rule::G54 => block.issuers == head.issuers,
+        Rule::G55 => block.frame == head.frame,
+        Rule::G56 => is_variation(head, block),
+        Rule::G57 => block.median_time == head.median_time,
+        Rule::G58 => block.dividend == head.ud,
+        Rule::G59 => block.unit_base == head.unit_base as u64,
+        Rule::G60 => block.members == head.members,
+        Rule::G61 => block.pow_min == head.pow_min,
+        Rule::G62 => meets_difficulty(alloc, heads, frame, params, block)?,
+    ))
+}
+
+fn is_variation(head: &Head, block: &Block) -> bool
+    ensures { IsTrue result ↔ (block.now.frame_var ≡ head.now.frame_var) }
+{
+    block.frame_var == head.frame_var
+}
+
+fn is_small_enough(heads: &Heads, head: &Head, block: &Block) -> bool
+    requires small { AllByRecursion IsSmall heads.now.list }
+    requires short { length heads.now.list ≤ 2 ^ 40 }
+    requires size { size_of block.now < 2 ^ 53 }
+    ensures { IsTrue result ↔ IsSmallEnough heads.now.list head.now block.now }
+{
+    let Some(_last) = heads.last() else {
+        return true;
+    };
+    (size(block) as u128) < greatest_size(heads.newest(head.issuers))
+}
+
+// Below what a size must stay behind these blocks: eleven tenths of their mean size, rounded up, or what is always allowed.
+fn greatest_size(heads: &[Head]) -> u128
+    requires small { AllByRecursion IsSmall heads.now }
+    requires short { length heads.now ≤ 2 ^ 40 }
+    ensures { result ≡ greatest_size (length heads.now) heads.now }
+{
+    if heads.is_empty() {
+        return ALWAYS_ALLOWED;
+    }
+    let count = heads.len() as u128;
+    (11 * total_size(heads))
+        .div_ceil(10 * count)
+        .max(ALWAYS_ALLOWED)
+}
+
+fn total_size(heads: &[Head]) -> u128
+    requires small { AllByRecursion IsSmall heads.now }
+    requires short { length heads.now ≤ 2 ^ 40 }
+    ensures value { result ≡ sum_by (λ h. h.size) heads.now }
+    ensures small { result < 2 ^ 94 }
+{
+    let mut total = 0;
+    for head in heads {
+        total += head.size as u128;
+    }
+    total
+}
+
+fn meets_difficulty(
+    alloc: Global,
+    heads: &Heads,
+    frame: &Frame,
+    params: &Params,
+    block: &Block,
+) -> Result<bool, NoMemory>
+    requires valid { IsInRange params.now }
+    requires over { AreOver heads.now params.now }
+    requires heads { AreHeads params.now heads.now.list }
+    requires frame { frame.now ≡ frame_issuers heads.now.list }
+    ensures { IfOk result (λ right. IsTrue right ↔ Meets (block_hash_of block.now) (difficulty_for params.now heads.now.list block.now.pow_min block.now.issuer)) }
+{
+    let difficulty = difficulty_over(alloc, heads, frame, params, block.pow_min, &block.issuer)?;
+    Ok(meets(&block_hash(block), difficulty))
+}

@@ -1,0 +1,10 @@
+pub mod Every
+pub mod Amounts
+pub mod Signing
+pub mod SignedTxs
+pub mod Firsts
+pub mod Repeats
+pub mod Checking
+pub mod Counts
+pub mod Unlocked
+pub mod Lines

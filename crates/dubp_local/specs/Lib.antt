@@ -1,0 +1,5 @@
+pub mod Local
+pub mod Directions
+pub mod Asking
+pub mod Checking
+pub mod Parts

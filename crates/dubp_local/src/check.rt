@@ -1,0 +1,193 @@
+//! The local rules in the order of the table, and the first that a block breaks.
+ghost use Rattle.std.specs.Prelude.{◌≡◌, ◌↔◌, IsTrue, IfOk, MatchOption, option_copied, ⊤};
+ghost use Rattle.dubp_block.specs.Text.{IsBlock};
+ghost use Rattle.dubp_params.specs.Ranges.{IsInRange};
+ghost use Rattle.dubp_local.specs.Local.{FirstLocal, local_rules, unsigned_rules, all_hashes};
+ghost use Rattle.dubp_local.specs.Asking.{FirstAsked, IsSignedWhereAsked, rules_before_l24};
+ghost use Rattle.dubp_local.specs.Checking.{IsChecked, broken_rule};
+
+use crate::numbers::{
+    certifications_are_of_earlier_blocks, first_stamps_are_empty, first_times_are_equal,
+    numbers_are_small, params_are_in_range, time_is_near,
+};
+use crate::once::{
+    identities_join, identities_stand_once, issuers_stand_once, moving_keys_stand_once,
+    nobody_certified_parts, nobody_certifies_themselves, pairs_stand_once, revoked_stand_once,
+    uids_stand_once,
+};
+use crate::signatures::{
+    block_is_signed, identities_are_signed, inner_hash_is_right, memberships_are_signed,
+    transactions_are_signed,
+};
+use crate::transactions::{
+    amounts_are_not_zero, transactions_are_balanced, transactions_are_short,
+};
+use crate::unlocks::{inputs_are_unlocked_once, senders_stand_once, sources_stand_once};
+use dubp_atoms::{Items, NoMemory};
+use dubp_block::Block;
+use dubp_docs::{TxHashes, tx_hashes};
+use dubp_params::Params;
+use dubp_rules::{Rule, first_of};
+use dubp_verdict::Verdicts;
+use std::alloc::Global;
+
+/// What a block was found to be, checked by itself.
+#[derive(Debug, Drop)]
+pub enum Checked {
+    /// The first local rule that the block breaks.
+    Breaks(Rule),
+    /// It breaks none, and these are the hashes of its transactions, in order.
+    Keeps(Items<TxHashes>),
+}
+
+impl Checked {
+    // The rule that the block breaks, if it breaks one.
+    fn broken(self) -> Option<Rule>
+        ensures { result ≡ broken_rule self }
+    {
+        match self {
+            Checked::Breaks(rule) => Some(rule),
+            Checked::Keeps(_hashes) => None,
+        }
+    }
+}
+
+/// Whether the signature of the block is asked for.
+#[derive(Clone, Copy)]
+pub(crate) enum Asked {
+    Signed,
+    Unsigned,
+}
+
+/// The first local rule that the block breaks, or None where it keeps them all.
+///
+/// The parameters are those of the chain, in their ranges, and None where the chain is empty. `NoMemory` where there is no room to
+/// look for what stands twice, or for the hashes of the transactions.
+pub fn check_local(
+    alloc: Global,
+    block: &Block,
+    verdicts: &Verdicts,
+    params: Option<&Params>,
+) -> Result<Option<Rule>, NoMemory>
+    requires block { IsBlock block.now }
+    requires params { MatchOption params ⊤ (λ p. IsInRange p.now) }
+    ensures { IfOk result (FirstLocal local_rules verdicts.now (option_copied params.entry) block.now) }
+{
+    let checked = check_local_hashed(alloc, block, verdicts, params)?;
+    Ok(checked.broken())
+}
+
+/// The same without rule `L05`, for a block that is not signed yet.
+pub fn check_unsigned(
+    alloc: Global,
+    block: &Block,
+    verdicts: &Verdicts,
+    params: Option<&Params>,
+) -> Result<Option<Rule>, NoMemory>
+    requires block { IsBlock block.now }
+    requires params { MatchOption params ⊤ (λ p. IsInRange p.now) }
+    ensures { IfOk result (FirstLocal unsigned_rules verdicts.now (option_copied params.entry) block.now) }
+{
+    let checked = check_asked(alloc, block, verdicts, params, Asked::Unsigned)?;
+    Ok(checked.broken())
+}
+
+/// As `check_local`, and hands on the hashes of the transactions of a block that keeps the rules. They are made once, when
+/// rule `L24` is read.
+pub fn check_local_hashed(
+    alloc: Global,
+    block: &Block,
+    verdicts: &Verdicts,
+    params: Option<&Params>,
+) -> Result<Checked, NoMemory>
+    requires block { IsBlock block.now }
+    requires params { MatchOption params ⊤ (λ p. IsInRange p.now) }
+    ensures { IfOk result (IsChecked (FirstLocal local_rules verdicts.now (option_copied params.entry) block.now) block.now) }
+{
+    let checked = check_asked(alloc, block, verdicts, params, Asked::Signed)?;
+    Ok(checked)
+}
+
+fn check_asked(
+    alloc: Global,
+    block: &Block,
+    verdicts: &Verdicts,
+    params: Option<&Params>,
+    asked: Asked,
+) -> Result<Checked, NoMemory>
+    requires block { IsBlock block.now }
+    requires params { MatchOption params ⊤ (λ p. IsInRange p.now) }
+    ensures { IfOk result (IsChecked (FirstAsked local_rules asked verdicts.now (option_copied params.entry) block.now) block.now) }
+{
+    if let Some(rule) = first_before_l24(alloc, block, verdicts, params, asked)? {
+        return Ok(Checked::Breaks(rule));
+    }
+    let hashes = all_tx_hashes(alloc, block)?;
+    if !transactions_are_signed(block, hashes.as_slice(), verdicts) {
+        return Ok(Checked::Breaks(Rule::L24));
+    }
+    Ok(Checked::Keeps(Items::from_vec(hashes)))
+}
+
+/// The two hashes of each transaction of the block, in order.
+pub fn all_tx_hashes(alloc: Global, block: &Block) -> Result<Vec<TxHashes>, NoMemory>
+    requires { IsBlock block.now }
+    ensures { IfOk result (λ hashes. hashes.items ≡ all_hashes block.now) }
+{
+    let mut hashes = Vec::new(alloc);
+    for tx in block.transactions.as_slice() {
+        let both = tx_hashes(&block.currency, tx);
+        hashes.push(both).map_err(|_| NoMemory)?;
+    }
+    Ok(hashes)
+}
+
+// The first rule before L24 that the block breaks.
+fn first_before_l24(
+    alloc: Global,
+    block: &Block,
+    verdicts: &Verdicts,
+    params: Option<&Params>,
+    asked: Asked,
+) -> Result<Option<Rule>, NoMemory>
+    requires block { IsBlock block.now }
+    requires params { MatchOption params ⊤ (λ p. IsInRange p.now) }
+    ensures { IfOk result (FirstAsked rules_before_l24 asked verdicts.now (option_copied params.entry) block.now) }
+{
+    Ok(first_of!(
+        Rule::X02 => params_are_in_range(block),
+        Rule::X07 => numbers_are_small(block),
+        Rule::L01 => inner_hash_is_right(block),
+        Rule::L02 => first_times_are_equal(block),
+        Rule::L03 => certifications_are_of_earlier_blocks(block),
+        Rule::L04 => first_stamps_are_empty(block),
+        Rule::L05 => is_signed_where_asked(asked, block, verdicts),
+        Rule::L06 => time_is_near(block, params),
+        Rule::L07 => identities_are_signed(block, verdicts),
+        Rule::L08 => uids_stand_once(alloc, block)?,
+        Rule::L09 => identities_stand_once(alloc, block)?,
+        Rule::L10 => identities_join(alloc, block)?,
+        Rule::L11 => memberships_are_signed(block, verdicts),
+        Rule::L12 => moving_keys_stand_once(alloc, block)?,
+        Rule::L13 => revoked_stand_once(alloc, block)?,
+        Rule::L14 => pairs_stand_once(alloc, block)?,
+        Rule::L15 => nobody_certifies_themselves(block),
+        Rule::L16 => issuers_stand_once(alloc, block)?,
+        Rule::L17 => nobody_certified_parts(alloc, block)?,
+        Rule::L18 => transactions_are_short(block),
+        Rule::L19 => senders_stand_once(alloc, block)?,
+        Rule::L20 => inputs_are_unlocked_once(block),
+        Rule::L21 => sources_stand_once(alloc, block)?,
+        Rule::L22 => amounts_are_not_zero(block),
+        Rule::L23 => transactions_are_balanced(block),
+    ))
+}
+
+fn is_signed_where_asked(asked: Asked, block: &Block, verdicts: &Verdicts) -> bool
+    ensures { IsTrue result ↔ IsSignedWhereAsked asked verdicts.now block.now }
+{
+    match asked {
+        Asked::Signed => block_is_signed(block, verdicts),
+        Asked::Unsigned => true,
+    }
+}
