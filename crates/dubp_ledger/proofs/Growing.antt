@@ -1,5 +1,5 @@
 -- What the rules say of the next block, and what a ledger keeps when it joins.
-use Rattle.std.proofs.Common.{◌≡◌, inl, inr, ℕ, ◌≤◌, List, [], ◌∷◌, ◌++◌, length, reverse, Option, Some, None, refl, ap, sym, ◌∙◌, subst, arith, unwrap_or}
+use Rattle.std.proofs.Common.{◌≡◌, inl, inr, ℕ, ◌≤◌, drop, List, [], ◌∷◌, ◌++◌, length, reverse, Option, Some, None, refl, ap, sym, ◌∙◌, subst, arith, unwrap_or}
 use Rattle.std.proofs.lemmas.List.{reverse-append}
 use Rattle.std.specs.List.{AllByRecursion}
 use Rattle.std.specs.Option.{MatchOption}
@@ -186,3 +186,40 @@ pub stamp_is : (c : Chain) (b : Block) (h : Head) → Some h ≡ head_of (b ∷ 
 stamp_is c b h is =
     let same : h ≡ head_with c b = cc in
     ap head_stamp same ∙ stamp_by (params (b ∷ c)) (length (members (b ∷ c))) (heads_of c) b
+
+over_less : (c : Chain) (b : Block) (h : Head) (old new : HeadsState) → old.list ≡ h ∷ new.list → new.span ≡ old.span → new.list ≡ heads_of c → AreOver old (params (b ∷ c)) → AreOver new (params c)
+over_less [] b h old new popped span e over = inl e
+over_less (a ∷ c) b h old new popped span e (inl none) = absurd (let bad : h ∷ new.list ≡ [] = sym popped ∙ none in cc)
+over_less (a ∷ c) b h old new popped span e (inr same) = inr (span ∙ same)
+
+-- the newest block leaves the chain, and its head the heads
+pub shrinks : (c : Chain) (b : Block) (h : Head) (old new : HeadsState) → IsKept (b ∷ c) old → old.list ≡ h ∷ new.list → new.span ≡ old.span → IsKept c new
+shrinks c b h old new kept popped span =
+    let both : head_with c b ∷ heads_of c ≡ h ∷ new.list = sym kept.are ∙ popped in
+    let are : new.list ≡ heads_of c = sym (ap (drop 1) both) in
+    let follow : AreHeads (params (b ∷ c)) (h ∷ new.list) = subst (AreHeads (params (b ∷ c))) popped kept.follow in
+    record {
+      are = are;
+      follow = follow_by c new.list are follow.1;
+      over = over_less c b h old new popped span are kept.over;
+      steered = steered_by c kept.steered;
+      stated = stated_by c kept.stated;
+      plain = kept.plain.1;
+    }
+  where
+    follow_by : (d : Chain) (hs : List Head) → hs ≡ heads_of d → AreHeads (params (b ∷ d)) hs → AreHeads (params d) hs
+    follow_by [] [] e f = tt
+    follow_by [] (g ∷ hs) e f = absurd cc
+    follow_by (a ∷ d) hs e f = f
+
+    steered_by : (d : Chain) → IsSteered (b ∷ d) → IsSteered d
+    steered_by [] s = tt
+    steered_by (a ∷ d) s = s
+
+    stated_by : (d : Chain) → AreParamsOf (stated_params (b ∷ d)) (b ∷ d) → AreParamsOf (stated_params d) d
+    stated_by [] s = refl
+    stated_by (a ∷ d) s = less (stated_params (a ∷ d)) s
+      where
+        less : (o : Option Params) → AreParamsOf o (b ∷ a ∷ d) → AreParamsOf o (a ∷ d)
+        less None e = absurd cc
+        less (Some p) e = e

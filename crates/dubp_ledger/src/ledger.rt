@@ -1,13 +1,13 @@
-ghost use Rattle.std.specs.Prelude.{◌≡◌, ◌∷◌, [], IfOk, IfErr, MatchOption, Some, None};
+ghost use Rattle.std.specs.Prelude.{◌≡◌, ◌≤◌, ◌<◌, ◌+◌, ◌∷◌, [], IfOk, IfErr, OnOk, MatchOption, Some, None};
 ghost use Rattle.dubp_block.specs.Text.{IsBlock};
 ghost use Rattle.dubp_chain.specs.Chains.{block_of_number, params as params_of};
 ghost use Rattle.dubp_chain.specs.Heads.{head_of};
 ghost use Rattle.dubp_ledger.specs.ReadRules.{Keeps};
-ghost use Rattle.dubp_ledger.specs.States.{Accepted, HandedBack};
+ghost use Rattle.dubp_ledger.specs.States.{Accepted, HandedBack, IsTooDeep, without_last};
 
 use crate::judgement::Judgement;
 use crate::judging::judge;
-use crate::refusal::SubmitRefusal;
+use crate::refusal::{SubmitRefusal, TooDeep};
 use dubp_atoms::{NoMemory, Stamp, Steps};
 use dubp_block::Block;
 use dubp_chain::Head;
@@ -18,9 +18,12 @@ use std::alloc::Global;
 use std::marker::Model;
 use std::sync::ledger::Ledger as StepBook;
 
+/// How many blocks can be reversed at most.
+const MOST_KEPT: usize = 100;
+
 /// The chain of accepted blocks, with its heads.
 ///
-/// Contracts see it as a record with the chain, newest block first. Each block of the chain keeps the rules that are read on the
+/// Contracts see it as a record with the chain, newest block first, and how many of its blocks can be reversed. Each block of the chain keeps the rules that are read on the
 /// blocks before it.
 #[derive(Drop)]
 pub struct Ledger {
@@ -28,10 +31,11 @@ pub struct Ledger {
     // Oldest first.
     blocks: Vec<Block>,
     heads: Heads,
+    kept: usize,
 }
 
 impl Model for Ledger {
-    ghost use Rattle.std.specs.Prelude.{reverse};
+    ghost use Rattle.std.specs.Prelude.{◌≤◌, length, reverse};
     ghost use Rattle.dubp_ledger.specs.States.{LedgerState};
     ghost use Rattle.dubp_ledger.specs.KeptChain.{IsKept};
 
@@ -42,21 +46,30 @@ impl Model for Ledger {
 
     ghost coded = { Prim.hlevel (codes, block.the_row.coded) };
 
-    ghost view = { λ s. record { chain = reverse s.blocks.items } };
+    ghost view = { λ s. record { chain = reverse s.blocks.items; kept = s.kept } };
 
-    ghost invariant = { λ s. IsKept (reverse s.blocks.items) s.heads };
+    ghost invariant = { λ s. IsKept (reverse s.blocks.items) s.heads × (s.kept ≤ length s.blocks.items) × (s.kept ≤ 100) };
 }
 
 impl Ledger {
     /// The ledger of the empty chain. It takes no memory.
     pub fn new(alloc: Global) -> Ledger
-        ensures { result.chain ≡ [] }
+        ensures chain { result.chain ≡ [] }
+        ensures kept { result.kept ≡ 0 }
     {
         Ledger {
             alloc,
             blocks: Vec::new(alloc),
             heads: Heads::new(alloc),
+            kept: 0,
         }
+    }
+
+    /// How many blocks can be reversed: at most 100. It takes no memory.
+    pub fn kept(&self) -> usize
+        ensures { result ≡ self.now.kept }
+    {
+        self.kept
     }
 
     /// The head of the chain. None exactly where the chain is empty. It takes no memory.
@@ -118,9 +131,44 @@ impl Ledger {
         match self.heads.push(head, params) {
             Ok(()) => {
                 self.blocks.push_reserved(block);
+                self.kept = (self.kept + 1).min(MOST_KEPT);
                 Ok(stamp)
             }
             Err(_) => Err(SubmitRefusal::NoMemory { block }),
+        }
+    }
+
+    /// Takes the last block off the chain and hands it out. One can be reversed. It takes no memory. Nothing is counted of the steps
+    /// yet.
+    pub fn withdraw<L: StepBook>(&mut self, _steps: &mut Steps<L>) -> Block
+        requires { 0 < self.old.kept }
+        ensures chain { self.old.chain ≡ result ∷ self.new.chain }
+        ensures kept { self.old.kept ≡ self.new.kept + 1 }
+    {
+        self.heads.pop();
+        self.kept -= 1;
+        self.blocks.pop().unwrap()
+    }
+
+    /// Takes the last `count` blocks off the chain. `TooDeep` exactly where fewer can be reversed; then the ledger is as before. It takes no
+    /// memory.
+    pub fn revert<L: StepBook>(&mut self, count: u64, steps: &mut Steps<L>) -> Result<(), TooDeep>
+        ensures reverted { OnOk result ((count ≤ self.old.kept) × (self.new ≡ without_last count self.old)) }
+        ensures refused { IfErr result (λ refusal. IsTooDeep self.old count refusal self.new) }
+    {
+        if count > self.kept as u64 {
+            return Err(TooDeep { kept: self.kept });
+        }
+        self.take_off(count, steps);
+        Ok(())
+    }
+
+    fn take_off<L: StepBook>(&mut self, count: u64, steps: &mut Steps<L>)
+        requires { count ≤ self.old.kept }
+        ensures { self.new ≡ without_last count self.old }
+    {
+        for _ in 0..count {
+            self.withdraw(steps);
         }
     }
 }

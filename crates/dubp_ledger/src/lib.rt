@@ -2,12 +2,14 @@
 //!
 //! Contracts see a `Ledger` as its chain, newest block first. `submit` accepts a block exactly where it breaks no rule that is
 //! read on the chain with the verdicts given, and else names the first rule that it breaks; a refusal hands the block back and changes
-//! nothing. Nothing is computed twice: the hash of a block stands in its head. Protocol: chains; rules.
+//! nothing. `revert` takes the last blocks off again, of which a hundred are kept so. Nothing is computed twice: the hash of a block stands
+//! in its head. Protocol: chains; rules.
 //!
 //! ```text
 //! let mut ledger = Ledger::new(alloc);
 //! let stamp = ledger.submit(block, &verdicts, &mut steps)?;
 //! let head = ledger.head();
+//! ledger.revert(1, &mut steps)?;
 //! ```
 #![tactic(auto)]
 
@@ -20,4 +22,4 @@ mod refusal;
 
 pub use laws::rules_that_are_read;
 pub use ledger::Ledger;
-pub use refusal::SubmitRefusal;
+pub use refusal::{SubmitRefusal, TooDeep};

@@ -11,3 +11,10 @@ pub enum SubmitRefusal {
     /// There was no memory to check the block, or to keep it.
     NoMemory { block: Block },
 }
+
+/// Why blocks were not reversed: fewer can be.
+#[derive(Clone, Copy, Debug, PartialEq, Eq)]
+pub struct TooDeep {
+    /// How many blocks can be reversed.
+    pub kept: usize,
+}

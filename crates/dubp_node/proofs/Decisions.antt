@@ -1,12 +1,12 @@
 -- What `submit` of the ledger said, as a decision of the node; and a decision on a block as one on its text.
-use Rattle.std.proofs.Common.{◌≡◌, ◌+◌, ◌≤◌, suc, [], ◌∷◌, ◌++◌, min, length, arith, inl, inr, List, Option, Some, None, Result, Ok, Err, subst, ◌∙◌, ap, refl, ℕ}
+use Rattle.std.proofs.Common.{◌≡◌, ◌≤◌, [], ◌∷◌, ◌++◌, length, inl, inr, List, Option, Some, None, Result, Ok, Err, subst, ◌∙◌, ap, refl, ℕ}
 use Rattle.std.specs.Prelude.{IfOk, IfErr, MatchOption}
 use Rattle.dubp_atoms.specs.declared.stamp.Stamp.{Stamp}
 use Rattle.dubp_block.specs.declared.block.Block.{Block}
 use Rattle.dubp_block.specs.RefusedLine.{IsRefusedLine}
 use Rattle.dubp_local.specs.Local.{local_rules}
 use Rattle.dubp_ledger.specs.ReadRules.{Breaks, opening_rules}
-use Rattle.dubp_ledger.specs.States.{LedgerState, Accepted, HandedBack}
+use Rattle.dubp_ledger.specs.States.{LedgerState, Accepted, HandedBack, with_block}
 use Rattle.dubp_ledger.specs.declared.refusal.SubmitRefusal.{SubmitRefusal}
 use Rattle.dubp_ledger.specs.declared.refusal.SubmitRefusal.TheVariants as refusal
 use Rattle.dubp_rules.specs.declared.rule.Rule.{Rule}
@@ -18,19 +18,14 @@ use Rattle.dubp_verdict.specs.Verdicts.{Verdicts}
 use Rattle.dubp_chain.specs.Chains.{Chain}
 use Rattle.dubp_validity.specs.Rules.{Holds, HoldsRaw, IsTextOf, longest_block}
 use Rattle.dubp_replay.specs.Answers.{accepted_answer, unread_answer, refused_answer}
-use Rattle.dubp_replay.specs.Turns.{State, Only, RefusedBy, accepted, most_kept}
+use Rattle.dubp_replay.specs.Turns.{State, Only, RefusedBy, accepted}
 use Rattle.dubp_node.specs.BuiltTurns.{JudgedAs, JudgedTurn}
 use Rattle.dubp_node.specs.NodeStates.{node_state}
 use Rattle.dubp_node.specs.Deciding.{Decided, ShortBlockActs, outcome_text}
 
--- one block more can be reversed, up to a hundred
-kept_grows : (n : ℕ) → min (suc n) most_kept ≡ min (min n most_kept + 1) most_kept
-kept_grows n = omega arith
-
 -- the chain that grows gives the state in which the block is accepted
-state_grows : (v : Verdicts) (old : LedgerState) (b : Block) → node_state v (record old { chain = b ∷ old.chain }) ≡ accepted (node_state v old) b
-state_grows v old b =
-    ap (λ (n : ℕ). record (node_state v old) { chain = b ∷ old.chain; kept = n }) (kept_grows (length old.chain))
+state_grows : (v : Verdicts) (old : LedgerState) (b : Block) → node_state v (with_block b old) ≡ accepted (node_state v old) b
+state_grows v old b = refl
 
 refused_by : (v : Verdicts) (old new : LedgerState) (b : Block) (rule : Rule) (answer : List ℕ) → Breaks v old.chain b rule → new ≡ old → answer ≡ refused_answer (code_text rule) → Decided (node_state v old) b answer (node_state v new)
 refused_by v old new b rule answer (inl opening) same e =

@@ -1,5 +1,5 @@
 -- What the commands that the program has so far answer, and how they change the state. It has VERDICT, BLOCK, for the rules that are
--- read and the form of block that is built, and HEAD. Protocol: commands and answers.
+-- read and the form of block that is built, REVERT, and HEAD. Protocol: commands and answers.
 use Rattle.std.specs.Prelude.{◌≡◌, ◌⊎◌, ◌≤◌, ℕ, List, codes, Option, Some, None, ⊤}
 use Rattle.std.specs.Option.{MatchOption}
 use Rattle.dubp_block.specs.declared.block.Block.{Block}
@@ -50,6 +50,7 @@ frame_of other = None
 abbrev pub BuiltTurn : State → Command → List ℕ → List ℕ → State → Type 0
 BuiltTurn old (command.Verdict key hash sig) frame answer new = Turn old (command.Verdict key hash sig) frame answer new
 BuiltTurn old (command.Block len) frame answer new = BuiltBlockTurn old frame answer new
+BuiltTurn old (command.Revert count) frame answer new = Turn old (command.Revert count) frame answer new
 BuiltTurn old (command.Ask query.Head) frame answer new = IsAnswered old.chain query.Head answer × (new ≡ old)
 BuiltTurn old other frame answer new = Only bad_answer old answer new
 

@@ -1,18 +1,18 @@
 ghost use Rattle.std.specs.Prelude.{◌≡◌, ◌++◌, [], codes, length, ◌≤◌, ℕ, List};
 ghost use Rattle.dubp_node.specs.Turns.{Acts};
 ghost use Rattle.dubp_query.specs.AnswerBytes.{answer_bytes};
-ghost use Rattle.dubp_replay.specs.Answers.{accepted_answer, bad_answer, no_memory_answer, refused_answer, unread_answer};
+ghost use Rattle.dubp_replay.specs.Answers.{accepted_answer, bad_answer, no_memory_answer, refused_answer, reverted_answer, too_deep_answer, unread_answer};
 ghost use Rattle.dubp_block.specs.Text.{IsBlock};
 ghost use Rattle.dubp_validity.specs.Rules.{longest_block};
 ghost use Rattle.dubp_node.specs.Deciding.{ShortBlockActs, Decided, outcome_text};
 ghost use Rattle.dubp_replay.specs.Turns.{start};
-ghost use Rattle.dubp_replay.specs.declared.command.Command.TheVariants.{Block as BlockCommand, Verdict as VerdictCommand};
+ghost use Rattle.dubp_replay.specs.declared.command.Command.TheVariants.{Block as BlockCommand, Revert as RevertCommand, Verdict as VerdictCommand};
 ghost use Rattle.dubp_rules.specs.Table.{code_text};
 
 use arrayvec::ArrayVec;
 use dubp_atoms::{Hash, Key, Line, Sig, Stamp, Steps, put_bytes, put_number};
 use dubp_block::{Block, ReadRefusal, read_block};
-use dubp_ledger::{Ledger, SubmitRefusal};
+use dubp_ledger::{Ledger, SubmitRefusal, TooDeep};
 use dubp_query::{Answer, Query, head_line};
 use dubp_replay::Command;
 use dubp_rules::{Rule, code};
@@ -78,6 +78,7 @@ impl Node {
         match command {
             Command::Verdict { key, hash, sig } => self.note(*key, *hash, *sig),
             Command::Block { len } => self.act_block(*len, frame, steps),
+            Command::Revert { count } => self.revert(*count, steps),
             Command::Ask(Query::Head) => Answer::One(head_line(&self.ledger)),
             _ => bad(),
         }
@@ -90,6 +91,16 @@ impl Node {
         match self.verdicts.add(key, hash, sig) {
             Ok(()) => one(b"NOTED\n"),
             Err(_) => one(b"NOMEM\n"),
+        }
+    }
+
+    // The last blocks leave the chain, where so many can be reversed.
+    fn revert<L: StepBook>(&mut self, count: u64, steps: &mut Steps<L>) -> Answer
+        ensures { (frame : List ℕ) → Acts self.old (RevertCommand count) frame (answer_bytes result) self.new }
+    {
+        match self.ledger.revert(count, steps) {
+            Ok(()) => reverted(count),
+            Err(TooDeep { kept }) => too_deep(kept),
         }
     }
 
@@ -140,6 +151,28 @@ fn unread(refused_line: u64) -> Answer
     let mut line: Line = ArrayVec::new();
     put_bytes(&mut line, b"REFUSED P01 ");
     put_number(refused_line as u128, &mut line);
+    put_bytes(&mut line, b"\n");
+    Answer::One(line)
+}
+
+// `REVERTED` and how many blocks were.
+fn reverted(count: u64) -> Answer
+    ensures { answer_bytes result ≡ reverted_answer count }
+{
+    let mut line: Line = ArrayVec::new();
+    put_bytes(&mut line, b"REVERTED ");
+    put_number(count as u128, &mut line);
+    put_bytes(&mut line, b"\n");
+    Answer::One(line)
+}
+
+// `REFUSED W01` and how many blocks can be reversed.
+fn too_deep(kept: usize) -> Answer
+    ensures { answer_bytes result ≡ too_deep_answer kept }
+{
+    let mut line: Line = ArrayVec::new();
+    put_bytes(&mut line, b"REFUSED W01 ");
+    put_number(kept as u128, &mut line);
     put_bytes(&mut line, b"\n");
     Answer::One(line)
 }

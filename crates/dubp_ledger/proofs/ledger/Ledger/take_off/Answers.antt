@@ -1,0 +1,10 @@
+use Rattle.std.proofs.Common.{◌∙◌, ap, sym, drop, drop-drop, arith}
+use Rattle.dubp_ledger.proofs.ledger.Ledger.take_off.Goals as goal
+
+pub loop-preserved : goal.loop-preserved
+loop-preserved g c = record {
+  chain = sym (ap (drop 1) c.withdraw.ensures.chain) ∙ ap (drop 1) c.loop.invariant.chain
+      ∙ drop-drop 1 c.loop.counter c.args.self.now.chain
+      ∙ ap (λ n. drop n c.args.self.now.chain) (omega arith);
+  kept = omega (arith, c.withdraw.ensures.kept, c.loop.invariant.kept);
+}
