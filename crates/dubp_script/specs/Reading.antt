@@ -55,8 +55,8 @@ other_of line =
     (option_or (option_map query.Records (named (codes "RECORDS ") number_of line))
     (option_map query.Show (named (codes "SHOW ") number_of line))))))
 
+abbrev pub query_of : List ℕ → Option Command
+query_of line = option_or (option_map command.Ask (keyed_of line)) (option_map command.Ask (other_of line))
+
 unfoldable pub command_of : List ℕ → Option Command
-command_of line =
-    option_or (change_of line)
-    (option_or (option_map command.Ask (keyed_of line))
-    (option_map command.Ask (other_of line)))
+command_of line = option_or (change_of line) (query_of line)

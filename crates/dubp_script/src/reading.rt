@@ -1,11 +1,12 @@
-ghost use Rattle.std.specs.Prelude.{◌≡◌, ℕ, IfSome, Some};
+ghost use Rattle.std.specs.Prelude.{◌≡◌, ℕ, IfSome, Some, option_map};
 ghost use Rattle.dubp_script.specs.Spelling.{IsCommand, Says, command_text};
-ghost use Rattle.dubp_script.specs.Reading.{command_of, change_of, keyed_of, other_of};
+ghost use Rattle.dubp_script.specs.Reading.{command_of, other_of, query_of};
 ghost use Rattle.dubp_replay.specs.declared.command.Command.{Command as CommandValue};
-ghost use Rattle.dubp_replay.specs.declared.command.Command.TheVariants.{Block as BlockCommand};
+ghost use Rattle.dubp_replay.specs.declared.command.Command.TheVariants.{Ask as AskCommand, Block as BlockCommand};
 
 use crate::words::{
-    cond_behind, key_behind, number_behind, stamp_behind, uid_behind, verdict_behind,
+    SaidVerdict, cond_behind, filled, key_behind, number_behind, stamp_behind, uid_behind,
+    verdict_behind,
 };
 use dubp_replay::{Command, Query};
 
@@ -26,29 +27,13 @@ pub fn block_len(line: &[u8]) -> Option<u64>
     number_behind(b"BLOCK ", line)
 }
 
-#[tactic(auto, unfolding(crate::specs::Reading::command_of))]
+// A command has room for the longest condition, so it is made where its line has been told, and nowhere before.
+#[tactic(auto, unfolding(crate::specs::Reading::command_of, crate::specs::Reading::change_of))]
 fn command(line: &[u8]) -> Option<Command>
     ensures { result ≡ command_of line.now }
 {
-    if let Some(change) = change(line) {
-        return Some(change);
-    }
-    if let Some(query) = keyed_query(line) {
-        return Some(Command::Ask(query));
-    }
-    if let Some(query) = other_query(line) {
-        return Some(Command::Ask(query));
-    }
-    None
-}
-
-// What changes the state.
-#[tactic(auto, unfolding(crate::specs::Reading::change_of))]
-fn change(line: &[u8]) -> Option<Command>
-    ensures { result ≡ change_of line.now }
-{
-    if let Some(verdict) = verdict_behind(b"VERDICT ", line) {
-        return Some(verdict);
+    if let Some(SaidVerdict { key, hash, sig }) = verdict_behind(b"VERDICT ", line) {
+        return Some(Command::Verdict { key, hash, sig });
     }
     if let Some(len) = number_behind(b"BLOCK ", line) {
         return Some(Command::Block { len });
@@ -62,51 +47,57 @@ fn change(line: &[u8]) -> Option<Command>
     if let Some(stamp) = stamp_behind(b"SWITCH ", line) {
         return Some(Command::Switch { stamp });
     }
-    let stamp = stamp_behind(b"FORGET ", line)?;
-    Some(Command::Forget { stamp })
+    if let Some(stamp) = stamp_behind(b"FORGET ", line) {
+        return Some(Command::Forget { stamp });
+    }
+    query(line)
 }
 
-// What is asked of a key or a name.
-#[tactic(auto, unfolding(crate::specs::Reading::keyed_of))]
-fn keyed_query(line: &[u8]) -> Option<Query>
-    ensures { result ≡ keyed_of line.now }
+// What is asked of a key or a name, or else.
+#[tactic(auto, unfolding(crate::specs::Reading::keyed_of, crate::specs::Reading::other_of))]
+fn query(line: &[u8]) -> Option<Command>
+    ensures { result ≡ query_of line.now }
 {
     if let Some(key) = key_behind(b"IDENTITY ", line) {
-        return Some(Query::Identity { key });
+        return Some(Command::Ask(Query::Identity { key }));
     }
     if let Some(uid) = uid_behind(b"UID ", line) {
-        return Some(Query::Uid { uid });
+        return Some(Command::Ask(Query::Uid { uid }));
     }
     if let Some(key) = key_behind(b"CERTS ", line) {
-        return Some(Query::Certs { key });
+        return Some(Command::Ask(Query::Certs { key }));
     }
     if let Some(key) = key_behind(b"DISTANCE ", line) {
-        return Some(Query::Distance { key });
+        return Some(Command::Ask(Query::Distance { key }));
     }
-    let key = key_behind(b"DIFF ", line)?;
-    Some(Query::Diff { key })
+    if let Some(key) = key_behind(b"DIFF ", line) {
+        return Some(Command::Ask(Query::Diff { key }));
+    }
+    other_query(line)
 }
 
 // What else is asked.
 #[tactic(auto, unfolding(crate::specs::Reading::other_of))]
-fn other_query(line: &[u8]) -> Option<Query>
-    ensures { result ≡ other_of line.now }
+fn other_query(line: &[u8]) -> Option<Command>
+    ensures { result ≡ option_map AskCommand (other_of line.now) }
 {
     if line == b"HEAD".as_slice() {
-        return Some(Query::Head);
+        return Some(Command::Ask(Query::Head));
     }
     if line == b"MONEY".as_slice() {
-        return Some(Query::Money);
+        return Some(Command::Ask(Query::Money));
     }
-    if let Some(cond) = cond_behind(b"BALANCE ", line) {
-        return Some(Query::Balance { cond });
+    if let Some(text) = cond_behind(b"BALANCE ", line) {
+        let cond = filled(text);
+        return Some(Command::Ask(Query::Balance { cond }));
     }
-    if let Some(cond) = cond_behind(b"SOURCES ", line) {
-        return Some(Query::Sources { cond });
+    if let Some(text) = cond_behind(b"SOURCES ", line) {
+        let cond = filled(text);
+        return Some(Command::Ask(Query::Sources { cond }));
     }
     if let Some(number) = number_behind(b"RECORDS ", line) {
-        return Some(Query::Records { number });
+        return Some(Command::Ask(Query::Records { number }));
     }
     let number = number_behind(b"SHOW ", line)?;
-    Some(Query::Show { number })
+    Some(Command::Ask(Query::Show { number }))
 }

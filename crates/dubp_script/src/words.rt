@@ -1,13 +1,13 @@
-ghost use Rattle.std.specs.Prelude.{◌≡◌, ◌≤◌, length};
+ghost use Rattle.std.specs.Prelude.{◌≡◌, ◌≤◌, IfSome, length, option_map};
 ghost use Rattle.dubp_atoms.specs.Letters.{is_key, is_uid};
 ghost use Rattle.dubp_atoms.specs.Reading.{number_of, stamp_of, text_if};
 ghost use Rattle.dubp_lines.specs.Taking.{named};
 ghost use Rattle.dubp_script.specs.Reading.{cond_text_if, verdict_of};
+ghost use Rattle.dubp_script.specs.Said.{kept_text, said};
 
 use arrayvec::ArrayVec;
 use dubp_atoms::{Hash, Key, Sig, Stamp, Uid, cut, read_number};
 use dubp_cond::{CondText, is_cond};
-use dubp_replay::Command;
 
 /// The number behind this word.
 pub fn number_behind(word: &[u8], line: &[u8]) -> Option<u64>
@@ -37,23 +37,26 @@ pub fn uid_behind(word: &[u8], line: &[u8]) -> Option<Uid>
     Uid::read(line.strip_prefix(word)?)
 }
 
-/// The condition behind this word, as its text.
-pub fn cond_behind(word: &[u8], line: &[u8]) -> Option<CondText>
-    ensures { result ≡ named word.now cond_text_if line.now }
+/// The text of the condition behind this word.
+pub fn cond_behind<'a>(word: &[u8], line: &'a [u8]) -> Option<&'a [u8]>
+    ensures text { option_map kept_text result ≡ named word.now cond_text_if line.now }
+    ensures fits { IfSome result (λ text. length text.now ≤ 1000) }
 {
     cond_text(line.strip_prefix(word)?)
 }
 
-fn cond_text(text: &[u8]) -> Option<CondText>
-    ensures { result ≡ cond_text_if text.now }
+fn cond_text(text: &[u8]) -> Option<&[u8]>
+    ensures text { option_map kept_text result ≡ cond_text_if text.now }
+    ensures fits { IfSome result (λ text. length text.now ≤ 1000) }
 {
     if !is_cond(text) {
         return None;
     }
-    Some(filled(text))
+    Some(text)
 }
 
-fn filled(text: &[u8]) -> CondText
+/// The text as a command keeps it.
+pub fn filled(text: &[u8]) -> CondText
     requires { length text.now ≤ 1000 }
     ensures { result.items ≡ text.now }
 {
@@ -62,22 +65,30 @@ fn filled(text: &[u8]) -> CondText
     cond
 }
 
+/// A verdict as a line says it.
+#[derive(Clone, Copy)]
+pub struct SaidVerdict {
+    pub key: Key,
+    pub hash: Hash,
+    pub sig: Sig,
+}
+
 /// What `VERDICT ` and this text say.
 #[tactic(auto, unfolding(crate::specs::Reading::verdict_of))]
-pub fn read_verdict(text: &[u8]) -> Option<Command>
-    ensures { result ≡ verdict_of text.now }
+pub fn read_verdict(text: &[u8]) -> Option<SaidVerdict>
+    ensures { option_map said result ≡ verdict_of text.now }
 {
     let (key, rest) = cut(text, b' ')?;
     let key = Key::read(key)?;
     let (hash, sig) = cut(rest, b' ')?;
     let hash = Hash::read(hash)?;
     let sig = Sig::read(sig)?;
-    Some(Command::Verdict { key, hash, sig })
+    Some(SaidVerdict { key, hash, sig })
 }
 
 /// What a line that begins with `VERDICT ` says.
-pub fn verdict_behind(word: &[u8], line: &[u8]) -> Option<Command>
-    ensures { result ≡ named word.now verdict_of line.now }
+pub fn verdict_behind(word: &[u8], line: &[u8]) -> Option<SaidVerdict>
+    ensures { option_map said result ≡ named word.now verdict_of line.now }
 {
     read_verdict(line.strip_prefix(word)?)
 }

@@ -1,0 +1,6 @@
+pub mod Issuers
+pub mod KeyOrder
+pub mod Levels
+pub mod Listed
+pub mod Members
+pub mod Powers

@@ -1,0 +1,12 @@
+use Rattle.std.proofs.Common.{List, sym, subst, ap, ◌∙◌}
+use Rattle.std.specs.Prelude.{find}
+use Rattle.dubp_atoms.specs.Same.{Text}
+use Rattle.dubp_wot.specs.Order.{is_above, IsNextMember}
+use Rattle.dubp_wot.proofs.Members.{find-next}
+use Rattle.dubp_wot.proofs.tests.ListedWeb.next_member.Goals as goal
+
+pub returns : goal.returns
+returns c =
+    let members = c.args.self.now.members.items in
+    let e = c.first_above.ensures ∙ ap (λ (keys : List Text). find (is_above c.args.after) keys) c.deref.ensures.value in
+    subst (IsNextMember members c.args.after) (sym e) (find-next c.args.after members c.args.self.now.in_order)

@@ -1,0 +1,25 @@
+//! Distance: who of the sentries reaches a key by walks of certifications among members.
+//!
+//! A chain is asked through `Web`, one look a question. Contracts see a web as the list of its members, by key, and the list of
+//! pairs of keys, who certifies and who is certified; `specs/Walks.antt` of `dubp_atoms` says from them what a walk, a sentry and
+//! the number reached are. The chapter on distance in `docs/protocol` says the same in words.
+//!
+//! ```text
+//! let sentries = sentries(alloc, &web, steps_max)?;
+//! for target in joiners {
+//!     let (reached, all) = reaches_among(alloc, &web, &sentries, target, steps_max)?;
+//!     let is_far = u128::from(reached) * 100 < u128::from(all) * u128::from(percent);
+//! }
+//! let (reached, all) = reaches(alloc, &web, target, steps_max)?;
+//! ```
+#![tactic(auto)]
+
+mod reaching;
+mod sentry;
+#[cfg(test)]
+mod tests;
+mod web;
+
+pub use reaching::{reaches, reaches_among};
+pub use sentry::{d_sen, sentries};
+pub use web::Web;

@@ -1,0 +1,127 @@
+ghost use Rattle.std.specs.Prelude.{◌≡◌, ◌≤◌, ◌<◌, ◌↔◌, ◌^◌, length, count_by, IsTrue, IfOk, OnOk, Contains};
+ghost use Rattle.indexmap.specs.IndexSet.{contains, insert_key};
+ghost use Rattle.dubp_atoms.specs.Same.{Text, same_text};
+ghost use Rattle.dubp_atoms.specs.Walks.{Reaches, IsCountOf, IsReachedBy, others, sentries_of};
+ghost use Rattle.dubp_wot.specs.Search.{Grows, Closed, In};
+
+use crate::sentry::sentries;
+use crate::web::Web;
+use dubp_atoms::{Key, NoMemory};
+use indexmap::IndexSet;
+use std::alloc::Global;
+
+/// How many of the sentries other than the target reach it within `steps_max`, and how many sentries other than it there are.
+///
+/// There are below 2 ^ 21 members, and `steps_max` is from 1 to 16. `NoMemory` where there is no memory for the search.
+pub fn reaches<W: Web>(
+    alloc: Global,
+    web: &W,
+    target: Key,
+    steps_max: u64,
+) -> Result<(u64, u64), NoMemory>
+    requires members { length (W.members web.now) < 2 ^ 21 }
+    requires steps { (1 ≤ steps_max) × (steps_max ≤ 16) }
+    ensures reached { IfOk result (λ r. IsReachedBy (W.members web.now) (W.pairs web.now) steps_max target r.0) }
+    ensures count { IfOk result (λ r. r.1 ≡ length (others (sentries_of (W.members web.now) (W.pairs web.now) steps_max) target)) }
+{
+    let sentries = sentries(alloc, web, steps_max)?;
+    reaches_among(alloc, web, &sentries, target, steps_max)
+}
+
+/// The same among keys at hand: how many of them other than the target reach it, and how many others there are.
+///
+/// `NoMemory` where there is no memory for the search.
+pub fn reaches_among<W: Web>(
+    alloc: Global,
+    web: &W,
+    sentries: &[Key],
+    target: Key,
+    steps_max: u64,
+) -> Result<(u64, u64), NoMemory>
+    ensures reached { IfOk result (λ r. IsCountOf (λ s. Reaches (W.members web.now) (W.pairs web.now) steps_max s target) (others sentries.now target) r.0) }
+    ensures count { IfOk result (λ r. r.1 ≡ length (others sentries.now target)) }
+{
+    let found = find_reaching(alloc, web, target, steps_max)?;
+    let reached = count_found(sentries, target, &found);
+    let all = count_others(sentries, target);
+    Ok((reached as u64, all as u64))
+}
+
+/// The keys from which a walk of at most `steps_max` pairs leads to the target.
+fn find_reaching<W: Web>(
+    alloc: Global,
+    web: &W,
+    target: Key,
+    steps_max: u64,
+) -> Result<IndexSet<Key>, NoMemory>
+    ensures { IfOk result (λ s. (a : Text) → IsTrue (contains same_text s a) ↔ Reaches (W.members web.now) (W.pairs web.now) steps_max a target) }
+{
+    let mut found = IndexSet::new(alloc);
+    if !web.is_member(&target) {
+        return Ok(found);
+    }
+    insert(&mut found, target)?;
+    let mut start = 0;
+    for level in 0..steps_max {
+        let end = found.len();
+        if start == end {
+            return Ok(found);
+        }
+        add_level(web, start, &mut found)?;
+        start = end;
+    }
+    Ok(found)
+}
+
+/// Adds the next level: the members who certify a key from `start` on.
+fn add_level<W: Web>(web: &W, start: usize, found: &mut IndexSet<Key>) -> Result<(), NoMemory>
+    requires { Closed (W.members web.now) (W.pairs web.now) start found.old.keys }
+    ensures grows { OnOk result (Grows (W.members web.now) (W.pairs web.now) (In found.old.keys) found.old.keys found.new.keys) }
+    ensures closed { OnOk result (Closed (W.members web.now) (W.pairs web.now) (length found.old.keys) found.new.keys) }
+{
+    for i in start..found.len() {
+        let to = found[i];
+        add_issuers(web, to, found)?;
+    }
+    Ok(())
+}
+
+/// Adds the members who certify `to`.
+fn add_issuers<W: Web>(web: &W, to: Key, found: &mut IndexSet<Key>) -> Result<(), NoMemory>
+    ensures grows { OnOk result (Grows (W.members web.now) (W.pairs web.now) (λ b. b ≡ to) found.old.keys found.new.keys) }
+    ensures all { OnOk result ((a : Text) → Contains (W.members web.now) a → Contains (W.pairs web.now) (a, to) → In found.new.keys a) }
+{
+    let mut after = None;
+    while let Some(from) = web.next_issuer(to, after) {
+        if web.is_member(&from) {
+            insert(found, from)?;
+        }
+        after = Some(from);
+    }
+    Ok(())
+}
+
+/// Adds the key, unless the set has it.
+fn insert(found: &mut IndexSet<Key>, key: Key) -> Result<(), NoMemory>
+    ensures { OnOk result (found.new.keys ≡ insert_key same_text found.old.keys key) }
+{
+    found.insert(key).map_err(|_| NoMemory)?;
+    Ok(())
+}
+
+/// How many of the keys are others than the target.
+fn count_others(keys: &[Key], target: Key) -> usize
+    ensures { result ≡ length (others keys.now target) }
+{
+    keys.iter().filter(|key| target != **key).count()
+}
+
+/// How many of the keys other than the target are in the set.
+fn count_found(keys: &[Key], target: Key, found: &IndexSet<Key>) -> usize
+    ensures { result ≡ count_by (contains same_text found.now) (others keys.now target) }
+{
+    keys.iter()
+        .filter(|key| target != **key)
+        .filter(|key| found.contains(*key))
+        .count()
+}
