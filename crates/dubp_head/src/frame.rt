@@ -12,6 +12,7 @@ use crate::heads::Heads;
 use dubp_atoms::{Key, NoMemory, Noted};
 use dubp_chain::Head;
 use indexmap::IndexMap;
+use indexmap::map::Entry;
 use std::alloc::Global;
 use std::marker::Model;
 
@@ -101,8 +102,12 @@ fn count_one(blocks: &mut IndexMap<Key, u64>, issuer: Key) -> Result<(), NoMemor
     requires { option_map_or (λ n. n) (get same_text blocks.old issuer) 0 < 2 ^ 63 }
     ensures { OnOk result (blocks.new.entries ≡ insert_entry same_text blocks.old.entries issuer (option_map_or (λ n. n) (get same_text blocks.old issuer) 0 + 1)) }
 {
-    let before = count_of(blocks, &issuer);
-    blocks.insert(issuer, before + 1).map_err(|_| NoMemory)?;
+    match blocks.entry(issuer).map_err(|_| NoMemory)? {
+        Entry::Occupied(mut entry) => *entry.get_mut() += 1,
+        Entry::Vacant(entry) => {
+            entry.insert(1);
+        }
+    }
     Ok(())
 }
 
