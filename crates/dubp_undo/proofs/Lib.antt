@@ -1,4 +1,5 @@
 pub mod Alike
+pub mod Counted
 pub mod Counting
 pub mod Covering
 pub mod Forgetting
@@ -14,5 +15,6 @@ pub mod Placing
 pub mod Results
 pub mod Setting
 pub mod Standing
+pub mod States
 pub mod Turning
 pub mod Walks

@@ -15,9 +15,10 @@
 //! ```
 //!
 //! Tables of a chain of blocks are seen by whose maps they have. A `Leaf` is a table with its `Definition`, which says what
-//! it has at each key, for each chain; `Both` is two that move together; the moves of `Tables` are proved once for all.
+//! it has at each key, for each chain; `Both` is two that move together, `Three` three; the moves of `Tables` are proved once for all.
 #![tactic(auto)]
 
+mod along;
 mod both;
 mod hints;
 mod leaf;
@@ -28,8 +29,11 @@ mod rows;
 mod table;
 #[cfg(test)]
 mod tests;
+mod three;
 
+pub use along::{Along, StateOf};
 pub use both::Both;
 pub use leaf::Leaf;
 pub use moving::{Definition, Tables};
 pub use table::UndoTable;
+pub use three::Three;
