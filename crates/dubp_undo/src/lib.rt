@@ -34,6 +34,6 @@ mod three;
 pub use along::{Along, StateOf};
 pub use both::Both;
 pub use leaf::Leaf;
-pub use moving::{Definition, Tables};
+pub use moving::{Definition, Shows, Tables};
 pub use table::UndoTable;
 pub use three::Three;
