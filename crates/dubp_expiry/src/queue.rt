@@ -1,0 +1,261 @@
+ghost use Rattle.std.specs.Prelude.{◌≡◌, ℕ, ◌+◌, ◌≤◌, ◌∷◌, List, [], length, OnOk, OnErr, IfSome, IfNone, false, ⊤};
+ghost use Rattle.std.specs.FinMap.{contains_key, insert, remove};
+ghost use Rattle.dubp_undo.specs.States.{AtMostMore};
+ghost use Rattle.dubp_expiry.specs.Entries.{Queued, queued, Has, IsBehind, IsNextDue, NoneIsDue, entry_at, until_now, how_many};
+
+use crate::due::{Behind, Due};
+use dubp_atoms::{NoMemory, Steps};
+use dubp_undo::{Definition, Leaf, Tables};
+use std::alloc::Global;
+use std::marker::Model;
+use std::sync::ledger::Ledger as StepBook;
+
+/// The entries after a block: a state of the queue. No value of it is made.
+#[derive(Drop)]
+pub struct Entries {
+    nothing: (),
+}
+
+impl Model for Entries {
+    ghost use Rattle.std.specs.Coded.{coded×, coded_ℕ};
+    ghost use Rattle.std.specs.FinMap.{code, empty};
+    ghost use Rattle.dubp_expiry.specs.Entries.{Queued, due_code};
+    ghost use base.Stored.{coded_unit};
+
+    ghost Value = { Queued };
+
+    ghost coded = { code (coded× coded_ℕ due_code) coded_unit };
+
+    ghost view = { λ a. empty };
+}
+
+/// The entries under their times.
+pub struct InOrder;
+
+impl Definition<Entries, (u64, Option<Due>), ()> for InOrder {
+    ghost at = { entry_at };
+}
+
+/// The table of entries. A key with a time alone is where the entries of that time begin; nothing stands there.
+type EntryTable = Leaf<Entries, (u64, Option<Due>), (), InOrder>;
+
+/// The queue of what falls due.
+#[derive(Drop)]
+pub struct Queue {
+    tables: EntryTable,
+}
+
+/// How many entries there are: a measure for loops that empty a queue.
+pub trait Counts {
+    ghost entries: { Self → ℕ };
+}
+
+impl Counts for Queue {
+    ghost entries = { λ t. how_many t.tables.now };
+}
+
+impl Tables<Entries> for Queue {
+    ghost costs = { λ t. ⟦<EntryTable as Tables<Entries>>⟧.costs t.tables };
+
+    ghost ahead_costs = { λ t. ⟦<EntryTable as Tables<Entries>>⟧.ahead_costs t.tables };
+
+    ghost at = { λ t c. ⟦<EntryTable as Tables<Entries>>⟧.at t.tables c };
+
+    ghost stands = { λ t c. ⟦<EntryTable as Tables<Entries>>⟧.stands t.tables c };
+
+    ghost marked = { λ t c. ⟦<EntryTable as Tables<Entries>>⟧.marked t.tables c };
+
+    ghost waits = { λ t o i. ⟦<EntryTable as Tables<Entries>>⟧.waits t.tables o i };
+
+    ghost same = { λ t u. ⟦<EntryTable as Tables<Entries>>⟧.same t.tables u.tables };
+
+    ghost marks = { λ t u. ⟦<EntryTable as Tables<Entries>>⟧.marks t.tables u.tables };
+
+    ghost keeps = { λ t u. ⟦<EntryTable as Tables<Entries>>⟧.keeps t.tables u.tables };
+
+    ghost spare = { λ t. ⟦<EntryTable as Tables<Entries>>⟧.spare t.tables };
+
+    ghost room = { λ t. ⟦<EntryTable as Tables<Entries>>⟧.room t.tables };
+
+    fn depth(&self) -> usize {
+        self.tables.depth()
+    }
+
+    fn mark(&mut self) -> Result<(), NoMemory> {
+        self.tables.mark()?;
+        Ok(())
+    }
+
+    fn unmark(&mut self) {
+        self.tables.unmark();
+    }
+
+    fn reserve(&mut self, k: usize) -> Result<(), NoMemory> {
+        self.tables.reserve(k)?;
+        Ok(())
+    }
+
+    fn hold<L: StepBook>(&mut self, steps: &mut Steps<L>) {
+        self.tables.hold(steps);
+    }
+
+    fn back<L: StepBook>(&mut self, steps: &mut Steps<L>) {
+        self.tables.back(steps);
+    }
+
+    fn again<L: StepBook>(&mut self, steps: &mut Steps<L>) {
+        self.tables.again(steps);
+    }
+
+    fn drop_oldest(&mut self) {
+        self.tables.drop_oldest();
+    }
+
+    fn drop_ahead(&mut self) {
+        self.tables.drop_ahead();
+    }
+
+    ghost use Rattle.std.proofs.Common.{refl, ap};
+    ghost use Rattle.dubp_undo.specs.Numbers.{counts};
+    ghost use Rattle.dubp_undo.specs.Standing.{at_same, stands_same, marked_same, waits_same, stands_applied};
+    ghost use Rattle.dubp_expiry.specs.DueOrder.{derived_cmp};
+    ghost use Rattle.dubp_expiry.specs.Entries.{entry_at, place_cmp};
+
+    ghost stands_at = { λ t c s. s.is };
+
+    ghost applied = { λ t b c m a. stands_applied (place_cmp derived_cmp) entry_at t.tables.past t.tables.now b c m a };
+
+    ghost same_refl = { λ t. record { past = refl; now = refl; ahead = refl; root = refl } };
+
+    ghost keeps_refl = { λ t q is. is };
+
+    ghost keeps_trans = { λ t u v f g q is. g q (f q is) };
+
+    ghost same_costs = { λ t u s. ap counts s.past };
+
+    ghost same_ahead_costs = { λ t u s. ap counts s.ahead };
+
+    ghost same_at = { λ t u c s a. at_same (place_cmp derived_cmp) entry_at t.tables.now u.tables.now c s.now a };
+
+    ghost same_stands = { λ t u c s a. stands_same (place_cmp derived_cmp) entry_at t.tables.past u.tables.past t.tables.now u.tables.now c s.past s.now a };
+
+    ghost same_marked = { λ t u c s m. marked_same (place_cmp derived_cmp) entry_at t.tables.past u.tables.past c s.past m };
+
+    ghost same_waits = { λ t u o i s w. waits_same (place_cmp derived_cmp) entry_at t.tables.root u.tables.root t.tables.ahead u.tables.ahead o i s.root s.ahead w };
+}
+
+impl Queue {
+    /// The queue without entries. It takes no memory.
+    pub fn new(alloc: Global) -> Queue
+        ensures stands { ⟦<Queue as Tables<Entries>>⟧.stands result [] }
+        ensures costs { ⟦<Queue as Tables<Entries>>⟧.costs result ≡ [] }
+        ensures ahead { ⟦<Queue as Tables<Entries>>⟧.ahead_costs result ≡ [] }
+        ensures waits { (o : List Queued) → ⟦<Queue as Tables<Entries>>⟧.waits result o 0 }
+    {
+        Queue {
+            tables: Leaf::new(alloc),
+        }
+    }
+
+    /// Whether the entry is there. It takes no memory.
+    pub fn has(&self, time: u64, due: &Due) -> bool
+        ensures { (s : List Queued) → ⟦<Queue as Tables<Entries>>⟧.at self.now s → result ≡ contains_key (queued s) (time, due.now) }
+    {
+        self.tables.get((time, Some(*due))).is_some()
+    }
+
+    /// The first entry, where its time, in seconds, is at most `now`. `None` where nothing is due. It takes no memory.
+    pub fn due(&self, now: u64) -> Option<(u64, Due)>
+        ensures found { (s : List Queued) → ⟦<Queue as Tables<Entries>>⟧.at self.now s → IfSome result (IsNextDue (queued s) (λ e. ⊤) now) }
+        ensures none { (s : List Queued) → ⟦<Queue as Tables<Entries>>⟧.at self.now s → IfNone result (NoneIsDue (queued s) (λ e. ⊤) now) }
+    {
+        until(self.tables.next_after(None), now)
+    }
+
+    /// The first entry behind the place, where its time, in seconds, is at most `now`. `None` where there is none. It takes no memory.
+    pub fn due_behind(&self, behind: Behind, now: u64) -> Option<(u64, Due)>
+        ensures found { (s : List Queued) → ⟦<Queue as Tables<Entries>>⟧.at self.now s → IfSome result (IsNextDue (queued s) (IsBehind behind) now) }
+        ensures none { (s : List Queued) → ⟦<Queue as Tables<Entries>>⟧.at self.now s → IfNone result (NoneIsDue (queued s) (IsBehind behind) now) }
+    {
+        match behind {
+            Behind::Time(time) => {
+                if time < now {
+                    until(self.tables.next_from((time + 1, None)), now)
+                } else {
+                    None
+                }
+            }
+            Behind::Entry(time, due) => until(self.tables.next_after(Some((time, Some(due)))), now),
+        }
+    }
+
+    /// Adds the entry. Where it is there, nothing changes, and there is no step; else there is one set and one step.
+    ///
+    /// `NoMemory` comes where there is no room for the entry; all is as it was then.
+    pub fn plan<L: StepBook>(
+        &mut self,
+        time: u64,
+        due: Due,
+        steps: &mut Steps<L>,
+    ) -> Result<(), NoMemory>
+        ensures at { OnOk result ((s t : List Queued) → ⟦<Queue as Tables<Entries>>⟧.at self.old s → ⟦<Queue as Tables<Entries>>⟧.at self.new (insert (queued s) (time, due) tt ∷ t)) }
+        ensures there { (s : List Queued) → ⟦<Queue as Tables<Entries>>⟧.at self.old s → Has (queued s) (time, due) → ⟦<Queue as Tables<Entries>>⟧.same self.old self.new }
+        ensures no_set { (s : List Queued) → ⟦<Queue as Tables<Entries>>⟧.at self.old s → Has (queued s) (time, due) → steps.new ≡ steps.old }
+        ensures marked { (s : List Queued) → ⟦<Queue as Tables<Entries>>⟧.marked self.old s → ⟦<Queue as Tables<Entries>>⟧.marked self.new s }
+        ensures waits { (o : List Queued) (i : ℕ) → ⟦<Queue as Tables<Entries>>⟧.waits self.old o i → ⟦<Queue as Tables<Entries>>⟧.waits self.new o i }
+        ensures ahead { ⟦<Queue as Tables<Entries>>⟧.ahead_costs self.new ≡ ⟦<Queue as Tables<Entries>>⟧.ahead_costs self.old }
+        ensures depth { length (⟦<Queue as Tables<Entries>>⟧.costs self.new) ≡ length (⟦<Queue as Tables<Entries>>⟧.costs self.old) }
+        ensures costs { OnOk result (AtMostMore 1 (⟦<Queue as Tables<Entries>>⟧.costs self.old) (⟦<Queue as Tables<Entries>>⟧.costs self.new)) }
+        ensures steps { OnOk result (steps.new ≤ steps.old + 1) }
+
+        ensures refused { OnErr result (⟦<Queue as Tables<Entries>>⟧.same self.old self.new) }
+        ensures no_step { OnErr result (steps.new ≡ steps.old) }
+    {
+        if self.has(time, &due) {
+            return Ok(());
+        }
+        self.tables.set((time, Some(due)), Some(()), steps)?;
+        Ok(())
+    }
+
+    /// Takes the entry out. Where it is not there, nothing changes, and there is no step; else there is one set and one step.
+    ///
+    /// `NoMemory` comes where there is no room to keep that the entry was there; all is as it was then.
+    pub fn cancel<L: StepBook>(
+        &mut self,
+        time: u64,
+        due: Due,
+        steps: &mut Steps<L>,
+    ) -> Result<(), NoMemory>
+        ensures at { OnOk result ((s t : List Queued) → ⟦<Queue as Tables<Entries>>⟧.at self.old s → ⟦<Queue as Tables<Entries>>⟧.at self.new (remove (queued s) (time, due) ∷ t)) }
+        ensures fewer { OnOk result ((s : List Queued) → ⟦<Queue as Tables<Entries>>⟧.at self.old s → Has (queued s) (time, due) → ⟦<Queue as Counts>⟧.entries self.new + 1 ≡ ⟦<Queue as Counts>⟧.entries self.old) }
+        ensures not_there { (s : List Queued) → ⟦<Queue as Tables<Entries>>⟧.at self.old s → contains_key (queued s) (time, due) ≡ false → ⟦<Queue as Tables<Entries>>⟧.same self.old self.new }
+        ensures no_set { (s : List Queued) → ⟦<Queue as Tables<Entries>>⟧.at self.old s → contains_key (queued s) (time, due) ≡ false → steps.new ≡ steps.old }
+        ensures marked { (s : List Queued) → ⟦<Queue as Tables<Entries>>⟧.marked self.old s → ⟦<Queue as Tables<Entries>>⟧.marked self.new s }
+        ensures waits { (o : List Queued) (i : ℕ) → ⟦<Queue as Tables<Entries>>⟧.waits self.old o i → ⟦<Queue as Tables<Entries>>⟧.waits self.new o i }
+        ensures ahead { ⟦<Queue as Tables<Entries>>⟧.ahead_costs self.new ≡ ⟦<Queue as Tables<Entries>>⟧.ahead_costs self.old }
+        ensures depth { length (⟦<Queue as Tables<Entries>>⟧.costs self.new) ≡ length (⟦<Queue as Tables<Entries>>⟧.costs self.old) }
+        ensures costs { OnOk result (AtMostMore 1 (⟦<Queue as Tables<Entries>>⟧.costs self.old) (⟦<Queue as Tables<Entries>>⟧.costs self.new)) }
+        ensures steps { OnOk result (steps.new ≤ steps.old + 1) }
+
+        ensures refused { OnErr result (⟦<Queue as Tables<Entries>>⟧.same self.old self.new) }
+        ensures no_step { OnErr result (steps.new ≡ steps.old) }
+    {
+        if !self.has(time, &due) {
+            return Ok(());
+        }
+        self.tables.set((time, Some(due)), None, steps)?;
+        Ok(())
+    }
+}
+
+/// The entry found, where its time is at most `now`.
+fn until(found: Option<((u64, Option<Due>), ())>, now: u64) -> Option<(u64, Due)>
+    ensures { result ≡ until_now now found }
+{
+    match found {
+        None => None,
+        Some(((_, None), ())) => None,
+        Some(((time, Some(due)), ())) => { if time <= now { Some((time, due)) } else { None } }
+    }
+}
