@@ -1,0 +1,5 @@
+use Rattle.dubp_steps.proofs.Lines.{certification_is_old as law}
+use Rattle.dubp_steps.proofs.laws.certification_is_old.Goals as goal
+
+pub returns : goal.returns
+returns c = law

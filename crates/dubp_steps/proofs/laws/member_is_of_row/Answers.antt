@@ -1,0 +1,5 @@
+use Rattle.dubp_steps.proofs.Counts.{member_is_of_row as law}
+use Rattle.dubp_steps.proofs.laws.member_is_of_row.Goals as goal
+
+pub returns : goal.returns
+returns c = law
