@@ -57,6 +57,10 @@ impl<B, S, T: Tables<S>, D: StateOf<B, S>> Tables<B> for Along<B, S, T, D> {
         self.tables.depth()
     }
 
+    fn laws(&self) {
+        self.tables.laws();
+    }
+
     fn mark(&mut self) -> Result<(), NoMemory> {
         self.tables.mark()?;
         Ok(())
@@ -90,26 +94,4 @@ impl<B, S, T: Tables<S>, D: StateOf<B, S>> Tables<B> for Along<B, S, T, D> {
     fn drop_ahead(&mut self) {
         self.tables.drop_ahead();
     }
-
-    ghost stands_at = { λ t c s. T.stands_at t.tables (states D.after c) s };
-
-    ghost applied = { λ t b c m a. T.applied t.tables (D.after (b ∷ c)) (states D.after c) m a };
-
-    ghost same_refl = { λ t. T.same_refl t.tables };
-
-    ghost keeps_refl = { λ t. T.keeps_refl t.tables };
-
-    ghost keeps_trans = { λ t u v f g. T.keeps_trans t.tables u.tables v.tables f g };
-
-    ghost same_costs = { λ t u s. T.same_costs t.tables u.tables s };
-
-    ghost same_ahead_costs = { λ t u s. T.same_ahead_costs t.tables u.tables s };
-
-    ghost same_at = { λ t u c s a. T.same_at t.tables u.tables (states D.after c) s a };
-
-    ghost same_stands = { λ t u c s a. T.same_stands t.tables u.tables (states D.after c) s a };
-
-    ghost same_marked = { λ t u c s m. T.same_marked t.tables u.tables (states D.after c) s m };
-
-    ghost same_waits = { λ t u o i s w. T.same_waits t.tables u.tables (states D.after o) i s w };
 }

@@ -68,7 +68,16 @@ impl<B, X: Tables<B>, Y: Tables<B>, Z: Tables<B>> Tables<B> for Three<B, X, Y, Z
         self.first.depth()
     }
 
+    fn laws(&self) {
+        self.first.laws();
+        self.second.laws();
+        self.third.laws();
+    }
+
     fn mark(&mut self) -> Result<(), NoMemory> {
+        self.first.laws();
+        self.second.laws();
+        self.third.laws();
         self.first.mark()?;
         match self.second.mark() {
             Ok(()) => match self.third.mark() {
@@ -93,6 +102,9 @@ impl<B, X: Tables<B>, Y: Tables<B>, Z: Tables<B>> Tables<B> for Three<B, X, Y, Z
     }
 
     fn reserve(&mut self, k: usize) -> Result<(), NoMemory> {
+        self.first.laws();
+        self.second.laws();
+        self.third.laws();
         self.first.reserve(k)?;
         self.second.reserve(k)?;
         self.third.reserve(k)?;
@@ -128,28 +140,4 @@ impl<B, X: Tables<B>, Y: Tables<B>, Z: Tables<B>> Tables<B> for Three<B, X, Y, Z
         self.second.drop_ahead();
         self.third.drop_ahead();
     }
-
-    ghost use Rattle.dubp_undo.specs.Numbers.{plus_same};
-
-    ghost stands_at = { λ t c s. (X.stands_at t.first c s.0, Y.stands_at t.second c s.1, Z.stands_at t.third c s.2) };
-
-    ghost applied = { λ t b c m a. (X.applied t.first b c m.0 a.0, Y.applied t.second b c m.1 a.1, Z.applied t.third b c m.2 a.2) };
-
-    ghost same_refl = { λ t. (X.same_refl t.first, Y.same_refl t.second, Z.same_refl t.third) };
-
-    ghost keeps_refl = { λ t. (X.keeps_refl t.first, Y.keeps_refl t.second, Z.keeps_refl t.third) };
-
-    ghost keeps_trans = { λ t u v f g. (X.keeps_trans t.first u.first v.first f.0 g.0, Y.keeps_trans t.second u.second v.second f.1 g.1, Z.keeps_trans t.third u.third v.third f.2 g.2) };
-
-    ghost same_costs = { λ t u s. plus_same _ _ _ _ (X.same_costs t.first u.first s.0) (plus_same _ _ _ _ (Y.same_costs t.second u.second s.1) (Z.same_costs t.third u.third s.2)) };
-
-    ghost same_ahead_costs = { λ t u s. plus_same _ _ _ _ (X.same_ahead_costs t.first u.first s.0) (plus_same _ _ _ _ (Y.same_ahead_costs t.second u.second s.1) (Z.same_ahead_costs t.third u.third s.2)) };
-
-    ghost same_at = { λ t u c s a. (X.same_at t.first u.first c s.0 a.0, Y.same_at t.second u.second c s.1 a.1, Z.same_at t.third u.third c s.2 a.2) };
-
-    ghost same_stands = { λ t u c s a. (X.same_stands t.first u.first c s.0 a.0, Y.same_stands t.second u.second c s.1 a.1, Z.same_stands t.third u.third c s.2 a.2) };
-
-    ghost same_marked = { λ t u c s m. (X.same_marked t.first u.first c s.0 m.0, Y.same_marked t.second u.second c s.1 m.1, Z.same_marked t.third u.third c s.2 m.2) };
-
-    ghost same_waits = { λ t u o i s w. (X.same_waits t.first u.first o i s.0 w.0, Y.same_waits t.second u.second o i s.1 w.1, Z.same_waits t.third u.third o i s.2 w.2) };
 }
