@@ -1,5 +1,7 @@
 pub mod Empty
+pub mod Entries
 pub mod KeyOrder
+pub mod Members
 pub mod Numbered
 pub mod Numbers
 pub mod Putting

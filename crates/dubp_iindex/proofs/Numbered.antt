@@ -17,7 +17,7 @@ use Rattle.dubp_iindex.specs.declared.row.IdentityRow.{IdentityRow}
 use Rattle.dubp_iindex.specs.declared.row.Counts.{Counts}
 use Rattle.dubp_iindex.specs.Rows.{Rows, texts, members, counts_of}
 use Rattle.dubp_iindex.specs.Writing.{bit, same, sets, was_member, uid_write, member_write, counted, no_counts, counts_write, writes_of}
-use Rattle.dubp_iindex.proofs.Uids.{texts-apart}
+use Rattle.dubp_iindex.proofs.Entries.{texts-apart}
 
 is_false : (b : Bool) → (b ≡ true → ⊥) → b ≡ false
 is_false true no_way = absurd (no_way refl)

@@ -16,7 +16,8 @@ use Rattle.dubp_iindex.specs.Rows.{Rows, texts, one, key_with, is_member_at, cou
 use Rattle.dubp_iindex.specs.Writing.{IsSet, IsWritten, was_member, uid_write, member_write, counts_write, counted, no_counts}
 use Rattle.dubp_iindex.proofs.Numbers.{add_last-none}
 use Rattle.dubp_iindex.proofs.Numbered.{counts_after, counts_stay}
-use Rattle.dubp_iindex.proofs.Uids.{texts-apart, key_after, key_stays}
+use Rattle.dubp_iindex.proofs.Entries.{texts-apart}
+use Rattle.dubp_iindex.proofs.Uids.{key_after, key_stays}
 
 -- nothing is written
 pub none_set : {K V : Type 0} (cmp : K → K → Ordering) (key : K) (write : Option (Option V)) (table : MovingTable K V) → write ≡ None → IsSet cmp key write table table

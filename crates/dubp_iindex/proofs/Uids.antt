@@ -1,61 +1,19 @@
 -- The first key whose row has a uid, where a row is put.
-use Rattle.std.proofs.Common.{◌≡◌, ◌&&◌, Bool, true, false, cond, List, [], ◌∷◌, Option, Some, None, refl, sym, ap, subst, ◌∙◌, true≢false}
+use Rattle.std.proofs.Common.{◌≡◌, Bool, true, false, cond, [], ◌∷◌, Option, Some, None, refl, sym, ap, subst, ◌∙◌, true≢false}
 use Rattle.std.specs.Prelude.{T, find, option_map}
 use Rattle.std.specs.Option.{IfSome}
-use Rattle.std.specs.Ordering.{is_lt, is_eq, eq_by_cmp}
-use Rattle.std.specs.declared.cmp.Ordering.{Ordering}
+use Rattle.std.specs.Ordering.{is_eq, eq_by_cmp}
 use Rattle.std.specs.declared.cmp.Ordering.TheVariants.{Less, Equal, Greater}
 use Rattle.std.specs.Cmp.{tied_itself}
 use Rattle.std.specs.Cmp.Lexicographic.{nat_list_cmp_total, bytes_decides}
-use Rattle.std.specs.FinMap.{nat_cmp-IsAntisymmetric, slice_cmp-IsAntisymmetric, entries, entries_sorted, get, insert, put, is_sorted, get-entries, get-insert, entries-insert}
+use Rattle.std.specs.FinMap.{entries, entries_sorted, get, insert, put, is_sorted, get-entries, get-insert, entries-insert}
 use Rattle.std.specs.FinMap as map
-use Rattle.std.specs.FinMap.Entries.{by_order, below_all}
+use Rattle.std.specs.FinMap.Entries.{by_order}
 use Rattle.std.proofs.lemmas.Option.{none-some, same_Some}
 use Rattle.dubp_atoms.specs.Same.{Text, same_text}
 use Rattle.dubp_iindex.specs.declared.row.IdentityRow.{IdentityRow}
 use Rattle.dubp_iindex.specs.Rows.{Rows, texts, key_with, FitsRows}
-
-abbrev Entries : Type 0
-Entries = List (Text × IdentityRow)
-
-pub texts-apart : (x y : Text) → texts x y ≡ Equal → x ≡ y
-texts-apart x y e = slice_cmp-IsAntisymmetric nat_cmp-IsAntisymmetric x y e
-
-front : (a b : Bool) → T (a && b) → T a
-front true b p = tt
-front false b p = absurd p
-
-back : (a b : Bool) → T (a && b) → T b
-back true b p = p
-back false b p = absurd p
-
-is_equal : (o : Ordering) → is_eq o ≡ true → o ≡ Equal
-is_equal Less h = cc
-is_equal Equal h = refl
-is_equal Greater h = cc
-
-less_only : (o : Ordering) → T (is_lt o) → is_eq o ≡ false
-less_only Less h = refl
-less_only Equal h = absurd h
-less_only Greater h = absurd h
-
--- ---- entries in order, each key once
-
-find_first : (e : Text × IdentityRow) (es : Entries) → map.find texts e.0 (e ∷ es) ≡ Some e.1
-find_first e es = ap (λ r. cond (is_eq r) (Some e.1) (map.find texts e.0 es)) (tied_itself nat_list_cmp_total e.0)
-
-find_below : (k : Text) (es : Entries) → T (below_all texts k es) → map.find texts k es ≡ None
-find_below k [] below = refl
-find_below k (e ∷ es) below =
-    ap (λ b. cond b (Some e.1) (map.find texts k es)) (less_only (texts k e.0) (front _ _ below)) ∙ find_below k es (back _ _ below)
-
--- what is found behind the first entry is found with it
-find_later : (e : Text × IdentityRow) (es : Entries) → T (below_all texts e.0 es) → (k : Text) (row : IdentityRow) → map.find texts k es ≡ Some row → map.find texts k (e ∷ es) ≡ Some row
-find_later e es below k row found =
-    elim (eq_by_cmp texts k e.0) as (λ b. eq_by_cmp texts k e.0 ≡ b → cond b (Some e.1) (map.find texts k es) ≡ Some row) [
-      | true ↦ λ same. absurd (none-some row (sym (find_below e.0 es below) ∙ ap (λ q. map.find texts q es) (sym (texts-apart k e.0 (is_equal (texts k e.0) same))) ∙ found))
-      | false ↦ λ _. found
-    ] refl
+use Rattle.dubp_iindex.proofs.Entries.{Entries, texts-apart, front, back, find_first, find_later}
 
 module _ (test : IdentityRow → Bool) where
   abbrev first_key : Entries → Option Text
@@ -134,3 +92,37 @@ module _ (rows : Rows) (key : Text) (row : IdentityRow) (fits : FitsRows rows ke
       key_found (λ (r : IdentityRow). same_text row.uid r.uid) (entries rows) (entries_sorted rows) key old (sym (get-entries rows key) ∙ there)
       ((bytes_decides row.uid old.uid).1 (sym (own_uid (get rows key) row old there fits.own)))
       (λ k other found same. fits.others k other (get-entries rows k ∙ found) (sym ((bytes_decides row.uid other.uid).0 same)))
+
+-- ---- what the key of a uid says of the rows, for crates above
+
+module _ (test : IdentityRow → Bool) where
+  first_has : (es : Entries) → T (is_sorted texts es) → (k : Text) → first_key test es ≡ Some k → (row : IdentityRow) × (map.find texts k es ≡ Some row) × (test row ≡ true)
+  first_has [] sorted k is = absurd (none-some k is)
+  first_has (e ∷ es) sorted k is =
+      elim (test e.1) as (λ b. test e.1 ≡ b → option_map (λ (x : Text × IdentityRow). x.0) (cond b (Some e) (find (λ (x : Text × IdentityRow). test x.1) es)) ≡ Some k → (row : IdentityRow) × (map.find texts k (e ∷ es) ≡ Some row) × (test row ≡ true)) [
+        | true ↦ λ passes here. (e.1, ap (λ q. map.find texts q (e ∷ es)) (sym (same_Some e.0 k here)) ∙ find_first e es, passes)
+        | false ↦ λ _ there. let h = first_has es (back _ _ sorted) k there in (h.0, find_later e es (front _ _ sorted) k h.0 h.1, h.2)
+      ] refl is
+
+  none_has : (es : Entries) → first_key test es ≡ None → (k : Text) (row : IdentityRow) → map.find texts k es ≡ Some row → test row ≡ true → ⊥
+  none_has [] is k row there passes = none-some row there
+  none_has (e ∷ es) is k row there passes =
+      elim (test e.1) as (λ b. test e.1 ≡ b → option_map (λ (x : Text × IdentityRow). x.0) (cond b (Some e) (find (λ (x : Text × IdentityRow). test x.1) es)) ≡ None → ⊥) [
+        | true ↦ λ _ here. none-some e.0 (sym here)
+        | false ↦ λ fails later.
+            elim (eq_by_cmp texts k e.0) as (λ b. cond b (Some e.1) (map.find texts k es) ≡ Some row → ⊥) [
+              | true ↦ λ own. true≢false (sym passes ∙ ap test (sym (same_Some e.1 row own)) ∙ fails)
+              | false ↦ λ behind. none_has es later k row behind passes
+            ] there
+      ] refl is
+
+-- the key has a row of the uid
+pub key_with-has : (rows : Rows) (uid k : Text) → key_with uid rows ≡ Some k → (row : IdentityRow) × (get rows k ≡ Some row) × (row.uid ≡ uid)
+key_with-has rows uid k is =
+    let h = first_has (λ (r : IdentityRow). same_text uid r.uid) (entries rows) (entries_sorted rows) k is in
+    (h.0, get-entries rows k ∙ h.1, sym ((bytes_decides uid h.0.uid).0 h.2))
+
+-- no row has the uid
+pub key_with-none : (rows : Rows) (uid : Text) → key_with uid rows ≡ None → (k : Text) (row : IdentityRow) → get rows k ≡ Some row → row.uid ≡ uid → ⊥
+key_with-none rows uid is k row there same =
+    none_has (λ (r : IdentityRow). same_text uid r.uid) (entries rows) is k row (sym (get-entries rows k) ∙ there) ((bytes_decides uid row.uid).1 (sym same))
