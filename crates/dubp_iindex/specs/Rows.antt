@@ -11,10 +11,11 @@ use Rattle.dubp_undo.specs.States.{newest}
 use Rattle.dubp_iindex.specs.declared.row.IdentityRow.{IdentityRow}
 use Rattle.dubp_iindex.specs.declared.row.Counts.{Counts}
 
--- keys and uids in the order of the bytes of their texts, and the order of the one key that the numbers stand under
+-- keys and uids in the order of the bytes of their texts
 abbrev pub texts : Text → Text → Ordering
 texts = slice_cmp nat_cmp
 
+-- the order of the one key that the numbers stand under
 abbrev pub one : Unit {0} → Unit {0} → Ordering
 one _ _ = Equal
 
@@ -53,15 +54,18 @@ pub record FitsRows (rows : Rows) (key : Text) (row : IdentityRow) : Type 0 wher
 abbrev pub newest_rows : List Rows → Rows
 newest_rows states = newest empty states
 
--- the four tables
+-- the four tables: the row of each key
 abbrev pub row_at : List Rows → Text → Option IdentityRow
 row_at states key = get (newest_rows states) key
 
+-- the key of each uid
 abbrev pub key_at : List Rows → Text → Option Text
 key_at states uid = key_with uid (newest_rows states)
 
+-- each member stands under its key
 abbrev pub member_at : List Rows → Text → Option (Unit {0})
 member_at states key = if is_member_at (newest_rows states) key then Some tt else None
 
+-- the numbers stand under the one key
 abbrev pub counts_at : List Rows → Unit {0} → Option Counts
 counts_at states _ = counts_of (newest_rows states)

@@ -10,6 +10,7 @@ use Rattle.dubp_iindex.specs.declared.row.IdentityRow.{IdentityRow}
 use Rattle.dubp_iindex.specs.declared.row.Counts.{Counts}
 use Rattle.dubp_iindex.specs.declared.writing.Writes.{Writes}
 
+-- both or neither
 abbrev pub same : Bool → Bool → Bool
 same true b = b
 same false b = not b
@@ -23,6 +24,7 @@ writes_of (Some old) row = if same old.member row.member then 1 else 3
 -- ---- these words mirror the code. A write is what a key gets: None where it is not set, else its new value, or None in it where it loses its value
 
 module _ {V : Type 0} where
+  -- how many keys are set by a write
   abbrev pub sets : Option (Option V) → ℕ
   sets None = 0
   sets (Some value) = 1
@@ -54,6 +56,7 @@ pub record OnlyNow {S K V : Type 0} (cmp : K → K → Ordering) (definition : L
   pub ahead : new.ahead ≡ old.ahead
   pub root : new.root ≡ old.root
 
+-- whether a row stood there, and a member's
 abbrev pub was_member : Option IdentityRow → Bool
 was_member old = option_map_or (λ (row : IdentityRow). row.member) old false
 
@@ -68,20 +71,22 @@ member_write true false = Some None
 member_write false true = Some (Some tt)
 member_write false false = None
 
+-- 1 where it is so, else 0
 abbrev pub bit : Bool → ℕ
 bit b = cond b 1 0
 
--- the numbers behind it
+-- the numbers where the row is put over what stood at its key
 abbrev pub counted : Counts → Option IdentityRow → IdentityRow → Counts
 counted counts old row = record {
   identities = counts.identities + cond (is_some old) 0 1;
   members = (counts.members + bit row.member) - bit (was_member old);
 }
 
+-- the numbers where nothing is counted
 abbrev pub no_counts : Counts
 no_counts = record { identities = 0; members = 0 }
 
--- they are set for a new identity, and where the member comes or goes
+-- the numbers are set for a new identity, and where the member comes or goes
 abbrev pub counts_write : Option Counts → Option IdentityRow → IdentityRow → Option (Option Counts)
 counts_write before old row =
     if is_some old && is_none (member_write (was_member old) row.member) then None else Some (Some (counted (unwrap_or before no_counts) old row))

@@ -23,4 +23,3 @@ mod writing;
 
 pub use index::IIndex;
 pub use row::{Counts, IdentityRow, IdentityRows};
-pub use tables::{CountsOf, MembersOf, RowsOf, UidsOf};
