@@ -1,0 +1,301 @@
+-- What one source more, and one less, makes of the tables that are kept beside the sources.
+use Rattle.std.proofs.Common.{◌≡◌, ℕ, ◌+◌, ◌-◌, ◌<◌, ◌≤◌, Bool, true, false, cond, not, ◌||◌, ◌&&◌, ◌==◌, List, [], ◌∷◌, ◌++◌, Option, Some, None, option_map, filter, length, sum_by, nat_lt, refl, ap, sym, ◌∙◌, subst, true≢false, inl, inr, arith, append-nil, length-append, zero-add, min}
+use Rattle.std.specs.Prelude.{find}
+use Rattle.std.specs.Option.{option_or}
+use Rattle.std.specs.List.{list_any, AllByRecursion}
+use Rattle.std.specs.Ordering.{nat_cmp, ordering_then, is_eq}
+use Rattle.std.specs.declared.cmp.Ordering.{Ordering}
+use Rattle.std.specs.declared.cmp.Ordering.TheVariants.{Less, Equal, Greater}
+use Rattle.std.proofs.lemmas.List.Elements.{filter-append, filter_agree}
+use Rattle.std.proofs.lemmas.List.Filters.{length-filter_both, sum_by-filter_both}
+use Rattle.std.proofs.lemmas.List.Sums.{sum_by-cons, sum_by-append}
+use Rattle.std.proofs.lemmas.Bool.{ltb-true}
+use Rattle.std.proofs.lemmas.Bool.Decides.{Decides-eqb}
+use Rattle.std.proofs.lemmas.Map.Text.{is_eq-slice_cmp}
+use Rattle.dubp_cond.specs.declared.source.SourceId.{SourceId}
+use Rattle.dubp_cond.specs.declared.source.SourceId.TheVariants.{D, T}
+use Rattle.dubp_cond.specs.SourceOrder.{derived_cmp}
+use Rattle.dubp_sindex.specs.declared.rows.Balance.{Balance}
+use Rattle.dubp_sindex.specs.Rows.{Entry, same_source, units, units_of_entry, is_of, is_named, of_account, row_at, without, Rises, IsBelow, IsInRange, IsNewRow, AreRows}
+use Rattle.dubp_sindex.specs.Derived.{pair_cmp, is_placed_at, id_at, balance_of, balance_at}
+use Rattle.dubp_sindex.specs.Changes.{joined, parted, IsChanged}
+use Rattle.dubp_sindex.proofs.Elements.{and_right, is_false, not_true, IsIn, in_all, all_append, all_from_in, in_any, none_in, in_filter, kept_in, filter_on, filter_true, filter_twice}
+use Rattle.dubp_sindex.proofs.Once.{once-filter, once-append, sum_of_one, each_once-map}
+use Rattle.dubp_sindex.proofs.Sources.{same_source_is, same_source_own, OnceEach, once_each, one_of_name}
+
+-- ---- keys that compare as equal
+
+is_eq_then : (o p : Ordering) → is_eq (ordering_then o p) ≡ (is_eq o && is_eq p)
+is_eq_then Less p = refl
+is_eq_then Equal p = refl
+is_eq_then Greater p = refl
+
+pub tied_numbers : (x y : ℕ) → is_eq (nat_cmp x y) ≡ (x == y)
+tied_numbers x y =
+    elim (nat_lt x y) as (λ r. nat_lt x y ≡ r → is_eq (cond r Less (cond (x == y) Equal Greater)) ≡ (x == y)) [
+      | true ↦ λ below. sym (is_false (x == y) (λ e. omega (arith, ltb-true x y below, (Decides-eqb x y).0 e)))
+      | false ↦ λ _. elim (x == y) as (λ r. is_eq (cond r Equal Greater) ≡ r) [ true ↦ refl | false ↦ refl ]
+    ] refl
+
+pub tied_pairs : (x y : ℕ × ℕ) → is_eq (pair_cmp x y) ≡ (x.0 == y.0 && x.1 == y.1)
+tied_pairs x y = is_eq_then (nat_cmp x.0 y.0) (nat_cmp x.1 y.1) ∙ (λ i. tied_numbers x.0 y.0 i && tied_numbers x.1 y.1 i)
+
+pub tied_sources : (a b : SourceId) → is_eq (derived_cmp a b) ≡ same_source a b
+tied_sources (D k n) (D k' n') = is_eq_then _ (nat_cmp n n') ∙ (λ i. is_eq-slice_cmp k k' i && tied_numbers n n' i)
+tied_sources (D k n) (T t m) = refl
+tied_sources (T t m) (D k n) = refl
+tied_sources (T t m) (T t' m') = is_eq_then _ (nat_cmp m m') ∙ (λ i. is_eq-slice_cmp t t' i && tied_numbers m m' i)
+
+-- ---- what is found at a key
+
+find-push : (p : Entry → Bool) (rows : List Entry) (r : Entry) → find p (rows ++ r ∷ []) ≡ option_or (find p rows) (cond (p r) (Some r) None)
+find-push p [] r = refl
+find-push p (x ∷ rows) r =
+    elim (p x) as (λ k. cond k (Some x) (find p (rows ++ r ∷ [])) ≡ option_or (cond k (Some x) (find p rows)) (cond (p r) (Some r) None)) [ true ↦ refl | false ↦ find-push p rows r ]
+
+find_none : (p : Entry → Bool) (rows : List Entry) → list_any p rows ≡ false → find p rows ≡ None
+find_none p [] none = refl
+find_none p (x ∷ rows) none =
+    elim (p x) as (λ k. (k || list_any p rows) ≡ false → cond k (Some x) (find p rows) ≡ None) [ true ↦ λ e. absurd (true≢false e) | false ↦ λ e. find_none p rows e ] none
+
+find_kept : (p q : Entry → Bool) (rows : List Entry) → ((x : Entry) → IsIn x rows → q x ≡ false → p x ≡ false) → find p (filter q rows) ≡ find p rows
+find_kept p q [] same = refl
+find_kept p q (x ∷ rows) same =
+    let later = find_kept p q rows (λ y there. same y (inr there)) in
+    elim (q x) as (λ k. q x ≡ k → find p (cond k (x ∷ filter q rows) (filter q rows)) ≡ cond (p x) (Some x) (find p rows)) [
+      | true ↦ λ _. ap (cond (p x) (Some x)) later
+      | false ↦ λ out. let fails : p x ≡ false = same x (inl refl) out in rw fails later
+    ] refl
+
+module _ {A : Type 0} where
+  -- where the new row passes and no other does
+  pub put_found : (f : Entry → A) (p : Entry → Bool) (rows : List Entry) (r : Entry) → (p r ≡ true → list_any p rows ≡ false)
+      → option_map f (find p (rows ++ r ∷ [])) ≡ cond (p r) (Some (f r)) (option_map f (find p rows))
+  put_found f p rows r none =
+      ap (option_map f) (find-push p rows r)
+      ∙ elim (p r) as (λ k. p r ≡ k → option_map f (option_or (find p rows) (cond k (Some r) None)) ≡ cond k (Some (f r)) (option_map f (find p rows))) [
+        | true ↦ λ is. ap (λ o. option_map f (option_or o (Some r))) (find_none p rows (none is))
+        | false ↦ λ _. by_either (find p rows)
+      ] refl
+    where
+      by_either : (o : Option Entry) → option_map f (option_or o None) ≡ option_map f o
+      by_either None = refl
+      by_either (Some x) = refl
+
+  -- a row that passes alone is gone, and no other is
+  pub gone_found : (f : Entry → A) (p : Entry → Bool) (rows : List Entry) (r : Entry) → OnceEach rows → IsIn r rows → ((x : Entry) → IsIn x rows → p x ≡ true → p r ≡ true → x ≡ r)
+      → option_map f (find p (without r.0 rows)) ≡ cond (p r) None (option_map f (find p rows))
+  gone_found f p rows r once there alone =
+      elim (p r) as (λ k. p r ≡ k → option_map f (find p (without r.0 rows)) ≡ cond k None (option_map f (find p rows))) [
+        | true ↦ λ is. ap (option_map f) (find_none p (without r.0 rows) (none_in p (without r.0 rows) (λ x left.
+            let h = in_filter (λ e. not (is_named r.0 e)) rows x left in
+            is_false (p x) (λ passes. true≢false (sym (subst (λ (y : Entry). same_source r.0 y.0 ≡ true) (sym (alone x h.0 passes is)) (same_source_own r.0)) ∙ not_true (is_named r.0 x) h.1)))))
+        | false ↦ λ fails. ap (option_map f) (find_kept p (λ e. not (is_named r.0 e)) rows (λ x in_rows out.
+            ap p (sym (one_of_name rows once r x there in_rows (unnot (is_named r.0 x) out))) ∙ fails))
+      ] refl
+    where
+      unnot : (k : Bool) → not k ≡ false → k ≡ true
+      unnot true e = refl
+      unnot false e = absurd (true≢false e)
+
+-- ---- places in the order
+
+rises_above : (x : Entry) (rows : List Entry) → IsBelow x.1.order rows → (y : Entry) → IsIn y rows → x.1.order < y.1.order
+rises_above x rows below y there = in_all (λ (e : Entry). x.1.order < e.1.order) rows below y there
+
+pub one_of_order : (rows : List Entry) → Rises rows → (x y : Entry) → IsIn x rows → IsIn y rows → x.1.order ≡ y.1.order → x ≡ y
+one_of_order [] rises x y there there' same = absurd there
+one_of_order (z ∷ zs) rises x y (inl e) (inl f) same = e ∙ sym f
+one_of_order (z ∷ zs) rises x y (inl e) (inr there) same = absurd (omega (arith, rises_above z zs rises.0 y there, ap (λ (w : Entry). w.1.order) e, same))
+one_of_order (z ∷ zs) rises x y (inr there) (inl f) same = absurd (omega (arith, rises_above z zs rises.0 x there, ap (λ (w : Entry). w.1.order) f, same))
+one_of_order (z ∷ zs) rises x y (inr there) (inr there') same = one_of_order zs rises.1 x y there there' same
+
+-- ---- one source more
+
+module _ (rows : List Entry) (r : Entry) (order : AreRows rows) (new : IsNewRow rows r) where
+  pub made_row : (id : SourceId) → row_at id (rows ++ r ∷ []) ≡ cond (same_source id r.0) (Some r.1) (row_at id rows)
+  made_row id =
+      put_found (λ (e : Entry). e.1) (is_named id) rows r
+      (λ is. subst (λ name. list_any (is_named name) rows ≡ false) (sym (same_source_is id r.0 is)) new.unnamed)
+
+  pub made_place : (k : ℕ × ℕ) → id_at k (rows ++ r ∷ []) ≡ cond (is_placed_at k r) (Some r.0) (id_at k rows)
+  made_place k =
+      put_found (λ (e : Entry). e.0) (is_placed_at k) rows r
+      (λ is. none_in (is_placed_at k) rows (λ x there. is_false (is_placed_at k x) (λ also.
+      omega (
+        arith,
+        in_all (λ (e : Entry). e.1.order < r.1.order) rows new.behind x there,
+        (Decides-eqb k.1 r.1.order).0 (and_right (k.0 == r.1.account) (k.1 == r.1.order) is),
+        (Decides-eqb k.1 x.1.order).0 (and_right (k.0 == x.1.account) (k.1 == x.1.order) also),
+      ))))
+
+  balance-push : (xs : List Entry) → balance_of (xs ++ r ∷ []) ≡ Some (joined (balance_of xs) (units_of_entry r))
+  balance-push [] = ap (λ n. Some (record { units = n; count = 1 })) (zero-add (units_of_entry r))
+  balance-push (x ∷ xs) = λ i. Some (record { units = whole i; count = counted i })
+    where
+      whole : sum_by units_of_entry ((x ∷ xs) ++ r ∷ []) ≡ sum_by units_of_entry (x ∷ xs) + units_of_entry r
+      whole = sum_by-append units_of_entry (x ∷ xs) (r ∷ []) ∙ ap (λ n. sum_by units_of_entry (x ∷ xs) + n) (zero-add (units_of_entry r))
+
+      counted : length ((x ∷ xs) ++ r ∷ []) ≡ length (x ∷ xs) + 1
+      counted = omega (arith, length-append (x ∷ xs) (r ∷ []))
+
+  pub made_balance : (account : ℕ) → balance_at account (rows ++ r ∷ []) ≡ cond (account == r.1.account) (Some (joined (balance_at account rows) (units_of_entry r))) (balance_at account rows)
+  made_balance account =
+      ap balance_of (filter-append (is_of account) rows (r ∷ []))
+      ∙ elim (account == r.1.account) as (λ k. balance_of (of_account account rows ++ cond k (r ∷ []) []) ≡ cond k (Some (joined (balance_at account rows) (units_of_entry r))) (balance_at account rows)) [
+        | true ↦ balance-push (of_account account rows)
+        | false ↦ ap balance_of (append-nil (of_account account rows))
+      ]
+
+  rises-push : (xs : List Entry) → Rises xs → AllByRecursion (λ (e : Entry). e.1.order < r.1.order) xs → Rises (xs ++ r ∷ [])
+  rises-push [] rises behind = (tt, tt)
+  rises-push (x ∷ xs) rises behind = (all_append (λ (e : Entry). x.1.order < e.1.order) xs (r ∷ []) rises.0 (behind.0, tt), rises-push xs rises.1 behind.1)
+
+  pub made_rows : AreRows (rows ++ r ∷ [])
+  made_rows = record {
+    once =
+        each_once-map same_source (λ (e : Entry). e.0) (rows ++ r ∷ [])
+        ∙ once-append same_source same_source_is same_source_own (λ (e : Entry). e.0) rows (r ∷ []) (once_each rows order) refl
+        (λ x y there last. is_false (same_source x.0 y.0) (λ same.
+        elim last [
+          | inl e ↦ true≢false (sym (in_any (is_named r.0) rows x there (subst (λ id. same_source r.0 id ≡ true) (sym (same_source_is x.0 y.0 same ∙ ap (λ (w : Entry). w.0) e)) (same_source_own r.0))) ∙ new.unnamed)
+          | inr none ↦ none
+        ]));
+    rises = rises-push rows order.rises new.behind;
+    in_range = all_append IsInRange rows (r ∷ []) order.in_range (new.in_range, tt);
+  }
+
+-- ---- one source less
+
+pub rises-filter : (p : Entry → Bool) (xs : List Entry) → Rises xs → Rises (filter p xs)
+rises-filter p [] rises = tt
+rises-filter p (x ∷ xs) rises =
+    let later = rises-filter p xs rises.1 in
+    elim (p x) as (λ k. Rises (cond k (x ∷ filter p xs) (filter p xs))) [
+      | true ↦ (all_from_in (λ (e : Entry). x.1.order < e.1.order) (filter p xs) (λ y there. in_all (λ (e : Entry). x.1.order < e.1.order) xs rises.0 y (in_filter p xs y there).0), later)
+      | false ↦ later
+    ]
+
+-- a row that stands once is one of the list
+one_row : (f : Entry → ℕ) (xs : List Entry) → OnceEach xs → (r : Entry) → IsIn r xs → sum_by f (filter (is_named r.0) xs) ≡ f r
+one_row f xs once r there =
+    ap (λ p. sum_by f (filter p xs)) (λ i x. flip r.0 x.0 i) ∙ sum_of_one same_source same_source_is same_source_own (λ (e : Entry). e.0) f xs r once there
+  where
+    flip : (a b : SourceId) → same_source a b ≡ same_source b a
+    flip a b =
+        elim (same_source a b) as (λ k. same_source a b ≡ k → k ≡ same_source b a) [
+          | true ↦ λ e. sym (subst (λ id. same_source id a ≡ true) (same_source_is a b e) (same_source_own a))
+          | false ↦ λ e. sym (is_false (same_source b a) (λ h. true≢false (sym (subst (λ id. same_source id b ≡ true) (same_source_is b a h) (same_source_own b)) ∙ e)))
+        ] refl
+
+count_is : (xs : List Entry) → length xs ≡ sum_by (λ (e : Entry). 1) xs
+count_is [] = refl
+count_is (x ∷ xs) = omega (arith, sum_by-cons (λ (e : Entry). 1) x xs, count_is xs)
+
+-- one row less
+parted_is : (xs ys : List Entry) (units : ℕ) → length ys + 1 ≡ length xs → sum_by units_of_entry ys + units ≡ sum_by units_of_entry xs → balance_of ys ≡ parted (balance_of xs) units
+parted_is [] ys units counted whole = absurd (omega (arith, counted))
+parted_is (x ∷ xs) [] units counted whole =
+    let last : (length (x ∷ xs) == 1) ≡ true = (Decides-eqb (length (x ∷ xs)) 1).1 (omega (arith, counted)) in
+    rw last refl
+parted_is (x ∷ xs) (y ∷ ys) units counted whole =
+    let more : (length (x ∷ xs) == 1) ≡ false = is_false (length (x ∷ xs) == 1) (λ e. omega (arith, counted, (Decides-eqb (length (x ∷ xs)) 1).0 e)) in
+    let left : sum_by units_of_entry (y ∷ ys) ≡ sum_by units_of_entry (x ∷ xs) - units = omega (arith, whole) in
+    let fewer : length (y ∷ ys) ≡ length (x ∷ xs) - 1 = omega (arith, counted) in
+    rw more (λ i. Some (record { units = left i; count = fewer i }))
+
+module _ (rows : List Entry) (r : Entry) (order : AreRows rows) (there : IsIn r rows) where
+  pub gone_row : (id : SourceId) → row_at id (without r.0 rows) ≡ cond (same_source id r.0) None (row_at id rows)
+  gone_row id =
+      gone_found (λ (e : Entry). e.1) (is_named id) rows r (once_each rows order) there
+      (λ x in_rows is also. one_of_name rows (once_each rows order) x r in_rows there
+      (subst (λ name. same_source name r.0 ≡ true) (sym (sym (same_source_is id x.0 is) ∙ same_source_is id r.0 also)) (same_source_own r.0)))
+
+  pub gone_place : (k : ℕ × ℕ) → id_at k (without r.0 rows) ≡ cond (is_placed_at k r) None (id_at k rows)
+  gone_place k =
+      gone_found (λ (e : Entry). e.0) (is_placed_at k) rows r (once_each rows order) there
+      (λ x in_rows is also. one_of_order rows order.rises x r in_rows there
+      (sym ((Decides-eqb k.1 x.1.order).0 (and_right (k.0 == x.1.account) (k.1 == x.1.order) is)) ∙ (Decides-eqb k.1 r.1.order).0 (and_right (k.0 == r.1.account) (k.1 == r.1.order) also)))
+
+  swapped : (account : ℕ) → of_account account (without r.0 rows) ≡ without r.0 (of_account account rows)
+  swapped account =
+      filter_twice (is_of account) (λ e. not (is_named r.0 e)) rows
+      ∙ filter_agree (λ e. not (is_named r.0 e) && is_of account e) (λ e. is_of account e && not (is_named r.0 e)) (λ e. turned (not (is_named r.0 e)) (is_of account e)) rows
+      ∙ sym (filter_twice (λ e. not (is_named r.0 e)) (is_of account) rows)
+    where
+      turned : (a b : Bool) → (a && b) ≡ (b && a)
+      turned true true = refl
+      turned true false = refl
+      turned false true = refl
+      turned false false = refl
+
+  own_balance : (account : ℕ) → (account == r.1.account) ≡ true → balance_of (without r.0 (of_account account rows)) ≡ parted (balance_at account rows) (units_of_entry r)
+  own_balance account is =
+      let xs = of_account account rows in
+      let once : OnceEach xs = once-filter same_source same_source_is same_source_own (λ (e : Entry). e.0) (is_of account) rows (once_each rows order) in
+      let in_xs = kept_in (is_of account) rows r there is in
+      parted_is xs (without r.0 xs) (units_of_entry r)
+      (omega (arith, length-filter_both (is_named r.0) (λ e. not (is_named r.0 e)) (λ e. refl) xs, count_is (filter (is_named r.0) xs), one_row (λ (e : Entry). 1) xs once r in_xs))
+      (omega (arith, sum_by-filter_both (is_named r.0) (λ e. not (is_named r.0 e)) (λ e. refl) units_of_entry xs, one_row units_of_entry xs once r in_xs))
+
+  other_balance : (account : ℕ) → (account == r.1.account) ≡ false → without r.0 (of_account account rows) ≡ of_account account rows
+  other_balance account is =
+      filter_on (λ e. not (is_named r.0 e)) (λ e. true) (of_account account rows)
+      (λ x in_xs. let h = in_filter (is_of account) rows x in_xs in
+      ap not (is_false (is_named r.0 x) (λ named. true≢false (sym h.1 ∙ ap (λ (y : Entry). account == y.1.account) (sym (one_of_name rows (once_each rows order) r x there h.0 named)) ∙ is))))
+      ∙ filter_true (of_account account rows)
+
+  pub gone_balance : (account : ℕ) → balance_at account (without r.0 rows) ≡ cond (account == r.1.account) (parted (balance_at account rows) (units_of_entry r)) (balance_at account rows)
+  gone_balance account =
+      ap balance_of (swapped account)
+      ∙ elim (account == r.1.account) as (λ k. (account == r.1.account) ≡ k → balance_of (without r.0 (of_account account rows)) ≡ cond k (parted (balance_at account rows) (units_of_entry r)) (balance_at account rows)) [
+        | true ↦ λ is. own_balance account is
+        | false ↦ λ is. ap balance_of (other_balance account is)
+      ] refl
+
+-- what is left when a source is spent
+pub left_rows : (rows : List Entry) (id : SourceId) → AreRows rows → AreRows (without id rows)
+left_rows rows id are = record {
+  once = each_once-map same_source (λ (e : Entry). e.0) (without id rows) ∙ once-filter same_source same_source_is same_source_own (λ (e : Entry). e.0) (λ e. not (is_named id e)) rows (once_each rows are);
+  rises = rises-filter (λ e. not (is_named id e)) rows are.rises;
+  in_range = all_from_in IsInRange (without id rows) (λ x left. in_all IsInRange rows are.in_range x (in_filter (λ e. not (is_named id e)) rows x left).0);
+}
+
+-- nothing else is left where the source has no row
+pub none_gone : (rows : List Entry) (id : SourceId) → list_any (is_named id) rows ≡ false → without id rows ≡ rows
+none_gone rows id none =
+    filter_on (λ e. not (is_named id e)) (λ e. true) rows (λ x there. ap not (is_false (is_named id x) (λ is. true≢false (sym (in_any (is_named id) rows x there is) ∙ none))))
+    ∙ filter_true rows
+
+-- of the account itself, what is made of its balance is made of the balance before
+own_account : (a account : ℕ) (f : Option Balance → Option Balance) (rows : List Entry) (before : Option Balance) → before ≡ balance_at account rows
+    → cond (a == account) (f (balance_at a rows)) (balance_at a rows) ≡ cond (a == account) (f before) (balance_at a rows)
+own_account a account f rows before old =
+    elim (a == account) as (λ k. (a == account) ≡ k → cond k (f (balance_at a rows)) (balance_at a rows) ≡ cond k (f before) (balance_at a rows)) [
+      | true ↦ λ is. ap f (ap (λ n. balance_at n rows) ((Decides-eqb a account).0 is) ∙ sym old)
+      | false ↦ λ _. refl
+    ] refl
+
+-- ---- the rows, and what becomes of a source
+
+module _ (rows : List Entry) (r : Entry) (before : Option Balance) (was : before ≡ balance_at r.1.account rows) (are : AreRows rows) where
+  pub is_made : IsNewRow rows r → (after : Balance) → after ≡ joined before (units_of_entry r)
+      → IsChanged r.0 (record { row = Some r.1; place = (r.1.account, r.1.order); before = before; after = Some after }) rows (rows ++ r ∷ [])
+  is_made new after is = record {
+    source = made_row rows r are new;
+    place = made_place rows r are new;
+    before = was;
+    after = λ a. made_balance rows r are new a ∙ own_account a r.1.account (λ x. Some (joined x (units_of_entry r))) rows before was ∙ ap (λ b. cond (a == r.1.account) (Some b) (balance_at a rows)) (sym is);
+  }
+
+  pub is_gone : IsIn r rows → (after : Option Balance) → after ≡ parted before (units_of_entry r)
+      → IsChanged r.0 (record { row = None; place = (r.1.account, r.1.order); before = before; after = after }) rows (without r.0 rows)
+  is_gone there after is = record {
+    source = gone_row rows r are there;
+    place = gone_place rows r are there;
+    before = was;
+    after = λ a. gone_balance rows r are there a ∙ own_account a r.1.account (λ x. parted x (units_of_entry r)) rows before was ∙ ap (λ b. cond (a == r.1.account) b (balance_at a rows)) (sym is);
+  }
+
+pub base_fits : (amount base : ℕ) → base ≤ 15 → units amount (min base 15) ≡ units amount base
+base_fits amount base fits = let e : min base 15 ≡ base = omega (arith, fits) in ap (units amount) e

@@ -1,0 +1,8 @@
+use Rattle.dubp_sindex.proofs.Derived.{made_rows, left_rows}
+use Rattle.dubp_sindex.proofs.laws.rows_stay.Goals as goal
+
+pub returns-clause-made : goal.returns-clause-made
+returns-clause-made c = λ rows e are new. made_rows rows e are new
+
+pub returns-clause-spent : goal.returns-clause-spent
+returns-clause-spent c = λ rows id are. left_rows rows id are

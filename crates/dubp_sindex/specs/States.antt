@@ -1,0 +1,28 @@
+-- The four tables along a chain of states, newest first: each state is the rows that stand after a block, and each table is a function
+-- of the newest. Protocol: money.
+use Rattle.std.specs.Prelude.{ℕ, List, [], Option}
+use Rattle.dubp_cond.specs.declared.source.SourceId.{SourceId}
+use Rattle.dubp_undo.specs.States.{newest}
+use Rattle.dubp_sindex.specs.declared.rows.SourceRow.{SourceRow}
+use Rattle.dubp_sindex.specs.declared.rows.Balance.{Balance}
+use Rattle.dubp_sindex.specs.Rows.{Entry, row_at}
+use Rattle.dubp_sindex.specs.Derived.{id_at, balance_at, stands_at}
+
+abbrev pub States : Type 0
+States = List (List Entry)
+
+-- the rows after the last block; before the first there are none
+abbrev pub rows_of : States → List Entry
+rows_of s = newest [] s
+
+abbrev pub sources_of : States → SourceId → Option SourceRow
+sources_of s id = row_at id (rows_of s)
+
+abbrev pub places_of : States → ℕ × ℕ → Option SourceId
+places_of s k = id_at k (rows_of s)
+
+abbrev pub balances_of : States → ℕ → Option Balance
+balances_of s account = balance_at account (rows_of s)
+
+abbrev pub order_of : States → ℕ × ℕ → Option (Unit {0})
+order_of s k = stands_at k (rows_of s)

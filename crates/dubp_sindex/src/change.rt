@@ -1,0 +1,133 @@
+ghost use Rattle.std.specs.Prelude.{◌≡◌, ℕ, ◌+◌, ◌≤◌, ◌∷◌, List, length, min, option_map, IfOk, OnOk, OnErr};
+ghost use Rattle.dubp_undo.specs.States.{AtMostMore};
+ghost use Rattle.dubp_sindex.specs.Rows.{Entry, units};
+ghost use Rattle.dubp_sindex.specs.Derived.{balance_at};
+ghost use Rattle.dubp_sindex.specs.States.{States, rows_of};
+ghost use Rattle.dubp_sindex.specs.Changes.{IsMoved, IsChanged, joined, parted};
+
+use crate::balances::BalanceTables;
+use crate::order::move_place;
+use crate::rows::{Balance, SourceRow, SourceRows, SourceTables};
+use dubp_atoms::{NoMemory, Steps};
+use dubp_cond::SourceId;
+use dubp_undo::Tables;
+use std::sync::ledger::Ledger as StepBook;
+
+/// What becomes of one source: its row, or `None` where it is spent; its place; and the balance of its account.
+#[derive(Clone, Copy, Debug, PartialEq, Eq)]
+pub struct Change {
+    pub row: Option<SourceRow>,
+    pub place: (usize, u64),
+    pub before: Option<Balance>,
+    pub after: Option<Balance>,
+}
+
+/// The greatest base.
+const MAX_BASE: u8 = 15;
+
+/// The units of the row. A base above 15 counts as 15.
+pub fn units_of(row: SourceRow) -> u128
+    ensures { result ≡ units row.amount (min row.base 15) }
+{
+    u128::from(row.amount) * 10_u128.pow(u32::from(row.base.min(MAX_BASE)))
+}
+
+/// The balance with one source more. `NoMemory` where a number of it would leave its range.
+pub fn join(before: Option<Balance>, units: u128) -> Result<Balance, NoMemory>
+    ensures { IfOk result (λ balance. balance ≡ joined before units) }
+{
+    match before {
+        Some(balance) => Ok(Balance {
+            units: balance.units.checked_add(units).ok_or(NoMemory)?,
+            count: balance.count.checked_add(1).ok_or(NoMemory)?,
+        }),
+        None => Ok(Balance { units, count: 1 }),
+    }
+}
+
+/// The balance with one source less, or `None` where that was the last.
+pub fn part(before: Option<Balance>, units: u128) -> Option<Balance>
+    ensures { result ≡ parted before units }
+{
+    let balance = before?;
+    if balance.count == 1 {
+        None
+    } else {
+        Some(Balance {
+            units: balance.units.saturating_sub(units),
+            count: balance.count.saturating_sub(1),
+        })
+    }
+}
+
+/// The account, whose balance was `before`, has the balance `after`. At most three sets.
+///
+/// `NoMemory` where there is no memory for its keys; then both tables are as they were.
+fn move_balance<L: StepBook>(
+    tables: &mut BalanceTables,
+    account: usize,
+    before: Option<Balance>,
+    after: Option<Balance>,
+    steps: &mut Steps<L>,
+) -> Result<(), NoMemory>
+    ensures at { OnOk result ((s t : States) (rows : List Entry) → ⟦<BalanceTables as Tables<SourceRows>>⟧.at tables.old s → before ≡ balance_at account (rows_of s) → IsMoved account after (rows_of s) rows → ⟦<BalanceTables as Tables<SourceRows>>⟧.at tables.new (rows ∷ t)) }
+    ensures marked { (s : States) → ⟦<BalanceTables as Tables<SourceRows>>⟧.marked tables.old s → ⟦<BalanceTables as Tables<SourceRows>>⟧.marked tables.new s }
+    ensures waits { (o : States) (i : ℕ) → ⟦<BalanceTables as Tables<SourceRows>>⟧.waits tables.old o i → ⟦<BalanceTables as Tables<SourceRows>>⟧.waits tables.new o i }
+    ensures ahead { ⟦<BalanceTables as Tables<SourceRows>>⟧.ahead_costs tables.new ≡ ⟦<BalanceTables as Tables<SourceRows>>⟧.ahead_costs tables.old }
+    ensures depth { length (⟦<BalanceTables as Tables<SourceRows>>⟧.costs tables.new) ≡ length (⟦<BalanceTables as Tables<SourceRows>>⟧.costs tables.old) }
+    ensures costs { OnOk result (AtMostMore 3 (⟦<BalanceTables as Tables<SourceRows>>⟧.costs tables.old) (⟦<BalanceTables as Tables<SourceRows>>⟧.costs tables.new)) }
+    ensures steps { OnOk result (steps.new ≤ steps.old + 3) }
+
+    ensures refused { OnErr result (⟦<BalanceTables as Tables<SourceRows>>⟧.same tables.old tables.new) }
+    ensures no_step { OnErr result (steps.new ≡ steps.old) }
+{
+    tables.tables.first.ready(account, 1)?;
+    move_place(&mut tables.tables.second, account, before, after, steps)?;
+    tables.tables.first.set(account, after, steps)?;
+    Ok(())
+}
+
+// The source of this name, where it has a row.
+fn owner(row: Option<SourceRow>, id: &SourceId) -> Option<SourceId>
+    ensures { result ≡ option_map (λ _. id.now) row }
+{
+    match row {
+        Some(_) => Some(*id),
+        None => None,
+    }
+}
+
+/// Makes the change of the source in each table. At most five sets.
+///
+/// `NoMemory` where there is no memory for its keys; then every table is as it was.
+pub fn put<L: StepBook>(
+    tables: &mut SourceTables,
+    id: &SourceId,
+    change: Change,
+    steps: &mut Steps<L>,
+) -> Result<(), NoMemory>
+    ensures at { OnOk result ((s t : States) (rows : List Entry) → ⟦<SourceTables as Tables<SourceRows>>⟧.at tables.old s → IsChanged id.now change (rows_of s) rows → ⟦<SourceTables as Tables<SourceRows>>⟧.at tables.new (rows ∷ t)) }
+    ensures marked { (s : States) → ⟦<SourceTables as Tables<SourceRows>>⟧.marked tables.old s → ⟦<SourceTables as Tables<SourceRows>>⟧.marked tables.new s }
+    ensures waits { (o : States) (i : ℕ) → ⟦<SourceTables as Tables<SourceRows>>⟧.waits tables.old o i → ⟦<SourceTables as Tables<SourceRows>>⟧.waits tables.new o i }
+    ensures ahead { ⟦<SourceTables as Tables<SourceRows>>⟧.ahead_costs tables.new ≡ ⟦<SourceTables as Tables<SourceRows>>⟧.ahead_costs tables.old }
+    ensures depth { length (⟦<SourceTables as Tables<SourceRows>>⟧.costs tables.new) ≡ length (⟦<SourceTables as Tables<SourceRows>>⟧.costs tables.old) }
+    ensures costs { OnOk result (AtMostMore 5 (⟦<SourceTables as Tables<SourceRows>>⟧.costs tables.old) (⟦<SourceTables as Tables<SourceRows>>⟧.costs tables.new)) }
+    ensures steps { OnOk result (steps.new ≤ steps.old + 5) }
+
+    ensures refused { OnErr result (⟦<SourceTables as Tables<SourceRows>>⟧.same tables.old tables.new) }
+    ensures no_step { OnErr result (steps.new ≡ steps.old) }
+{
+    let owner = owner(change.row, id);
+    tables.first.ready(*id, 1)?;
+    tables.second.ready(change.place, 1)?;
+    move_balance(
+        &mut tables.third,
+        change.place.0,
+        change.before,
+        change.after,
+        steps,
+    )?;
+    tables.second.set(change.place, owner, steps)?;
+    tables.first.set(*id, change.row, steps)?;
+    Ok(())
+}

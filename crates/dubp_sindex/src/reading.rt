@@ -1,0 +1,146 @@
+ghost use Rattle.std.specs.Prelude.{◌≡◌, ◌++◌, ◌∷◌, ◌<◌, ◌≤◌, ℕ, [], Some, OnOk, IfOk, IfSome, IfNone};
+ghost use Rattle.std.specs.Option.{option_map_or};
+ghost use Rattle.std.specs.Ordering.{nat_cmp};
+ghost use Rattle.dubp_cond.specs.SourceOrder.{derived_cmp};
+ghost use Rattle.dubp_undo.specs.MovingTable.{get, IsLeast, HasNone, IsAfter};
+ghost use Rattle.std.specs.BTreeMap.Range.{IsLeBy};
+ghost use Rattle.dubp_sindex.specs.Derived.{pair_cmp};
+ghost use Rattle.dubp_sindex.specs.Balances.{Any, IsFrom};
+ghost use Rattle.dubp_sindex.specs.Rows.{AreRows, IsLeastBalance, HasNoBalance, row_at, of_account, units_in};
+ghost use Rattle.dubp_sindex.specs.States.{States, rows_of};
+
+use crate::SIndex;
+use crate::rows::{SourceRow, SourceRows};
+use dubp_atoms::NoMemory;
+use dubp_cond::SourceId;
+use dubp_undo::Tables;
+use std::alloc::Global;
+
+impl SIndex {
+    /// The row of the source, or `None` where it is not unspent. It takes no memory.
+    pub fn unspent(&self, id: SourceId) -> Option<SourceRow>
+        ensures { (s : States) → ⟦<SIndex as Tables<SourceRows>>⟧.at self.now s → result ≡ row_at id (rows_of s) }
+    {
+        self.tables.first.get(id)
+    }
+
+    /// The units of the account: 0 where it has no unspent source. It takes no memory.
+    pub fn balance(&self, account: usize) -> u128
+        ensures { (s : States) → ⟦<SIndex as Tables<SourceRows>>⟧.at self.now s → result ≡ units_in account (rows_of s) }
+    {
+        match self.tables.third.tables.first.get(account) {
+            Some(balance) => balance.units,
+            None => 0,
+        }
+    }
+
+    /// The least balance among accounts with an unspent source, and its account: the least number of those that have it.
+    /// `None` where no source is unspent. It takes no memory.
+    pub fn lowest(&self) -> Option<(u128, usize)>
+        ensures found { (s : States) → ⟦<SIndex as Tables<SourceRows>>⟧.at self.now s → IfSome result (IsLeastBalance (rows_of s) Any) }
+        ensures none { (s : States) → ⟦<SIndex as Tables<SourceRows>>⟧.at self.now s → IfNone result (rows_of s ≡ []) }
+    {
+        match self.tables.third.tables.second.next_after(None) {
+            Some((lowest, _)) => Some(lowest),
+            None => None,
+        }
+    }
+
+    /// The least balance of at least `least` units among accounts with an unspent source, and its account; where `after` is
+    /// given, the least behind it, by units and then by number. `None` where there is none. It takes no memory.
+    pub fn next_balance(&self, least: u128, after: Option<(u128, usize)>) -> Option<(u128, usize)>
+        ensures found { (s : States) → ⟦<SIndex as Tables<SourceRows>>⟧.at self.now s → IfSome result (IsLeastBalance (rows_of s) (IsFrom least after)) }
+        ensures none { (s : States) → ⟦<SIndex as Tables<SourceRows>>⟧.at self.now s → IfNone result (HasNoBalance (rows_of s) (IsFrom least after)) }
+    {
+        match behind(least, after) {
+            Some(key) => self.balance_behind(key),
+            None => self.balance_from(least),
+        }
+    }
+
+    fn balance_behind(&self, key: (u128, usize)) -> Option<(u128, usize)>
+        ensures found { IfSome result (λ k. IsLeast pair_cmp self.now.tables.third.tables.second.now (IsAfter pair_cmp (Some key)) (k, tt)) }
+        ensures none { IfNone result (HasNone pair_cmp self.now.tables.third.tables.second.now (IsAfter pair_cmp (Some key))) }
+    {
+        match self.tables.third.tables.second.next_after(Some(key)) {
+            Some((found, ())) => Some(found),
+            None => None,
+        }
+    }
+
+    fn balance_from(&self, least: u128) -> Option<(u128, usize)>
+        ensures found { IfSome result (λ k. IsLeast pair_cmp self.now.tables.third.tables.second.now (IsLeBy pair_cmp (least, 0)) (k, tt)) }
+        ensures none { IfNone result (HasNone pair_cmp self.now.tables.third.tables.second.now (IsLeBy pair_cmp (least, 0))) }
+    {
+        match self.tables.third.tables.second.next_from((least, 0)) {
+            Some((found, ())) => Some(found),
+            None => None,
+        }
+    }
+
+    // How many unspent sources the account has.
+    fn count_of(&self, account: usize) -> usize
+        ensures { result ≡ option_map_or (λ b. b.count) (get nat_cmp self.now.tables.third.tables.first.now account) 0 }
+    {
+        match self.tables.third.tables.first.get(account) {
+            Some(balance) => balance.count,
+            None => 0,
+        }
+    }
+
+    // Puts the source of this name behind those that were found.
+    fn put_source(
+        &self,
+        found: &mut Vec<(SourceId, SourceRow)>,
+        id: &SourceId,
+    ) -> Result<(), NoMemory>
+        ensures { OnOk result (IfSome (get derived_cmp self.now.tables.first.now id.now) (λ row. found.new.items ≡ found.old.items ++ (id.now, row) ∷ [])) }
+    {
+        match self.tables.first.get(*id) {
+            Some(row) => put_entry(found, (*id, row)),
+            None => Ok(()),
+        }
+    }
+
+    /// The unspent sources of the account, in the order of making.
+    ///
+    /// `NoMemory` where there is no memory for the answer.
+    pub fn sources(
+        &self,
+        alloc: Global,
+        account: usize,
+    ) -> Result<Vec<(SourceId, SourceRow)>, NoMemory>
+        ensures { (s : States) → ⟦<SIndex as Tables<SourceRows>>⟧.at self.now s → AreRows (rows_of s) → IfOk result (λ found. found.items ≡ of_account account (rows_of s)) }
+    {
+        let mut found = Vec::new(alloc);
+        let mut from = 0;
+        for _ in 0..self.count_of(account) {
+            match self.tables.second.next_from((account, from)) {
+                Some(((owner, order), id)) if owner == account => {
+                    self.put_source(&mut found, &id)?;
+                    from = order.saturating_add(1);
+                }
+                _ => break,
+            }
+        }
+        Ok(found)
+    }
+}
+
+// The balance behind which a search begins, where it has at least so many units.
+fn behind(least: u128, after: Option<(u128, usize)>) -> Option<(u128, usize)>
+    ensures kept { IfSome result (λ k. (after ≡ Some k) × (least ≤ k.0)) }
+    ensures dropped { IfNone result (IfSome after (λ k. k.0 < least)) }
+{
+    let key = after?;
+    if least <= key.0 { Some(key) } else { None }
+}
+
+fn put_entry(
+    found: &mut Vec<(SourceId, SourceRow)>,
+    entry: (SourceId, SourceRow),
+) -> Result<(), NoMemory>
+    ensures { OnOk result (found.new.items ≡ found.old.items ++ entry ∷ []) }
+{
+    found.push(entry).map_err(|_| NoMemory)
+}

@@ -1,0 +1,112 @@
+ghost use Rattle.std.specs.Prelude.{◌≡◌, ℕ, ◌+◌, ◌≤◌, ◌++◌, ◌∷◌, List, [], OnOk, OnErr};
+ghost use Rattle.dubp_undo.specs.States.{AtMostMore};
+ghost use Rattle.dubp_sindex.specs.Accounts.{accounts};
+ghost use Rattle.dubp_sindex.specs.Rows.{AreRows, IsNewRow, without};
+ghost use Rattle.dubp_sindex.specs.States.{States, rows_of};
+
+use crate::SIndex;
+use crate::change::{Change, join, part, put, units_of};
+use crate::rows::{SourceRow, SourceRows};
+use dubp_atoms::{NoMemory, Steps};
+use dubp_cond::SourceId;
+use dubp_undo::Tables;
+use std::sync::ledger::Ledger as StepBook;
+
+impl SIndex {
+    /// The source is unspent, with this row, behind all others in the order of making. At most five sets.
+    ///
+    /// `NoMemory` where there is no memory for its keys, or where a balance would leave its range; then all is as it was.
+    pub fn make<L: StepBook>(
+        &mut self,
+        id: SourceId,
+        row: SourceRow,
+        steps: &mut Steps<L>,
+    ) -> Result<(), NoMemory>
+        ensures at { OnOk result ((s t : States) → ⟦<SIndex as Tables<SourceRows>>⟧.at self.old s → AreRows (rows_of s) → IsNewRow (rows_of s) (id, row) → ⟦<SIndex as Tables<SourceRows>>⟧.at self.new ((rows_of s ++ (id, row) ∷ []) ∷ t)) }
+        ensures marked { (s : States) → ⟦<SIndex as Tables<SourceRows>>⟧.marked self.old s → ⟦<SIndex as Tables<SourceRows>>⟧.marked self.new s }
+        ensures waits { (o : States) (i : ℕ) → ⟦<SIndex as Tables<SourceRows>>⟧.waits self.old o i → ⟦<SIndex as Tables<SourceRows>>⟧.waits self.new o i }
+        ensures ahead { ⟦<SIndex as Tables<SourceRows>>⟧.ahead_costs self.new ≡ ⟦<SIndex as Tables<SourceRows>>⟧.ahead_costs self.old }
+        ensures costs { OnOk result (AtMostMore 5 (⟦<SIndex as Tables<SourceRows>>⟧.costs self.old) (⟦<SIndex as Tables<SourceRows>>⟧.costs self.new)) }
+        ensures steps { OnOk result (steps.new ≤ steps.old + 5) }
+        ensures accounts { accounts self.new ≡ accounts self.old }
+
+        ensures refused { OnErr result (⟦<SIndex as Tables<SourceRows>>⟧.same self.old self.new) }
+        ensures no_step { OnErr result (steps.new ≡ steps.old) }
+    {
+        self.make_at(&id, row, steps)
+    }
+
+    // a key that holds a text is copied behind a reference alone
+    fn make_at<L: StepBook>(
+        &mut self,
+        id: &SourceId,
+        row: SourceRow,
+        steps: &mut Steps<L>,
+    ) -> Result<(), NoMemory>
+        ensures at { OnOk result ((s t : States) → ⟦<SIndex as Tables<SourceRows>>⟧.at self.old s → AreRows (rows_of s) → IsNewRow (rows_of s) (id.now, row) → ⟦<SIndex as Tables<SourceRows>>⟧.at self.new ((rows_of s ++ (id.now, row) ∷ []) ∷ t)) }
+        ensures marked { (s : States) → ⟦<SIndex as Tables<SourceRows>>⟧.marked self.old s → ⟦<SIndex as Tables<SourceRows>>⟧.marked self.new s }
+        ensures waits { (o : States) (i : ℕ) → ⟦<SIndex as Tables<SourceRows>>⟧.waits self.old o i → ⟦<SIndex as Tables<SourceRows>>⟧.waits self.new o i }
+        ensures ahead { ⟦<SIndex as Tables<SourceRows>>⟧.ahead_costs self.new ≡ ⟦<SIndex as Tables<SourceRows>>⟧.ahead_costs self.old }
+        ensures costs { OnOk result (AtMostMore 5 (⟦<SIndex as Tables<SourceRows>>⟧.costs self.old) (⟦<SIndex as Tables<SourceRows>>⟧.costs self.new)) }
+        ensures steps { OnOk result (steps.new ≤ steps.old + 5) }
+        ensures accounts { accounts self.new ≡ accounts self.old }
+
+        ensures refused { OnErr result (⟦<SIndex as Tables<SourceRows>>⟧.same self.old self.new) }
+        ensures no_step { OnErr result (steps.new ≡ steps.old) }
+    {
+        let before = self.tables.third.tables.first.get(row.account);
+        let after = join(before, units_of(row))?;
+        let change = Change {
+            row: Some(row),
+            place: (row.account, row.order),
+            before,
+            after: Some(after),
+        };
+        put(&mut self.tables, id, change, steps)?;
+        Ok(())
+    }
+
+    /// The source is no longer unspent. At most five sets, and none where it was not unspent.
+    ///
+    /// `NoMemory` where there is no memory for its keys; then all is as it was.
+    pub fn spend<L: StepBook>(&mut self, id: SourceId, steps: &mut Steps<L>) -> Result<(), NoMemory>
+        ensures at { OnOk result ((s t : States) → ⟦<SIndex as Tables<SourceRows>>⟧.at self.old s → AreRows (rows_of s) → ⟦<SIndex as Tables<SourceRows>>⟧.at self.new (without id (rows_of s) ∷ t)) }
+        ensures marked { (s : States) → ⟦<SIndex as Tables<SourceRows>>⟧.marked self.old s → ⟦<SIndex as Tables<SourceRows>>⟧.marked self.new s }
+        ensures waits { (o : States) (i : ℕ) → ⟦<SIndex as Tables<SourceRows>>⟧.waits self.old o i → ⟦<SIndex as Tables<SourceRows>>⟧.waits self.new o i }
+        ensures ahead { ⟦<SIndex as Tables<SourceRows>>⟧.ahead_costs self.new ≡ ⟦<SIndex as Tables<SourceRows>>⟧.ahead_costs self.old }
+        ensures costs { OnOk result (AtMostMore 5 (⟦<SIndex as Tables<SourceRows>>⟧.costs self.old) (⟦<SIndex as Tables<SourceRows>>⟧.costs self.new)) }
+        ensures steps { OnOk result (steps.new ≤ steps.old + 5) }
+        ensures accounts { accounts self.new ≡ accounts self.old }
+
+        ensures refused { OnErr result (⟦<SIndex as Tables<SourceRows>>⟧.same self.old self.new) }
+        ensures no_step { OnErr result (steps.new ≡ steps.old) }
+    {
+        self.spend_at(&id, steps)
+    }
+
+    fn spend_at<L: StepBook>(&mut self, id: &SourceId, steps: &mut Steps<L>) -> Result<(), NoMemory>
+        ensures at { OnOk result ((s t : States) → ⟦<SIndex as Tables<SourceRows>>⟧.at self.old s → AreRows (rows_of s) → ⟦<SIndex as Tables<SourceRows>>⟧.at self.new (without id.now (rows_of s) ∷ t)) }
+        ensures marked { (s : States) → ⟦<SIndex as Tables<SourceRows>>⟧.marked self.old s → ⟦<SIndex as Tables<SourceRows>>⟧.marked self.new s }
+        ensures waits { (o : States) (i : ℕ) → ⟦<SIndex as Tables<SourceRows>>⟧.waits self.old o i → ⟦<SIndex as Tables<SourceRows>>⟧.waits self.new o i }
+        ensures ahead { ⟦<SIndex as Tables<SourceRows>>⟧.ahead_costs self.new ≡ ⟦<SIndex as Tables<SourceRows>>⟧.ahead_costs self.old }
+        ensures costs { OnOk result (AtMostMore 5 (⟦<SIndex as Tables<SourceRows>>⟧.costs self.old) (⟦<SIndex as Tables<SourceRows>>⟧.costs self.new)) }
+        ensures steps { OnOk result (steps.new ≤ steps.old + 5) }
+        ensures accounts { accounts self.new ≡ accounts self.old }
+
+        ensures refused { OnErr result (⟦<SIndex as Tables<SourceRows>>⟧.same self.old self.new) }
+        ensures no_step { OnErr result (steps.new ≡ steps.old) }
+    {
+        let Some(row) = self.tables.first.get(*id) else {
+            return Ok(());
+        };
+        let before = self.tables.third.tables.first.get(row.account);
+        let change = Change {
+            row: None,
+            place: (row.account, row.order),
+            before,
+            after: part(before, units_of(row)),
+        };
+        put(&mut self.tables, id, change, steps)?;
+        Ok(())
+    }
+}
