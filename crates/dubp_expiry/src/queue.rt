@@ -81,6 +81,10 @@ impl Tables<Entries> for Queue {
         self.tables.depth()
     }
 
+    fn laws(&self) {
+        self.tables.laws();
+    }
+
     fn mark(&mut self) -> Result<(), NoMemory> {
         self.tables.mark()?;
         Ok(())
@@ -114,34 +118,6 @@ impl Tables<Entries> for Queue {
     fn drop_ahead(&mut self) {
         self.tables.drop_ahead();
     }
-
-    ghost use Rattle.std.proofs.Common.{refl, ap};
-    ghost use Rattle.dubp_undo.specs.Numbers.{counts};
-    ghost use Rattle.dubp_undo.specs.Standing.{at_same, stands_same, marked_same, waits_same, stands_applied};
-    ghost use Rattle.dubp_expiry.specs.DueOrder.{derived_cmp};
-    ghost use Rattle.dubp_expiry.specs.Entries.{entry_at, place_cmp};
-
-    ghost stands_at = { λ t c s. s.is };
-
-    ghost applied = { λ t b c m a. stands_applied (place_cmp derived_cmp) entry_at t.tables.past t.tables.now b c m a };
-
-    ghost same_refl = { λ t. record { past = refl; now = refl; ahead = refl; root = refl } };
-
-    ghost keeps_refl = { λ t q is. is };
-
-    ghost keeps_trans = { λ t u v f g q is. g q (f q is) };
-
-    ghost same_costs = { λ t u s. ap counts s.past };
-
-    ghost same_ahead_costs = { λ t u s. ap counts s.ahead };
-
-    ghost same_at = { λ t u c s a. at_same (place_cmp derived_cmp) entry_at t.tables.now u.tables.now c s.now a };
-
-    ghost same_stands = { λ t u c s a. stands_same (place_cmp derived_cmp) entry_at t.tables.past u.tables.past t.tables.now u.tables.now c s.past s.now a };
-
-    ghost same_marked = { λ t u c s m. marked_same (place_cmp derived_cmp) entry_at t.tables.past u.tables.past c s.past m };
-
-    ghost same_waits = { λ t u o i s w. waits_same (place_cmp derived_cmp) entry_at t.tables.root u.tables.root t.tables.ahead u.tables.ahead o i s.root s.ahead w };
 }
 
 impl Queue {

@@ -47,46 +47,44 @@ impl Definition<Block, u64, BlockTime> for TimesOf {
     ghost at = { time_at };
 }
 
-/// The tables of facts, which move as one. `Facts` is its only instance.
-#[derive(Drop)]
-pub struct FactTables<T: Tables<Block>> {
-    tables: T,
-}
-
-type FirstAndTimes = Both<
-    Block,
-    Leaf<Block, (), First, FirstOf>,
-    Leaf<Block, u64, BlockTime, TimesOf>,
->;
+type FirstAndTimes =
+    Both<Block, Leaf<Block, (), First, FirstOf>, Leaf<Block, u64, BlockTime, TimesOf>>;
 
 /// The parameters and the currency of a chain, and the hashes and median times of its blocks by number.
-pub type Facts = FactTables<FirstAndTimes>;
+#[derive(Drop)]
+pub struct Facts {
+    tables: FirstAndTimes,
+}
 
-impl<T: Tables<Block>> Tables<Block> for FactTables<T> {
-    ghost costs = { λ t. T.costs t.tables };
+impl Tables<Block> for Facts {
+    ghost costs = { λ t. ⟦<FirstAndTimes as Tables<Block>>⟧.costs t.tables };
 
-    ghost ahead_costs = { λ t. T.ahead_costs t.tables };
+    ghost ahead_costs = { λ t. ⟦<FirstAndTimes as Tables<Block>>⟧.ahead_costs t.tables };
 
-    ghost at = { λ t c. T.at t.tables c };
+    ghost at = { λ t c. ⟦<FirstAndTimes as Tables<Block>>⟧.at t.tables c };
 
-    ghost stands = { λ t c. T.stands t.tables c };
+    ghost stands = { λ t c. ⟦<FirstAndTimes as Tables<Block>>⟧.stands t.tables c };
 
-    ghost marked = { λ t c. T.marked t.tables c };
+    ghost marked = { λ t c. ⟦<FirstAndTimes as Tables<Block>>⟧.marked t.tables c };
 
-    ghost waits = { λ t o i. T.waits t.tables o i };
+    ghost waits = { λ t o i. ⟦<FirstAndTimes as Tables<Block>>⟧.waits t.tables o i };
 
-    ghost same = { λ t u. T.same t.tables u.tables };
+    ghost same = { λ t u. ⟦<FirstAndTimes as Tables<Block>>⟧.same t.tables u.tables };
 
-    ghost marks = { λ t u. T.marks t.tables u.tables };
+    ghost marks = { λ t u. ⟦<FirstAndTimes as Tables<Block>>⟧.marks t.tables u.tables };
 
-    ghost keeps = { λ t u. T.keeps t.tables u.tables };
+    ghost keeps = { λ t u. ⟦<FirstAndTimes as Tables<Block>>⟧.keeps t.tables u.tables };
 
-    ghost spare = { λ t. T.spare t.tables };
+    ghost spare = { λ t. ⟦<FirstAndTimes as Tables<Block>>⟧.spare t.tables };
 
-    ghost room = { λ t. T.room t.tables };
+    ghost room = { λ t. ⟦<FirstAndTimes as Tables<Block>>⟧.room t.tables };
 
     fn depth(&self) -> usize {
         self.tables.depth()
+    }
+
+    fn laws(&self) {
+        self.tables.laws();
     }
 
     fn mark(&mut self) -> Result<(), NoMemory> {
@@ -122,31 +120,10 @@ impl<T: Tables<Block>> Tables<Block> for FactTables<T> {
     fn drop_ahead(&mut self) {
         self.tables.drop_ahead();
     }
-
-    ghost stands_at = { λ t c s. T.stands_at t.tables c s };
-
-    ghost applied = { λ t b c m a. T.applied t.tables b c m a };
-
-    ghost same_refl = { λ t. T.same_refl t.tables };
-
-    ghost keeps_refl = { λ t. T.keeps_refl t.tables };
-
-    ghost keeps_trans = { λ t u v f g. T.keeps_trans t.tables u.tables v.tables f g };
-
-    ghost same_costs = { λ t u s. T.same_costs t.tables u.tables s };
-
-    ghost same_ahead_costs = { λ t u s. T.same_ahead_costs t.tables u.tables s };
-
-    ghost same_at = { λ t u c s a. T.same_at t.tables u.tables c s a };
-
-    ghost same_stands = { λ t u c s a. T.same_stands t.tables u.tables c s a };
-
-    ghost same_marked = { λ t u c s m. T.same_marked t.tables u.tables c s m };
-
-    ghost same_waits = { λ t u o i s w. T.same_waits t.tables u.tables o i s w };
 }
 
-impl FactTables<FirstAndTimes> {
+
+impl Facts {
     /// Those of the empty chain. It takes no memory.
     pub fn new(alloc: Global) -> Facts
         ensures stands { ⟦<Facts as Tables<Block>>⟧.stands result [] }
@@ -154,7 +131,7 @@ impl FactTables<FirstAndTimes> {
         ensures ahead { ⟦<Facts as Tables<Block>>⟧.ahead_costs result ≡ [] }
         ensures waits { (o : List BlockValue) → ⟦<Facts as Tables<Block>>⟧.waits result o 0 }
     {
-        FactTables {
+        Facts {
             tables: Both::new(Leaf::new(alloc), Leaf::new(alloc)),
         }
     }

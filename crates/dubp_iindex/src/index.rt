@@ -48,6 +48,10 @@ impl Tables<IdentityRows> for IIndex {
         self.tables.depth()
     }
 
+    fn laws(&self) {
+        self.tables.laws();
+    }
+
     fn mark(&mut self) -> Result<(), NoMemory> {
         self.tables.mark()?;
         Ok(())
@@ -81,33 +85,6 @@ impl Tables<IdentityRows> for IIndex {
     fn drop_ahead(&mut self) {
         self.tables.drop_ahead();
     }
-
-    ghost use Rattle.std.proofs.Common.{refl, ap};
-    ghost use Rattle.dubp_undo.specs.Numbers.{counts, plus, plus_same};
-    ghost use Rattle.dubp_undo.specs.Standing.{at_same, stands_same, marked_same, waits_same, stands_applied};
-    ghost use Rattle.dubp_iindex.specs.Rows.{texts, one};
-
-    ghost stands_at = { λ t s h. (h.0.is, (h.1.0.is, h.1.1.is, h.1.2.is)) };
-
-    ghost applied = { λ t b s m a. (stands_applied texts row_at t.tables.first.past t.tables.first.now b s m.0 a.0, (stands_applied texts key_at t.tables.second.first.past t.tables.second.first.now b s m.1.0 a.1.0, stands_applied texts member_at t.tables.second.second.past t.tables.second.second.now b s m.1.1 a.1.1, stands_applied one counts_at t.tables.second.third.past t.tables.second.third.now b s m.1.2 a.1.2)) };
-
-    ghost same_refl = { λ t. (record { past = refl; now = refl; ahead = refl; root = refl }, (record { past = refl; now = refl; ahead = refl; root = refl }, record { past = refl; now = refl; ahead = refl; root = refl }, record { past = refl; now = refl; ahead = refl; root = refl })) };
-
-    ghost keeps_refl = { λ t. (λ q is. is, (λ q is. is, λ q is. is, λ q is. is)) };
-
-    ghost keeps_trans = { λ t u v f g. (λ q is. g.0 q (f.0 q is), (λ q is. g.1.0 q (f.1.0 q is), λ q is. g.1.1 q (f.1.1 q is), λ q is. g.1.2 q (f.1.2 q is))) };
-
-    ghost same_costs = { λ t u s. plus_same (counts t.tables.first.past) (counts u.tables.first.past) (plus (counts t.tables.second.first.past) (plus (counts t.tables.second.second.past) (counts t.tables.second.third.past))) (plus (counts u.tables.second.first.past) (plus (counts u.tables.second.second.past) (counts u.tables.second.third.past))) (ap counts s.0.past) (plus_same (counts t.tables.second.first.past) (counts u.tables.second.first.past) (plus (counts t.tables.second.second.past) (counts t.tables.second.third.past)) (plus (counts u.tables.second.second.past) (counts u.tables.second.third.past)) (ap counts s.1.0.past) (plus_same (counts t.tables.second.second.past) (counts u.tables.second.second.past) (counts t.tables.second.third.past) (counts u.tables.second.third.past) (ap counts s.1.1.past) (ap counts s.1.2.past))) };
-
-    ghost same_ahead_costs = { λ t u s. plus_same (counts t.tables.first.ahead) (counts u.tables.first.ahead) (plus (counts t.tables.second.first.ahead) (plus (counts t.tables.second.second.ahead) (counts t.tables.second.third.ahead))) (plus (counts u.tables.second.first.ahead) (plus (counts u.tables.second.second.ahead) (counts u.tables.second.third.ahead))) (ap counts s.0.ahead) (plus_same (counts t.tables.second.first.ahead) (counts u.tables.second.first.ahead) (plus (counts t.tables.second.second.ahead) (counts t.tables.second.third.ahead)) (plus (counts u.tables.second.second.ahead) (counts u.tables.second.third.ahead)) (ap counts s.1.0.ahead) (plus_same (counts t.tables.second.second.ahead) (counts u.tables.second.second.ahead) (counts t.tables.second.third.ahead) (counts u.tables.second.third.ahead) (ap counts s.1.1.ahead) (ap counts s.1.2.ahead))) };
-
-    ghost same_at = { λ t u c s a. (at_same texts row_at t.tables.first.now u.tables.first.now c s.0.now a.0, (at_same texts key_at t.tables.second.first.now u.tables.second.first.now c s.1.0.now a.1.0, at_same texts member_at t.tables.second.second.now u.tables.second.second.now c s.1.1.now a.1.1, at_same one counts_at t.tables.second.third.now u.tables.second.third.now c s.1.2.now a.1.2)) };
-
-    ghost same_stands = { λ t u c s a. (stands_same texts row_at t.tables.first.past u.tables.first.past t.tables.first.now u.tables.first.now c s.0.past s.0.now a.0, (stands_same texts key_at t.tables.second.first.past u.tables.second.first.past t.tables.second.first.now u.tables.second.first.now c s.1.0.past s.1.0.now a.1.0, stands_same texts member_at t.tables.second.second.past u.tables.second.second.past t.tables.second.second.now u.tables.second.second.now c s.1.1.past s.1.1.now a.1.1, stands_same one counts_at t.tables.second.third.past u.tables.second.third.past t.tables.second.third.now u.tables.second.third.now c s.1.2.past s.1.2.now a.1.2)) };
-
-    ghost same_marked = { λ t u c s m. (marked_same texts row_at t.tables.first.past u.tables.first.past c s.0.past m.0, (marked_same texts key_at t.tables.second.first.past u.tables.second.first.past c s.1.0.past m.1.0, marked_same texts member_at t.tables.second.second.past u.tables.second.second.past c s.1.1.past m.1.1, marked_same one counts_at t.tables.second.third.past u.tables.second.third.past c s.1.2.past m.1.2)) };
-
-    ghost same_waits = { λ t u o i s w. (waits_same texts row_at t.tables.first.root u.tables.first.root t.tables.first.ahead u.tables.first.ahead o i s.0.root s.0.ahead w.0, (waits_same texts key_at t.tables.second.first.root u.tables.second.first.root t.tables.second.first.ahead u.tables.second.first.ahead o i s.1.0.root s.1.0.ahead w.1.0, waits_same texts member_at t.tables.second.second.root u.tables.second.second.root t.tables.second.second.ahead u.tables.second.second.ahead o i s.1.1.root s.1.1.ahead w.1.1, waits_same one counts_at t.tables.second.third.root u.tables.second.third.root t.tables.second.third.ahead u.tables.second.third.ahead o i s.1.2.root s.1.2.ahead w.1.2)) };
 }
 
 impl IIndex {

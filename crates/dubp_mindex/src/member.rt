@@ -86,6 +86,10 @@ impl Tables<MemberRows> for MIndex {
         self.tables.depth()
     }
 
+    fn laws(&self) {
+        self.tables.laws();
+    }
+
     fn mark(&mut self) -> Result<(), NoMemory> {
         self.tables.mark()?;
         Ok(())
@@ -120,34 +124,7 @@ impl Tables<MemberRows> for MIndex {
         self.tables.drop_ahead();
     }
 
-    ghost use Rattle.std.proofs.Common.{refl, ap};
-    ghost use Rattle.dubp_undo.specs.Numbers.{counts};
-    ghost use Rattle.dubp_undo.specs.Standing.{at_same, stands_same, marked_same, waits_same, stands_applied};
-    ghost use Rattle.std.specs.Cmp.Lexicographic.{slice_cmp};
     ghost use Rattle.std.specs.Ordering.{nat_cmp};
-    ghost use Rattle.dubp_mindex.specs.Members.{member_at};
-
-    ghost stands_at = { λ t c s. s.is };
-
-    ghost applied = { λ t b c m a. stands_applied (slice_cmp nat_cmp) member_at t.tables.past t.tables.now b c m a };
-
-    ghost same_refl = { λ t. record { past = refl; now = refl; ahead = refl; root = refl } };
-
-    ghost keeps_refl = { λ t q is. is };
-
-    ghost keeps_trans = { λ t u v f g q is. g q (f q is) };
-
-    ghost same_costs = { λ t u s. ap counts s.past };
-
-    ghost same_ahead_costs = { λ t u s. ap counts s.ahead };
-
-    ghost same_at = { λ t u c s a. at_same (slice_cmp nat_cmp) member_at t.tables.now u.tables.now c s.now a };
-
-    ghost same_stands = { λ t u c s a. stands_same (slice_cmp nat_cmp) member_at t.tables.past u.tables.past t.tables.now u.tables.now c s.past s.now a };
-
-    ghost same_marked = { λ t u c s m. marked_same (slice_cmp nat_cmp) member_at t.tables.past u.tables.past c s.past m };
-
-    ghost same_waits = { λ t u o i s w. waits_same (slice_cmp nat_cmp) member_at t.tables.root u.tables.root t.tables.ahead u.tables.ahead o i s.root s.ahead w };
 }
 
 impl MIndex {

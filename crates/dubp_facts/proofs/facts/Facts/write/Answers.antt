@@ -4,7 +4,7 @@ use Rattle.std.specs.Ordering.{nat_cmp}
 use Rattle.dubp_undo.specs.MovingTable.{get}
 use Rattle.dubp_facts.specs.Facts.{one, first_after, block_time}
 use Rattle.dubp_facts.proofs.Written.{first-next, times-next, two_more}
-use Rattle.dubp_facts.proofs.facts.FactTables+FirstAndTimes.write.Goals as goal
+use Rattle.dubp_facts.proofs.facts.Facts.write.Goals as goal
 
 pub returns-clause-at : goal.returns-clause-at
 returns-clause-at g c = λ chain at next.

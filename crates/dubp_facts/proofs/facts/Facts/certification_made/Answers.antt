@@ -1,5 +1,5 @@
 use Rattle.dubp_facts.proofs.Written.{certified}
-use Rattle.dubp_facts.proofs.facts.FactTables+FirstAndTimes.certification_made.Goals as goal
+use Rattle.dubp_facts.proofs.facts.Facts.certification_made.Goals as goal
 
 pub returns-in-Some : goal.returns-in-Some
 returns-in-Some c = λ chain at.
