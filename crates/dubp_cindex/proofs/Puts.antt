@@ -136,7 +136,7 @@ pub are_changes : (rows : Rows) (from to : Text) (row : CertRow) (before : Optio
     → changed pair (one_if (lives before)) ≡ one_if row.live → (lives before ≡ row.live → pair ≡ Stays)
     → changed received (number_if count) ≡ number_if (counted pair count) → (pair ≡ Stays → received ≡ Stays)
     → (counted pair (stock_in rows from) ≡ stock_in (insert rows (from, to) row) from
-      → (changed issuer (issuer_in rows from) ≡ issuer_in (insert rows (from, to) row) from) × (issuer_in (insert rows (from, to) row) from ≡ issuer_in rows from → issuer ≡ Stays))
+    → (changed issuer (issuer_in rows from) ≡ issuer_in (insert rows (from, to) row) from) × (issuer_in (insert rows (from, to) row) from ≡ issuer_in rows from → issuer ≡ Stays))
     → AreChanges rows from to row pair received issuer
 are_changes rows from to row before pair count received issuer was is p ps r rs i =
     let q : changed pair (one_if (lives (get rows (from, to)))) ≡ one_if row.live = ap (λ o. changed pair (one_if (lives o))) (sym was) ∙ p in

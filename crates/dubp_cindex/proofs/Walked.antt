@@ -104,7 +104,6 @@ module _ (P : Entry → Bool) (pos : Entry → Text) where
       (place : (a : Text) (r : CertRow) → pos (make a r) ≡ a)
       (shown : (a : Text) (r : CertRow) → view a ≡ Some r → r.live ≡ true → IsIn (make a r) es × (P (make a r) ≡ true))
       (shows : (x : Entry) → IsIn x es → P x ≡ true → lives (view (pos x)) ≡ true) (climbs : Climbs es) where
-
     has_one : (o : Option CertRow) → one_if (lives o) ≡ Some tt → (r : CertRow) × (o ≡ Some r) × (r.live ≡ true)
     has_one None h = absurd (none-some tt h)
     has_one (Some r) h = (r, refl, elim (r.live) as (λ b. one_if b ≡ Some tt → b ≡ true) [ true ↦ λ _. refl | false ↦ λ n. absurd (none-some tt n) ] h)
@@ -117,7 +116,7 @@ module _ (P : Entry → Bool) (pos : Entry → Text) where
         let there = shown a r one.1 one.2 in
         let at = place a r in
         let next = up_to-next after (make a r) es climbs there.0 there.1 (ap (is_above after) at ∙ f.1)
-            (λ x in_es p above. ap (less (pos x)) at ∙ f.2 (pos x) above (ap is_some (is (pos x) ∙ ap one_if (shows x in_es p)))) in
+        (λ x in_es p above. ap (less (pos x)) at ∙ f.2 (pos x) above (ap is_some (is (pos x) ∙ ap one_if (shows x in_es p)))) in
         (r, one.1, ap (λ k. up_to (Some k) es) (sym at) ∙ next)
 
     pub walk-end : (m : List (Place × Unit {0})) (owner : Text) → ((a : Text) → get place_cmp m (owner, Some a) ≡ one_if (lives (view a))) → (after : Option Text) → Follows m owner after None → up_to after es ≡ filter P es

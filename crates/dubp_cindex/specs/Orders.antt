@@ -1,4 +1,4 @@
--- The orders of keys and of pairs of keys, and the next of some keys. Protocol: records.
+-- The orders of keys and of pairs of keys, and the next of some keys. Protocol: certifications, tables.
 use Rattle.std.specs.Prelude.{◌≡◌, Bool, true, false, List, Option, Some, None, MatchOption}
 use Rattle.std.specs.List.{Contains}
 use Rattle.std.specs.Option.{option_cmp}

@@ -1,4 +1,4 @@
--- What becomes of each table where a row is put, and the greatest block of an issuer's rows but one. Protocol: records.
+-- What becomes of each table where a row is put, and the greatest block of an issuer's rows but one. Protocol: certifications, tables.
 use Rattle.std.specs.Prelude.{◌≡◌, ℕ, ◌≤◌, List, Option, Some, IfSome, IsSomeAnd, ◌⊎◌}
 use Rattle.std.specs.FinMap.{get, insert}
 use Rattle.dubp_atoms.specs.Same.{Text}

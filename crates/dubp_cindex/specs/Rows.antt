@@ -1,4 +1,4 @@
--- The certifications that are written: a row for each pair of an issuer and a receiver, and what is counted in them. Protocol: records.
+-- The certifications that are written: a row for each pair of an issuer and a receiver, and what is counted in them. Protocol: certifications, tables.
 use Rattle.std.specs.Prelude.{ℕ, Bool, false, ◌&&◌, cond, ◌==◌, List, [], ◌∷◌, ◌++◌, Option, Some, None, map, filter, count_by, max}
 use Rattle.std.specs.List.{list_any}
 use Rattle.std.specs.Option.{option_map_or}

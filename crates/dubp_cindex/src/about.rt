@@ -25,11 +25,7 @@ impl CIndex {
     }
 
     // The live certifications that the key has received, behind those that were found.
-    fn put_received(
-        &self,
-        found: &mut Vec<(Key, Key, CertRow)>,
-        key: &Key,
-    ) -> Result<(), NoMemory>
+    fn put_received(&self, found: &mut Vec<(Key, Key, CertRow)>, key: &Key) -> Result<(), NoMemory>
         ensures { OnOk result ((s : List Rows) → ⟦<CIndex as Tables<CertRows>>⟧.at self.now s → found.new.items ≡ found.old.items ++ map told (filter (live_to key.now) (finite.entries (newest finite.empty s)))) }
     {
         let mut after = None;

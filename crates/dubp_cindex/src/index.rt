@@ -16,7 +16,7 @@ use std::sync::ledger::Ledger as StepBook;
 
 /// The certifications, each under its issuer and receiver, with what is counted in them.
 ///
-/// Contracts see it along a chain of states, as `Tables` does. No reading call takes memory but `rows_of`.
+/// Contracts see it along a chain of states, as `Tables` does. No reading call takes memory but `rows_of`. Protocol: certifications, tables.
 #[derive(Drop)]
 pub struct CIndex {
     pub(crate) tables: CertTables,
@@ -31,11 +31,7 @@ impl CIndex {
         ensures waits { (o : List Rows) → ⟦<CIndex as Tables<CertRows>>⟧.waits result o 0 }
     {
         CIndex {
-            tables: Three::new(
-                Leaf::new(alloc),
-                no_received(alloc),
-                no_issued(alloc),
-            ),
+            tables: Three::new(Leaf::new(alloc), no_received(alloc), no_issued(alloc)),
         }
     }
 

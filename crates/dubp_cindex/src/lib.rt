@@ -1,7 +1,7 @@
 //! The index of certifications: a row for each pair of an issuer and a receiver, and what is counted in the rows.
 //!
 //! Contracts see it along a chain of states, newest first: a state is the rows after a block, a `FinMap` under pairs of texts.
-//! Each table of the index is a function of the newest state (`specs/Rows`).
+//! Each table of the index is a function of the newest state (`specs/Rows`). Protocol: certifications, tables.
 //!
 //! ```text
 //! let mut index = CIndex::new(alloc);

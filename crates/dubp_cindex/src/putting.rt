@@ -285,10 +285,14 @@ impl CIndex {
             → IsReady place_cmp self.old.tables.third.tables.first (from.now, Some to.now) changes.now.pair × IsReady text_cmp self.old.tables.third.tables.second from.now changes.now.issuer
             → IsOk result }
     {
-        self.tables.first.set((*from, Some(*to)), Some(changes.row), steps)?;
+        let received_by = (*to, Some(*from));
+        let issued_by = (*from, Some(*to));
+        self.tables
+            .first
+            .set((*from, Some(*to)), Some(changes.row), steps)?;
         make_side(
             &mut self.tables.second.tables,
-            &(*to, Some(*from)),
+            &received_by,
             &changes.pair,
             to,
             &changes.received,
@@ -296,7 +300,7 @@ impl CIndex {
         )?;
         make_side(
             &mut self.tables.third.tables,
-            &(*from, Some(*to)),
+            &issued_by,
             &changes.pair,
             from,
             &changes.issuer,

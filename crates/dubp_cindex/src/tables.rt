@@ -49,8 +49,7 @@ impl Definition<CertRows, Key, IssuerRow> for Issuers {
 }
 
 /// Pairs that live, and what is counted for their first key.
-pub type Side<V, D, E> =
-    Both<CertRows, Leaf<CertRows, Place, (), D>, Leaf<CertRows, Key, V, E>>;
+pub type Side<V, D, E> = Both<CertRows, Leaf<CertRows, Place, (), D>, Leaf<CertRows, Key, V, E>>;
 
 /// All tables of the index.
 pub type CertTables = Three<

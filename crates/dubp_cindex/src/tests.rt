@@ -49,7 +49,11 @@ fn goes_through<L: StepBook>(
 
 #[test]
 fn certifications_begin_and_end(rt: HostRuntime) {
-    let keys = (Key::read(&[b'A'; 43]), Key::read(&[b'B'; 43]), Key::read(&[b'C'; 44]));
+    let keys = (
+        Key::read(&[b'A'; 43]),
+        Key::read(&[b'B'; 43]),
+        Key::read(&[b'C'; 44]),
+    );
     if let (Some(a), Some(b), Some(c)) = keys {
         let good = goes_through::<Brand>(rt.alloc(), Blank::new(1), a, b, c);
         assert!(rt; good == Ok(true));

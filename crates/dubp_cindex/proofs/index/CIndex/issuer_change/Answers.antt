@@ -13,7 +13,7 @@ returns c = λ s a was stocks.
     let pair = c.args.pair.now in
     let told = c.issuer-was.ensures s a in
     let put = issuer_put rows c.args.from.now c.args.to.now c.args.row.now pair c.in_ok-stock.stock c.written_after-written.result
-        (c.in_ok-stock.ensures ∙ ap (counted pair) (c.stock_of.ensures ∙ ap (λ o. option_map_or (λ (r : IssuerRow). r.stock) o 0) told)) stocks (c.written_after-written.ensures rows a.0 was told) in (
+    (c.in_ok-stock.ensures ∙ ap (counted pair) (c.stock_of.ensures ∙ ap (λ o. option_map_or (λ (r : IssuerRow). r.stock) o 0) told)) stocks (c.written_after-written.ensures rows a.0 was told) in (
       ap (changed c.issuer_becomes.result) (sym told) ∙ c.issuer_becomes.ensures.is ∙ put,
       λ e. c.issuer_becomes.ensures.stays (told ∙ sym e ∙ sym put),
     )
