@@ -47,8 +47,11 @@ impl Definition<Block, u64, BlockTime> for TimesOf {
     ghost at = { time_at };
 }
 
-type FirstAndTimes =
-    Both<Block, Leaf<Block, (), First, FirstOf>, Leaf<Block, u64, BlockTime, TimesOf>>;
+type FirstAndTimes = Both<
+    Block,
+    Leaf<Block, (), First, FirstOf>,
+    Leaf<Block, u64, BlockTime, TimesOf>,
+>;
 
 /// The parameters and the currency of a chain, and the hashes and median times of its blocks by number.
 #[derive(Drop)]
@@ -121,7 +124,6 @@ impl Tables<Block> for Facts {
         self.tables.drop_ahead();
     }
 }
-
 
 impl Facts {
     /// Those of the empty chain. It takes no memory.
