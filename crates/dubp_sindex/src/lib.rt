@@ -24,8 +24,6 @@ mod order;
 mod reading;
 mod rows;
 mod sindex;
-#[cfg(test)]
-mod tests;
 mod writing;
 
 pub use laws::rows_stay;
