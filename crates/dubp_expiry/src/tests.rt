@@ -55,6 +55,7 @@ fn empties<L: StepBook>(alloc: Global, blank: Blank, key: Key) -> Result<bool, N
 {
     let mut steps = Steps::<L>::open(blank);
     let mut queue = Queue::new(alloc);
+    queue.laws();
     let kept = queue.depth();
     queue.plan(10, Due::Membership(key), &mut steps)?;
     take_due(&mut queue, 10, &mut steps)?;

@@ -6,4 +6,4 @@ use Rattle.dubp_expiry.proofs.tests.empties.Goals as goal
 
 pub take_due-requires : goal.take_due-requires
 take_due-requires g c =
-    record { at = (insert (queued []) (10, Membership c.args.key) tt ∷ [], c.in_ok-plan.ensures.at [] [] (c.depth-kept.ensures.at [] c.new-queue.ensures.stands)) }
+    record { at = (insert (queued []) (10, Membership c.args.key) tt ∷ [], c.in_ok-plan.ensures.at [] [] (c.laws.ensures.at [] c.new-queue.ensures.stands)) }
