@@ -20,8 +20,6 @@ mod putting;
 mod row;
 mod sides;
 mod tables;
-#[cfg(test)]
-mod tests;
 mod walking;
 
 pub use index::CIndex;
