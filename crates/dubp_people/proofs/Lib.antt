@@ -1,6 +1,0 @@
-pub mod Gathered
-pub mod Left
-pub mod Lines
-pub mod Queued
-pub mod Times
-pub mod Looked
