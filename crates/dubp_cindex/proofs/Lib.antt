@@ -1,0 +1,12 @@
+pub mod Entries
+pub mod Following
+pub mod Greatest
+pub mod Left
+pub mod Making
+pub mod Nothing
+pub mod Numbers
+pub mod Puts
+pub mod Texts
+pub mod Told
+pub mod Walked
+pub mod Written

@@ -1,0 +1,144 @@
+-- What a walk over the live pairs tells of the rows.
+use Rattle.std.proofs.Common.{◌≡◌, ℕ, Bool, true, false, cond, ◌&&◌, List, [], ◌∷◌, ◌++◌, Option, Some, None, map, filter, refl, ap, sym, ◌∙◌, subst, true≢false, inl, inr}
+use Rattle.std.specs.Prelude.{◌⊎◌, is_some, IsSome}
+use Rattle.std.specs.List.{All, Contains}
+use Rattle.std.specs.FinMap.{entries, entries_sorted}
+use Rattle.std.specs.FinMap as finite
+use Rattle.std.proofs.lemmas.List.{append-nil, map-append, append_assoc}
+use Rattle.std.proofs.lemmas.List.Elements.{All-nil, All-cons, All-weaker, All-contains, Contains-append_left, Contains-append_right, Contains-push}
+use Rattle.std.proofs.lemmas.Option.{none-some}
+use Rattle.dubp_atoms.specs.Same.{Text, same_text}
+use Rattle.dubp_undo.specs.MovingTable.{get}
+use Rattle.dubp_cindex.specs.declared.row.CertRow.{CertRow}
+use Rattle.dubp_cindex.specs.Orders.{Place, place_cmp, less, is_above, IsNextIssuer}
+use Rattle.dubp_cindex.specs.Following.{Follows}
+use Rattle.dubp_cindex.specs.Rows.{Rows, Entry, live_to, live_from, lives, one_if, row_at, received_by_at, live_pairs, told}
+use Rattle.dubp_cindex.proofs.Texts.{same_text_is, same_text_own}
+use Rattle.dubp_cindex.proofs.Walked.{IsIn, up_to, up_to-none, walk-next, walk-end}
+use Rattle.dubp_cindex.proofs.Entries.{got_in, in_got, first_true, second_true, both_true, to_climbs, from_climbs}
+
+lives_some : (o : Option CertRow) (r : CertRow) → o ≡ Some r → r.live ≡ true → lives o ≡ true
+lives_some o r e h = ap lives e ∙ h
+
+module _ (rows : Rows) (key : Text) where
+  abbrev received_up_to : Option Text → List Entry
+  received_up_to after = up_to (live_to key) (λ (e : Entry). e.0.0) after (entries rows)
+
+  abbrev issued_up_to : Option Text → List Entry
+  issued_up_to after = up_to (live_from key) (λ (e : Entry). e.0.1) after (entries rows)
+
+  to_shown : (a : Text) (r : CertRow) → finite.get rows (a, key) ≡ Some r → r.live ≡ true → IsIn ((a, key), r) (entries rows) × (live_to key ((a, key), r) ≡ true)
+  to_shown a r h l = (got_in rows (a, key) r h, both_true (same_text key key) r.live (same_text_own key) l)
+
+  to_shows : (x : Entry) → IsIn x (entries rows) → live_to key x ≡ true → lives (finite.get rows (x.0.0, key)) ≡ true
+  to_shows x there p = lives_some (finite.get rows (x.0.0, key)) x.1 (ap (λ q. finite.get rows (x.0.0, q)) (same_text_is key x.0.1 (first_true _ _ p)) ∙ in_got rows x there) (second_true (same_text key x.0.1) _ p)
+
+  from_shown : (a : Text) (r : CertRow) → finite.get rows (key, a) ≡ Some r → r.live ≡ true → IsIn ((key, a), r) (entries rows) × (live_from key ((key, a), r) ≡ true)
+  from_shown a r h l = (got_in rows (key, a) r h, both_true (same_text key key) r.live (same_text_own key) l)
+
+  from_shows : (x : Entry) → IsIn x (entries rows) → live_from key x ≡ true → lives (finite.get rows (key, x.0.1)) ≡ true
+  from_shows x there p = lives_some (finite.get rows (key, x.0.1)) x.1 (ap (λ q. finite.get rows (q, x.0.1)) (same_text_is key x.0.0 (first_true _ _ p)) ∙ in_got rows x there) (second_true (same_text key x.0.0) _ p)
+
+  module _ (m : List (Place × Unit {0})) where
+    pub received-next : ((k : Place) → get place_cmp m k ≡ received_by_at rows k.0 k.1) → (after : Option Text) (a : Text) → Follows m key after (Some (a, tt)) → (r : CertRow) × (finite.get rows (a, key) ≡ Some r) × (received_up_to (Some a) ≡ received_up_to after ++ ((a, key), r) ∷ [])
+    received-next is after a f =
+        walk-next (live_to key) (λ (e : Entry). e.0.0) (entries rows) (λ a r. ((a, key), r)) (λ a. finite.get rows (a, key)) (λ a r. refl) to_shown to_shows (to_climbs key (entries rows) (entries_sorted rows)) m key (λ a. is (key, Some a)) after a f
+
+    pub received-end : ((k : Place) → get place_cmp m k ≡ received_by_at rows k.0 k.1) → (after : Option Text) → Follows m key after None → received_up_to after ≡ filter (live_to key) (entries rows)
+    received-end is after f =
+        walk-end (live_to key) (λ (e : Entry). e.0.0) (entries rows) (λ a r. ((a, key), r)) (λ a. finite.get rows (a, key)) (λ a r. refl) to_shown to_shows (to_climbs key (entries rows) (entries_sorted rows)) m key (λ a. is (key, Some a)) after f
+
+    pub issued-next : ((k : Place) → get place_cmp m k ≡ one_if (lives (row_at rows k.0 k.1))) → (after : Option Text) (a : Text) → Follows m key after (Some (a, tt)) → (r : CertRow) × (finite.get rows (key, a) ≡ Some r) × (issued_up_to (Some a) ≡ issued_up_to after ++ ((key, a), r) ∷ [])
+    issued-next is after a f =
+        walk-next (live_from key) (λ (e : Entry). e.0.1) (entries rows) (λ a r. ((key, a), r)) (λ a. finite.get rows (key, a)) (λ a r. refl) from_shown from_shows (from_climbs key (entries rows) (entries_sorted rows)) m key (λ a. is (key, Some a)) after a f
+
+    pub issued-end : ((k : Place) → get place_cmp m k ≡ one_if (lives (row_at rows k.0 k.1))) → (after : Option Text) → Follows m key after None → issued_up_to after ≡ filter (live_from key) (entries rows)
+    issued-end is after f =
+        walk-end (live_from key) (λ (e : Entry). e.0.1) (entries rows) (λ a r. ((key, a), r)) (λ a. finite.get rows (key, a)) (λ a r. refl) from_shown from_shows (from_climbs key (entries rows) (entries_sorted rows)) m key (λ a. is (key, Some a)) after f
+
+  -- the row in its table
+  pub received-row : (n : List (Place × CertRow)) → ((k : Place) → get place_cmp n k ≡ row_at rows k.0 k.1) → (a : Text) (r : CertRow) → finite.get rows (a, key) ≡ Some r → get place_cmp n (a, Some key) ≡ Some r
+  received-row n is a r h = is (a, Some key) ∙ h
+
+  pub issued-row : (n : List (Place × CertRow)) → ((k : Place) → get place_cmp n k ≡ row_at rows k.0 k.1) → (a : Text) (r : CertRow) → finite.get rows (key, a) ≡ Some r → get place_cmp n (key, Some a) ≡ Some r
+  issued-row n is a r h = is (key, Some a) ∙ h
+
+  pub received-none : received_up_to None ≡ []
+  received-none = up_to-none (live_to key) (λ (e : Entry). e.0.0) (entries rows)
+
+  pub issued-none : issued_up_to None ≡ []
+  issued-none = up_to-none (live_from key) (λ (e : Entry). e.0.1) (entries rows)
+
+-- what is found, one more, and at the end
+abbrev Line : Type 0
+Line = Text × Text × CertRow
+
+pub told-none : (items : List Line) (xs : List Entry) → xs ≡ [] → items ≡ items ++ map told xs
+told-none items xs e = sym (ap (λ l. items ++ map told l) e ∙ append-nil items)
+
+pub told-more : (items now next : List Line) (xs ys : List Entry) (e : Entry) → now ≡ items ++ map told xs → next ≡ now ++ told e ∷ [] → ys ≡ xs ++ e ∷ [] → next ≡ items ++ map told ys
+told-more items now next xs ys e is more up =
+    more ∙ ap (λ l. l ++ told e ∷ []) is ∙ append_assoc items (map told xs) (told e ∷ []) ∙ ap (λ l. items ++ l) (sym (map-append told xs (e ∷ [])) ∙ ap (map told) (sym up))
+
+pub told-all : (items now : List Line) (xs ys : List Entry) → now ≡ items ++ map told xs → xs ≡ ys → now ≡ items ++ map told ys
+told-all items now xs ys is e = is ∙ ap (λ l. items ++ map told l) e
+
+-- ---- the live pairs
+
+in_contains : {X : Type 0} (x : X) (xs : List X) → IsIn x xs → Contains xs x
+in_contains x [] there = absurd there
+in_contains x (y ∷ ys) (inl e) = Contains-append_left (y ∷ []) ys x (subst (λ z. Contains (y ∷ []) z) e (Contains-push [] y))
+in_contains x (y ∷ ys) (inr there) = Contains-append_right (y ∷ []) ys x (in_contains x ys there)
+
+all_own : {X : Type 0} (xs : List X) → All (λ z. IsIn z xs) xs
+all_own {X} [] = All-nil (λ z. ⊥)
+all_own {X} (y ∷ ys) = All-cons (λ z. IsIn z (y ∷ ys)) y ys (inl refl) (All-weaker (λ z. IsIn z ys) (λ z. IsIn z (y ∷ ys)) (λ z there. inr there) ys (all_own ys))
+
+contains_in : {X : Type 0} (x : X) (xs : List X) → Contains xs x → IsIn x xs
+contains_in x xs c = All-contains (λ z. IsIn z xs) xs x (all_own xs) c
+
+live_in : (p : Text × Text) (es : List Entry) → IsIn p (map (λ (e : Entry). e.0) (filter (λ (e : Entry). e.1.live) es)) → (x : Entry) × IsIn x es × (x.1.live ≡ true) × (x.0 ≡ p)
+live_in p [] there = absurd there
+live_in p (e ∷ es) there =
+    elim (e.1.live) as (λ b. e.1.live ≡ b → IsIn p (map (λ (x : Entry). x.0) (cond b (e ∷ filter (λ (x : Entry). x.1.live) es) (filter (λ (x : Entry). x.1.live) es))) → (x : Entry) × IsIn x (e ∷ es) × (x.1.live ≡ true) × (x.0 ≡ p)) [
+      | true ↦ λ l has. elim has [ inl same ↦ (e, inl refl, l, same) | inr more ↦ let rest = live_in p es more in (rest.0, inr rest.1, rest.2, rest.3) ]
+      | false ↦ λ l more. let rest = live_in p es more in (rest.0, inr rest.1, rest.2, rest.3)
+    ] refl there
+
+in_live : (x : Entry) (es : List Entry) → IsIn x es → x.1.live ≡ true → IsIn x.0 (map (λ (e : Entry). e.0) (filter (λ (e : Entry). e.1.live) es))
+in_live x [] there l = absurd there
+in_live x (e ∷ es) (inl same) l =
+    subst (λ b. IsIn x.0 (map (λ (y : Entry). y.0) (cond b (e ∷ filter (λ (y : Entry). y.1.live) es) (filter (λ (y : Entry). y.1.live) es)))) (sym (ap (λ (y : Entry). y.1.live) same ∙ l)) (inl (ap (λ (y : Entry). y.0) same))
+in_live x (e ∷ es) (inr there) l =
+    let rest = in_live x es there l in
+    elim (e.1.live) as (λ b. IsIn x.0 (map (λ (y : Entry). y.0) (cond b (e ∷ filter (λ (y : Entry). y.1.live) es) (filter (λ (y : Entry). y.1.live) es)))) [ true ↦ inr rest | false ↦ rest ]
+
+-- a pair is among the live ones exactly where its row lives
+pub contains_lives : (rows : Rows) (a to : Text) → Contains (live_pairs rows) (a, to) → lives (finite.get rows (a, to)) ≡ true
+contains_lives rows a to c =
+    let one = live_in (a, to) (entries rows) (contains_in (a, to) (live_pairs rows) c) in
+    lives_some (finite.get rows (a, to)) one.0.1 (ap (finite.get rows) (sym one.3) ∙ in_got rows one.0 one.1) one.2
+
+pub lives_contains : (rows : Rows) (a to : Text) → lives (finite.get rows (a, to)) ≡ true → Contains (live_pairs rows) (a, to)
+lives_contains rows a to h =
+    elim (finite.get rows (a, to)) as (λ o. finite.get rows (a, to) ≡ o → lives o ≡ true → Contains (live_pairs rows) (a, to)) [
+      | None ↦ λ _ n. absurd (true≢false (sym n))
+      | Some r ↦ λ e l. in_contains (a, to) (live_pairs rows) (in_live ((a, to), r) (entries rows) (got_in rows (a, to) r e) l)
+    ] refl h
+
+one_lives : (b : Bool) → one_if b ≡ Some tt → b ≡ true
+one_lives true h = refl
+one_lives false h = absurd (none-some tt h)
+
+module _ (rows : Rows) (to : Text) (m : List (Place × Unit {0})) (is : (k : Place) → get place_cmp m k ≡ received_by_at rows k.0 k.1) (after : Option Text) where
+  there : (a : Text) → Contains (live_pairs rows) (a, to) → get place_cmp m (to, Some a) ≡ Some tt
+  there a c = is (to, Some a) ∙ ap one_if (contains_lives rows a to c)
+
+  pub next-some : (a : Text) → Follows m to after (Some (a, tt)) → IsNextIssuer (live_pairs rows) to after (Some a)
+  next-some a f = (lives_contains rows a to (one_lives (lives (finite.get rows (a, to))) (sym (is (to, Some a)) ∙ f.0)), f.1, λ b c above. f.2 b above (ap is_some (there b c)))
+
+  pub next-none : Follows m to after None → IsNextIssuer (live_pairs rows) to after None
+  next-none f = λ a c. elim (is_above after a) as (λ t. is_above after a ≡ t → t ≡ false) [
+    | true ↦ λ h. absurd (none-some tt (sym (f a h) ∙ there a c))
+    | false ↦ λ h. refl
+  ] refl

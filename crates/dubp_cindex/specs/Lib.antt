@@ -1,0 +1,6 @@
+pub mod Changes
+pub mod Coding
+pub mod Following
+pub mod Orders
+pub mod Putting
+pub mod Rows

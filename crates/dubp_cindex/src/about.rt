@@ -1,0 +1,65 @@
+ghost use Rattle.std.specs.Prelude.{◌≡◌, List, [], ◌∷◌, ◌++◌, Some, OnOk, IfOk, map, filter};
+ghost use Rattle.std.specs.FinMap as finite;
+ghost use Rattle.dubp_undo.specs.MovingTable.{get};
+ghost use Rattle.dubp_undo.specs.States.{newest};
+ghost use Rattle.dubp_cindex.specs.Orders.{place_cmp};
+ghost use Rattle.dubp_cindex.specs.Rows.{Rows, live_to, live_from, told, rows_about};
+
+use crate::index::CIndex;
+use crate::row::{CertRow, CertRows};
+use crate::walking::next_of;
+use dubp_atoms::{Key, NoMemory};
+use dubp_undo::Tables;
+use std::alloc::Global;
+
+impl CIndex {
+    /// The live certifications that the key has received, by issuer, and then those that it has issued, by receiver: the issuer,
+    /// the receiver and the row of each. It looks at these alone.
+    pub fn rows_of(&self, alloc: Global, key: Key) -> Result<Vec<(Key, Key, CertRow)>, NoMemory>
+        ensures { (s : List Rows) → ⟦<CIndex as Tables<CertRows>>⟧.at self.now s → IfOk result (λ found. found.items ≡ rows_about (newest finite.empty s) key) }
+    {
+        let mut found = Vec::new(alloc);
+        self.put_received(&mut found, &key)?;
+        self.put_issued(&mut found, &key)?;
+        Ok(found)
+    }
+
+    // The live certifications that the key has received, behind those that were found.
+    fn put_received(&self, found: &mut Vec<(Key, Key, CertRow)>, key: &Key) -> Result<(), NoMemory>
+        ensures { OnOk result ((s : List Rows) → ⟦<CIndex as Tables<CertRows>>⟧.at self.now s → found.new.items ≡ found.old.items ++ map told (filter (live_to key.now) (finite.entries (newest finite.empty s)))) }
+    {
+        let mut after = None;
+        while let Some((from, ())) = next_of(&self.tables.second.tables.first, key, &after) {
+            self.put_told(found, &from, key)?;
+            after = Some(from);
+        }
+        Ok(())
+    }
+
+    // The live certifications that the key has issued, behind those that were found.
+    fn put_issued(&self, found: &mut Vec<(Key, Key, CertRow)>, key: &Key) -> Result<(), NoMemory>
+        ensures { OnOk result ((s : List Rows) → ⟦<CIndex as Tables<CertRows>>⟧.at self.now s → found.new.items ≡ found.old.items ++ map told (filter (live_from key.now) (finite.entries (newest finite.empty s)))) }
+    {
+        let mut after = None;
+        while let Some((to, ())) = next_of(&self.tables.third.tables.first, key, &after) {
+            self.put_told(found, key, &to)?;
+            after = Some(to);
+        }
+        Ok(())
+    }
+
+    // The row of the pair, behind those that were found.
+    fn put_told(
+        &self,
+        found: &mut Vec<(Key, Key, CertRow)>,
+        from: &Key,
+        to: &Key,
+    ) -> Result<(), NoMemory>
+        ensures { OnOk result ((row : CertRow) → get place_cmp self.now.tables.first.now (from.now, Some to.now) ≡ Some row → found.new.items ≡ found.old.items ++ (from.now, to.now, row) ∷ []) }
+    {
+        match self.tables.first.get((*from, Some(*to))) {
+            Some(row) => found.push((*from, *to, row)).map_err(|_| NoMemory),
+            None => Ok(()),
+        }
+    }
+}

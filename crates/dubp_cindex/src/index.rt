@@ -1,0 +1,136 @@
+ghost use Rattle.std.specs.Prelude.{◌≡◌, ℕ, List, []};
+ghost use Rattle.std.specs.FinMap as map;
+ghost use Rattle.std.specs.Option.{unwrap_or};
+ghost use Rattle.dubp_undo.specs.States.{newest};
+ghost use Rattle.dubp_cindex.specs.Orders.{IsNextIssuer};
+ghost use Rattle.dubp_cindex.specs.Rows.{Rows, issuer_in, received_in, live_pairs};
+
+use crate::row::{CertRow, CertRows, IssuerRow};
+use crate::sides::{no_issued, no_received};
+use crate::tables::CertTables;
+use crate::walking::next_of;
+use dubp_atoms::{Key, NoMemory, Steps};
+use dubp_undo::{Leaf, Tables, Three};
+use std::alloc::Global;
+use std::sync::ledger::Ledger as StepBook;
+
+/// The certifications, each under its issuer and receiver, with what is counted in them.
+///
+/// Contracts see it along a chain of states, as `Tables` does. No reading call takes memory but `rows_of`. Protocol: certifications, tables.
+#[derive(Drop)]
+pub struct CIndex {
+    pub(crate) tables: CertTables,
+}
+
+impl CIndex {
+    /// The index in which nothing is written. It takes no memory.
+    pub fn new(alloc: Global) -> CIndex
+        ensures stands { ⟦<CIndex as Tables<CertRows>>⟧.stands result [] }
+        ensures costs { ⟦<CIndex as Tables<CertRows>>⟧.costs result ≡ [] }
+        ensures ahead { ⟦<CIndex as Tables<CertRows>>⟧.ahead_costs result ≡ [] }
+        ensures waits { (o : List Rows) → ⟦<CIndex as Tables<CertRows>>⟧.waits result o 0 }
+    {
+        CIndex {
+            tables: Three::new(Leaf::new(alloc), no_received(alloc), no_issued(alloc)),
+        }
+    }
+
+    /// The row of the pair, or `None` where the issuer never certified the receiver.
+    pub fn row(&self, from: Key, to: Key) -> Option<CertRow>
+        ensures { (s : List Rows) → ⟦<CIndex as Tables<CertRows>>⟧.at self.now s → result ≡ map.get (newest map.empty s) (from, to) }
+    {
+        self.tables.first.get((from, Some(to)))
+    }
+
+    /// What the key has issued, or `None` where it never certified.
+    pub fn issuer(&self, from: Key) -> Option<IssuerRow>
+        ensures { (s : List Rows) → ⟦<CIndex as Tables<CertRows>>⟧.at self.now s → result ≡ issuer_in (newest map.empty s) from }
+    {
+        self.tables.third.tables.second.get(from)
+    }
+
+    /// How many live certifications the key has received.
+    pub fn received(&self, to: Key) -> u64
+        ensures { (s : List Rows) → ⟦<CIndex as Tables<CertRows>>⟧.at self.now s → result ≡ received_in (newest map.empty s) to }
+    {
+        self.tables.second.tables.second.get(to).unwrap_or(0)
+    }
+
+    /// The least issuer above `after`, or the least of all where that is `None`, of whom the key has a live certification.
+    /// `None` where there is none.
+    pub fn next_received(&self, to: Key, after: Option<Key>) -> Option<Key>
+        ensures { (s : List Rows) → ⟦<CIndex as Tables<CertRows>>⟧.at self.now s → IsNextIssuer (live_pairs (newest map.empty s)) to after result }
+    {
+        let (issuer, _) = next_of(&self.tables.second.tables.first, &to, &after)?;
+        Some(issuer)
+    }
+}
+
+impl Tables<CertRows> for CIndex {
+    ghost costs = { λ t. ⟦<CertTables as Tables<CertRows>>⟧.costs t.tables };
+
+    ghost ahead_costs = { λ t. ⟦<CertTables as Tables<CertRows>>⟧.ahead_costs t.tables };
+
+    ghost at = { λ t s. ⟦<CertTables as Tables<CertRows>>⟧.at t.tables s };
+
+    ghost stands = { λ t s. ⟦<CertTables as Tables<CertRows>>⟧.stands t.tables s };
+
+    ghost marked = { λ t s. ⟦<CertTables as Tables<CertRows>>⟧.marked t.tables s };
+
+    ghost waits = { λ t o i. ⟦<CertTables as Tables<CertRows>>⟧.waits t.tables o i };
+
+    ghost same = { λ t u. ⟦<CertTables as Tables<CertRows>>⟧.same t.tables u.tables };
+
+    ghost marks = { λ t u. ⟦<CertTables as Tables<CertRows>>⟧.marks t.tables u.tables };
+
+    ghost keeps = { λ t u. ⟦<CertTables as Tables<CertRows>>⟧.keeps t.tables u.tables };
+
+    ghost spare = { λ t. ⟦<CertTables as Tables<CertRows>>⟧.spare t.tables };
+
+    ghost room = { λ t. ⟦<CertTables as Tables<CertRows>>⟧.room t.tables };
+
+    fn depth(&self) -> usize {
+        self.tables.depth()
+    }
+
+    fn laws(&self) {
+        self.tables.laws();
+    }
+
+    fn mark(&mut self) -> Result<(), NoMemory> {
+        self.tables.mark()?;
+        Ok(())
+    }
+
+    fn unmark(&mut self) {
+        self.tables.unmark();
+    }
+
+    fn reserve(&mut self, k: usize) -> Result<(), NoMemory> {
+        self.tables.reserve(k)?;
+        Ok(())
+    }
+
+    fn hold<L: StepBook>(&mut self, steps: &mut Steps<L>) {
+        self.tables.hold(steps);
+    }
+
+    fn back<L: StepBook>(&mut self, steps: &mut Steps<L>) {
+        self.tables.back(steps);
+    }
+
+    fn again<L: StepBook>(&mut self, steps: &mut Steps<L>) {
+        self.tables.again(steps);
+    }
+
+    fn drop_oldest(&mut self) {
+        self.tables.drop_oldest();
+    }
+
+    fn drop_ahead(&mut self) {
+        self.tables.drop_ahead();
+    }
+
+    ghost use Rattle.dubp_cindex.specs.Orders.{text_cmp, place_cmp};
+    ghost use Rattle.dubp_cindex.specs.Rows.{rows_along, received_by_along, received_along, issued_by_along, issuers_along};
+}
