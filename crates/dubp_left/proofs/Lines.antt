@@ -29,10 +29,10 @@ use Rattle.dubp_laws.proofs.LastLines.{last_line-any}
 use Rattle.dubp_laws.proofs.Once.{Once, once_head, once_tail, once-append, each_once-map}
 use Rattle.dubp_iindex.specs.Rows.{texts, has_uid, key_with}
 use Rattle.dubp_iindex.specs.declared.row.IdentityRow.{IdentityRow}
-use Rattle.dubp_people.specs.Gathered.{entry_of, gathered, table_of}
-use Rattle.dubp_people.specs.Left.{identity_entry, identity_left, identities_left}
-use Rattle.dubp_people.proofs.Gathered.{found}
-use Rattle.dubp_people.proofs.Left.{identities-at, texts-apart, named}
+use Rattle.dubp_left.specs.Gathered.{entry_of, gathered, table_of}
+use Rattle.dubp_left.specs.Left.{identity_entry, identity_left, identities_left}
+use Rattle.dubp_left.proofs.Gathered.{found}
+use Rattle.dubp_left.proofs.Left.{identities-at, texts-apart, named}
 
 same_truth : (a b : Bool) → (a ≡ true → b ≡ true) → (b ≡ true → a ≡ true) → a ≡ b
 same_truth true b f g = sym (f refl)

@@ -23,9 +23,9 @@ use Rattle.dubp_expiry.specs.DueOrder.{entry_cmp}
 use Rattle.dubp_expiry.specs.declared.due.Due.{Due}
 use Rattle.dubp_expiry.specs.declared.due.Due.TheVariants.{Membership, Revocation, Certification}
 use Rattle.dubp_expiry.proofs.Order.{entry_total, entry_exact}
-use Rattle.dubp_people.specs.Left.{due_of, queued_left, due_at, ends_of_member, ends_of_pair, ends, membership_keys, queue_left}
-use Rattle.dubp_people.proofs.Gathered.{get-table}
-use Rattle.dubp_people.proofs.Lines.{last_line-in}
+use Rattle.dubp_left.specs.Left.{due_of, queued_left, due_at, ends_of_member, ends_of_pair, ends, membership_keys, queue_left}
+use Rattle.dubp_left.proofs.Gathered.{get-table}
+use Rattle.dubp_left.proofs.Lines.{last_line-in}
 
 -- ---- elements of the lists that are put together
 

@@ -18,7 +18,7 @@ use Rattle.dubp_expiry.specs.DueOrder.{entry_cmp}
 use Rattle.dubp_expiry.specs.Entries.{Queued}
 use Rattle.dubp_expiry.specs.declared.due.Due.{Due}
 use Rattle.dubp_expiry.specs.declared.due.Due.TheVariants.{Membership, Revocation, Certification}
-use Rattle.dubp_people.specs.Gathered.{table_of}
+use Rattle.dubp_left.specs.Gathered.{table_of}
 
 -- ---- identities: at each key with a line of Identities
 

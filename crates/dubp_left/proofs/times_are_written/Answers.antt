@@ -4,8 +4,8 @@ use Rattle.dubp_block.specs.declared.block.Block.{Block}
 use Rattle.dubp_block.specs.declared.block.CertLine.{CertLine}
 use Rattle.dubp_chain.specs.Members.{is_of}
 use Rattle.dubp_chain.specs.People.{membership_lines}
-use Rattle.dubp_people.proofs.Times.{written-time}
-use Rattle.dubp_people.proofs.times_are_written.Goals as goal
+use Rattle.dubp_left.proofs.Times.{written-time}
+use Rattle.dubp_left.proofs.times_are_written.Goals as goal
 
 pub returns : goal.returns
 returns g = λ c sound. record {

@@ -16,9 +16,9 @@ use Rattle.dubp_steps.proofs.Counts.{member_is_of_row, revoked_is_of_row, leavin
 use Rattle.dubp_iindex.specs.Rows.{key_with}
 use Rattle.dubp_iindex.specs.declared.row.IdentityRow.{IdentityRow}
 use Rattle.dubp_mindex.specs.declared.member.MemberRow.{MemberRow}
-use Rattle.dubp_people.specs.Left.{identity_entry, identity_left, identities_left, member_entry, membership_left, memberships_left}
-use Rattle.dubp_people.proofs.Left.{identities-at, memberships-at}
-use Rattle.dubp_people.proofs.Lines.{uid-there, identities-counted}
+use Rattle.dubp_left.specs.Left.{identity_entry, identity_left, identities_left, member_entry, membership_left, memberships_left}
+use Rattle.dubp_left.proofs.Left.{identities-at, memberships-at}
+use Rattle.dubp_left.proofs.Lines.{uid-there, identities-counted}
 
 -- the newest of the states that a chain leaves is the state that the chain leaves
 pub newest-left : {S : Type 0} (nothing : S) (after : Chain → S) → after [] ≡ nothing → (c : Chain) → newest nothing (states after c) ≡ after c

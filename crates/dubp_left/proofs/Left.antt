@@ -20,8 +20,8 @@ use Rattle.dubp_cindex.specs.Orders.{pair_cmp}
 use Rattle.dubp_cindex.proofs.Texts.{pair_total, pair_exact}
 use Rattle.dubp_laws.proofs.LastLines.{last_line-any}
 use Rattle.dubp_iindex.specs.Rows.{texts}
-use Rattle.dubp_people.specs.Left.{identity_left, identities_left, membership_left, memberships_left, certification_left, certifications_left}
-use Rattle.dubp_people.proofs.Gathered.{get-table}
+use Rattle.dubp_left.specs.Left.{identity_left, identities_left, membership_left, memberships_left, certification_left, certifications_left}
+use Rattle.dubp_left.proofs.Gathered.{get-table}
 
 pub texts-apart : IsAntisymmetric texts
 texts-apart = slice_cmp-IsAntisymmetric nat_cmp-IsAntisymmetric

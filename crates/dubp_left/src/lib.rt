@@ -2,14 +2,18 @@
 //! what they say of the chain.
 //!
 //! `specs/Left` gathers the rows from the definitions on the chain. Each function here is a law: it does nothing, and its contract
-//! is the law. The chapters on people and on tables in `docs/protocol` say the same in words.
+//! is the law. `specs/Next` says when a block stands to be judged on a chain, and when it stands to be written. The chapters on people and on tables in `docs/protocol` say the same in words.
 //!
 //! ```text
 //! rows_are_left();
 //! ```
 #![tactic(auto)]
 
-ghost use Rattle.dubp_people.specs.Laws.{RowsAreLeft, UidsAreFound, IdentitiesAreCounted, TimesAreWritten};
+mod next;
+
+ghost use Rattle.dubp_left.specs.Laws.{RowsAreLeft, UidsAreFound, IdentitiesAreCounted, TimesAreWritten};
+
+pub use next::Next;
 
 /// The rows that a chain leaves have at each key, each pair and each entry what the chain says.
 pub fn rows_are_left()

@@ -12,7 +12,7 @@ use Rattle.dubp_chain.specs.Live.{certification, last_from}
 use Rattle.dubp_validity.specs.Rules.{IsSound}
 use Rattle.dubp_iindex.specs.Rows.{key_with}
 use Rattle.dubp_expiry.specs.declared.due.Due.{Due}
-use Rattle.dubp_people.specs.Left.{identity_left, identities_left, membership_left, memberships_left, certification_left, certifications_left, queued_left, queue_left}
+use Rattle.dubp_left.specs.Left.{identity_left, identities_left, membership_left, memberships_left, certification_left, certifications_left, queued_left, queue_left}
 
 -- what stands at each key, each pair and each entry is what the chain says
 pub record AreLeft (c : Chain) : Type 0 where

@@ -1,5 +1,0 @@
-use Rattle.dubp_people.proofs.Lines.{identities-counted}
-use Rattle.dubp_people.proofs.identities_are_counted.Goals as goal
-
-pub returns : goal.returns
-returns g = identities-counted
