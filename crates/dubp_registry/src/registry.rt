@@ -1,0 +1,140 @@
+ghost use Rattle.std.specs.Prelude.{◌≡◌, List, [], ℕ};
+ghost use Rattle.dubp_undo.specs.States.{states};
+ghost use Rattle.dubp_chain.specs.Chains.{Chain};
+ghost use Rattle.dubp_left.specs.Left.{identities_left, memberships_left, certifications_left, queue_left};
+
+use crate::indexes::Indexes;
+use crate::others::Others;
+use dubp_atoms::{NoMemory, Steps};
+use dubp_block::Block;
+use dubp_cindex::{CIndex, CertRows};
+use dubp_expiry::{Entries, Queue};
+use dubp_facts::Facts;
+use dubp_iindex::{IIndex, IdentityRows};
+use dubp_mindex::{MIndex, MemberRows};
+use dubp_undo::{Both, Tables};
+use std::alloc::Global;
+use std::sync::ledger::Ledger as StepBook;
+
+type RegistryTables = Both<Block, Indexes, Others>;
+
+/// The people of a chain: its indexes, the queue of what falls due, the keys that have to be excluded, and its facts.
+#[derive(Drop)]
+pub struct Registry {
+    pub tables: RegistryTables,
+}
+
+impl Tables<Block> for Registry {
+    ghost costs = { λ t. ⟦<RegistryTables as Tables<Block>>⟧.costs t.tables };
+
+    ghost ahead_costs = { λ t. ⟦<RegistryTables as Tables<Block>>⟧.ahead_costs t.tables };
+
+    ghost at = { λ t c. ⟦<RegistryTables as Tables<Block>>⟧.at t.tables c };
+
+    ghost stands = { λ t c. ⟦<RegistryTables as Tables<Block>>⟧.stands t.tables c };
+
+    ghost marked = { λ t c. ⟦<RegistryTables as Tables<Block>>⟧.marked t.tables c };
+
+    ghost waits = { λ t o i. ⟦<RegistryTables as Tables<Block>>⟧.waits t.tables o i };
+
+    ghost same = { λ t u. ⟦<RegistryTables as Tables<Block>>⟧.same t.tables u.tables };
+
+    ghost marks = { λ t u. ⟦<RegistryTables as Tables<Block>>⟧.marks t.tables u.tables };
+
+    ghost keeps = { λ t u. ⟦<RegistryTables as Tables<Block>>⟧.keeps t.tables u.tables };
+
+    ghost spare = { λ t. ⟦<RegistryTables as Tables<Block>>⟧.spare t.tables };
+
+    ghost room = { λ t. ⟦<RegistryTables as Tables<Block>>⟧.room t.tables };
+
+    fn depth(&self) -> usize {
+        self.tables.depth()
+    }
+
+    fn laws(&self) {
+        self.tables.laws();
+    }
+
+    fn mark(&mut self) -> Result<(), NoMemory> {
+        self.tables.mark()?;
+        Ok(())
+    }
+
+    fn unmark(&mut self) {
+        self.tables.unmark();
+    }
+
+    fn reserve(&mut self, k: usize) -> Result<(), NoMemory> {
+        self.tables.reserve(k)?;
+        Ok(())
+    }
+
+    fn hold<L: StepBook>(&mut self, steps: &mut Steps<L>) {
+        self.tables.hold(steps);
+    }
+
+    fn back<L: StepBook>(&mut self, steps: &mut Steps<L>) {
+        self.tables.back(steps);
+    }
+
+    fn again<L: StepBook>(&mut self, steps: &mut Steps<L>) {
+        self.tables.again(steps);
+    }
+
+    fn drop_oldest(&mut self) {
+        self.tables.drop_oldest();
+    }
+
+    fn drop_ahead(&mut self) {
+        self.tables.drop_ahead();
+    }
+}
+
+impl Registry {
+    /// That of the empty chain. It takes no memory.
+    pub fn new(alloc: Global) -> Registry
+        ensures stands { ⟦<Registry as Tables<Block>>⟧.stands result [] }
+        ensures costs { ⟦<Registry as Tables<Block>>⟧.costs result ≡ [] }
+        ensures ahead { ⟦<Registry as Tables<Block>>⟧.ahead_costs result ≡ [] }
+        ensures waits { (o : Chain) → ⟦<Registry as Tables<Block>>⟧.waits result o 0 }
+    {
+        Registry {
+            tables: Both::new(Indexes::new(alloc), Others::new(alloc)),
+        }
+    }
+
+    /// The index of identities.
+    pub fn iindex(&self) -> &IIndex
+        ensures { (c : Chain) → ⟦<Registry as Tables<Block>>⟧.at self.now c → ⟦<IIndex as Tables<IdentityRows>>⟧.at result.now (states identities_left c) }
+    {
+        &self.tables.first.tables.first.tables
+    }
+
+    /// The index of memberships.
+    pub fn mindex(&self) -> &MIndex
+        ensures { (c : Chain) → ⟦<Registry as Tables<Block>>⟧.at self.now c → ⟦<MIndex as Tables<MemberRows>>⟧.at result.now (states memberships_left c) }
+    {
+        &self.tables.first.tables.second.tables
+    }
+
+    /// The index of certifications.
+    pub fn cindex(&self) -> &CIndex
+        ensures { (c : Chain) → ⟦<Registry as Tables<Block>>⟧.at self.now c → ⟦<CIndex as Tables<CertRows>>⟧.at result.now (states certifications_left c) }
+    {
+        &self.tables.first.tables.third.tables
+    }
+
+    /// The queue of what falls due.
+    pub fn queue(&self) -> &Queue
+        ensures { (c : Chain) → ⟦<Registry as Tables<Block>>⟧.at self.now c → ⟦<Queue as Tables<Entries>>⟧.at result.now (states queue_left c) }
+    {
+        &self.tables.second.tables.first.tables
+    }
+
+    /// The parameters, the currency and the times of the blocks.
+    pub fn facts(&self) -> &Facts
+        ensures { (c : Chain) → ⟦<Registry as Tables<Block>>⟧.at self.now c → ⟦<Facts as Tables<Block>>⟧.at result.now c }
+    {
+        &self.tables.second.tables.third
+    }
+}
