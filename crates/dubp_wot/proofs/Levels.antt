@@ -1,5 +1,5 @@
 -- The search by levels, over plain lists.
-use Rattle.std.proofs.Common.{◌≡◌, ℕ, zero, suc, ◌+◌, ◌<◌, ◌≤◌, ◌↔◌, ◌⊎◌, inl, inr, Bool, true, false, IsTrue, ◌||◌, List, [], ◌∷◌, ◌++◌, Some, length, slice_get, get_or, Contains, if◌then◌else◌, refl, sym, ap, subst, ◌∙◌, true≢false, arith}
+use Rattle.std.proofs.Common.{◌≡◌, Result, Ok, Err, IfOk, ℕ, zero, suc, ◌+◌, ◌<◌, ◌≤◌, ◌↔◌, ◌⊎◌, inl, inr, Bool, true, false, IsTrue, ◌||◌, List, [], ◌∷◌, ◌++◌, Some, length, slice_get, get_or, Contains, if◌then◌else◌, refl, sym, ap, subst, ◌∙◌, true≢false, arith}
 use Rattle.std.proofs.Math.ListN.{length-append}
 use Rattle.std.specs.List.{list_any}
 use Rattle.std.proofs.lemmas.Option.{slice_get_within, slice_get-get_or, same_Some}
@@ -15,6 +15,11 @@ text_same x y = (bytes_decides x y).0
 
 pub text_own : (x : Text) → same_text x x ≡ true
 text_own x = (bytes_decides x x).1 refl
+
+-- what holds of an answer, where there is one, gives what follows from it
+pub where_ok : {T E : Type 0} {P Q : T → Type 0} (result : Result T E) → IfOk result P → ((x : T) → P x → Q x) → IfOk result Q
+where_ok (Ok x) h f = f x h
+where_ok (Err e) h f = tt
 
 -- ---- keys in a list by their places
 

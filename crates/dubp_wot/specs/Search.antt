@@ -1,17 +1,13 @@
 -- What the walk over the members and the search by levels keep: the contracts of the public functions name none of these.
 -- A key in a list is spoken of by its place. Protocol: distance.
-use Rattle.std.specs.Prelude.{◌≡◌, ℕ, ◌<◌, ◌≤◌, ◌⊎◌, Bool, not, ◌&&◌, List, Option, Some, slice_get, length, filter}
+use Rattle.std.specs.Prelude.{◌≡◌, ℕ, ◌<◌, ◌≤◌, ◌⊎◌, not, List, Option, Some, slice_get, length, filter}
 use Rattle.std.specs.List.{Contains}
-use Rattle.dubp_atoms.specs.Same.{Text, same_text}
+use Rattle.dubp_atoms.specs.Same.{Text}
 use Rattle.dubp_wot.specs.Order.{is_above}
 
 -- the keys up to the one that was last taken
 abbrev pub up_to : Option Text → List Text → List Text
 up_to after keys = filter (λ k. not (is_above after k)) keys
-
--- a certification of this key, by one above the issuer that was last taken
-abbrev pub is_left : Text → Option Text → Text × Text → Bool
-is_left to after pair = same_text pair.1 to && is_above after pair.0
 
 module _ {K : Type 0} where
   -- the key stands in the list

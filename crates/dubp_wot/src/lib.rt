@@ -1,6 +1,6 @@
 //! Distance: who of the sentries reaches a key by walks of certifications among members.
 //!
-//! A chain is asked through `Web`, one look a question. Contracts see a web as the list of its members, by key, and the list of
+//! A chain is asked through `Web`, one look a question. Contracts see a web as the lists that it shows: its members, by key, and the
 //! pairs of keys, who certifies and who is certified; `specs/Walks.antt` of `dubp_atoms` says from them what a walk, a sentry and
 //! the number reached are. The chapter on distance in `docs/protocol` says the same in words.
 //!

@@ -1,4 +1,4 @@
-ghost use Rattle.std.specs.Prelude.{◌≡◌, ◌≤◌, ◌<◌, ◌↔◌, ◌^◌, length, count_by, IsTrue, IfOk, OnOk, Contains};
+ghost use Rattle.std.specs.Prelude.{◌≡◌, ◌≤◌, ◌<◌, ◌↔◌, ◌^◌, List, length, count_by, IsTrue, IfOk, OnOk, Contains};
 ghost use Rattle.indexmap.specs.IndexSet.{contains, insert_key};
 ghost use Rattle.dubp_atoms.specs.Same.{Text, same_text};
 ghost use Rattle.dubp_atoms.specs.Walks.{Reaches, IsCountOf, IsReachedBy, others, sentries_of};
@@ -19,10 +19,10 @@ pub fn reaches<W: Web>(
     target: Key,
     steps_max: u64,
 ) -> Result<(u64, u64), NoMemory>
-    requires members { length (W.members web.now) < 2 ^ 21 }
+    requires members { (members : List Text) × (pairs : List (Text × Text)) × (W.shows web.now members pairs × (length members < 2 ^ 21)) }
     requires steps { (1 ≤ steps_max) × (steps_max ≤ 16) }
-    ensures reached { IfOk result (λ r. IsReachedBy (W.members web.now) (W.pairs web.now) steps_max target r.0) }
-    ensures count { IfOk result (λ r. r.1 ≡ length (others (sentries_of (W.members web.now) (W.pairs web.now) steps_max) target)) }
+    ensures reached { IfOk result (λ r. (members : List Text) (pairs : List (Text × Text)) → W.shows web.now members pairs → IsReachedBy members pairs steps_max target r.0) }
+    ensures count { IfOk result (λ r. (members : List Text) (pairs : List (Text × Text)) → W.shows web.now members pairs → r.1 ≡ length (others (sentries_of members pairs steps_max) target)) }
 {
     let sentries = sentries(alloc, web, steps_max)?;
     reaches_among(alloc, web, &sentries, target, steps_max)
@@ -38,7 +38,7 @@ pub fn reaches_among<W: Web>(
     target: Key,
     steps_max: u64,
 ) -> Result<(u64, u64), NoMemory>
-    ensures reached { IfOk result (λ r. IsCountOf (λ s. Reaches (W.members web.now) (W.pairs web.now) steps_max s target) (others sentries.now target) r.0) }
+    ensures reached { IfOk result (λ r. (members : List Text) (pairs : List (Text × Text)) → W.shows web.now members pairs → IsCountOf (λ s. Reaches members pairs steps_max s target) (others sentries.now target) r.0) }
     ensures count { IfOk result (λ r. r.1 ≡ length (others sentries.now target)) }
 {
     let found = find_reaching(alloc, web, target, steps_max)?;
@@ -54,7 +54,7 @@ fn find_reaching<W: Web>(
     target: Key,
     steps_max: u64,
 ) -> Result<IndexSet<Key>, NoMemory>
-    ensures { IfOk result (λ s. (a : Text) → IsTrue (contains same_text s a) ↔ Reaches (W.members web.now) (W.pairs web.now) steps_max a target) }
+    ensures { IfOk result (λ s. (members : List Text) (pairs : List (Text × Text)) → W.shows web.now members pairs → (a : Text) → IsTrue (contains same_text s a) ↔ Reaches members pairs steps_max a target) }
 {
     let mut found = IndexSet::new(alloc);
     if !web.is_member(&target) {
@@ -75,9 +75,8 @@ fn find_reaching<W: Web>(
 
 /// Adds the next level: the members who certify a key from `start` on.
 fn add_level<W: Web>(web: &W, start: usize, found: &mut IndexSet<Key>) -> Result<(), NoMemory>
-    requires { Closed (W.members web.now) (W.pairs web.now) start found.old.keys }
-    ensures grows { OnOk result (Grows (W.members web.now) (W.pairs web.now) (In found.old.keys) found.old.keys found.new.keys) }
-    ensures closed { OnOk result (Closed (W.members web.now) (W.pairs web.now) (length found.old.keys) found.new.keys) }
+    ensures grows { OnOk result ((members : List Text) (pairs : List (Text × Text)) → W.shows web.now members pairs → Grows members pairs (In found.old.keys) found.old.keys found.new.keys) }
+    ensures closed { OnOk result ((members : List Text) (pairs : List (Text × Text)) → W.shows web.now members pairs → Closed members pairs start found.old.keys → Closed members pairs (length found.old.keys) found.new.keys) }
 {
     for i in start..found.len() {
         let to = found[i];
@@ -88,17 +87,22 @@ fn add_level<W: Web>(web: &W, start: usize, found: &mut IndexSet<Key>) -> Result
 
 /// Adds the members who certify `to`.
 fn add_issuers<W: Web>(web: &W, to: Key, found: &mut IndexSet<Key>) -> Result<(), NoMemory>
-    ensures grows { OnOk result (Grows (W.members web.now) (W.pairs web.now) (λ b. b ≡ to) found.old.keys found.new.keys) }
-    ensures all { OnOk result ((a : Text) → Contains (W.members web.now) a → Contains (W.pairs web.now) (a, to) → In found.new.keys a) }
+    ensures longer { OnOk result (length found.old.keys ≤ length found.new.keys) }
+    ensures grows { OnOk result ((members : List Text) (pairs : List (Text × Text)) → W.shows web.now members pairs → Grows members pairs (λ b. b ≡ to) found.old.keys found.new.keys) }
+    ensures all { OnOk result ((members : List Text) (pairs : List (Text × Text)) → W.shows web.now members pairs → (a : Text) → Contains members a → Contains pairs (a, to) → In found.new.keys a) }
 {
     let mut after = None;
-    while let Some(from) = web.next_issuer(to, after) {
+    // what a web shows is no value, so no measure speaks of it; there are fewer issuers than turns
+    'issuers: for _ in 0..u64::MAX {
+        let Some(from) = web.next_issuer(to, after) else {
+            return Ok(());
+        };
         if web.is_member(&from) {
             insert(found, from)?;
         }
         after = Some(from);
     }
-    Ok(())
+    Err(NoMemory)
 }
 
 /// Adds the key, unless the set has it.

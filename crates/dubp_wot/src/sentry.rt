@@ -1,4 +1,5 @@
-ghost use Rattle.std.specs.Prelude.{◌≡◌, ℕ, ◌≤◌, ◌<◌, ◌^◌, ◌↔◌, [], ◌∷◌, ◌++◌, IsTrue, IfOk, OnOk, length};
+ghost use Rattle.std.specs.Prelude.{◌≡◌, ℕ, ◌≤◌, ◌<◌, ◌^◌, ◌↔◌, List, [], ◌∷◌, ◌++◌, IsTrue, IfOk, OnOk, length};
+ghost use Rattle.dubp_atoms.specs.Same.{Text};
 ghost use Rattle.dubp_atoms.specs.Walks.{d_sen_of, has_issued_and_received, sentries_of};
 
 use crate::web::Web;
@@ -52,25 +53,29 @@ fn is_enough(base: u64, steps: u64, members: u64) -> bool
 ///
 /// There are below 2 ^ 21 members, and `steps_max` is from 1 to 16. `NoMemory` where there is no memory for the list.
 pub fn sentries<W: Web>(alloc: Global, web: &W, steps_max: u64) -> Result<Vec<Key>, NoMemory>
-    requires members { length (W.members web.now) < 2 ^ 21 }
+    requires members { (members : List Text) × (pairs : List (Text × Text)) × (W.shows web.now members pairs × (length members < 2 ^ 21)) }
     requires steps { (1 ≤ steps_max) × (steps_max ≤ 16) }
-    ensures { IfOk result (λ found. found.items ≡ sentries_of (W.members web.now) (W.pairs web.now) steps_max) }
+    ensures { IfOk result (λ found. (members : List Text) (pairs : List (Text × Text)) → W.shows web.now members pairs → found.items ≡ sentries_of members pairs steps_max) }
 {
     let least = d_sen(web.count_members(), steps_max);
     let mut found = Vec::new(alloc);
     let mut after = None;
-    while let Some(key) = web.next_member(after) {
+    // what a web shows is no value, so no measure speaks of it; there are fewer members than turns
+    'members: for _ in 0..u64::MAX {
+        let Some(key) = web.next_member(after) else {
+            return Ok(found);
+        };
         if has_issued_and_received_least(web, &key, least) {
             push(&mut found, key)?;
         }
         after = Some(key);
     }
-    Ok(found)
+    Err(NoMemory)
 }
 
 /// Whether the key certifies at least this many keys, and is certified by at least this many.
 fn has_issued_and_received_least<W: Web>(web: &W, key: &Key, least: u64) -> bool
-    ensures { result ≡ has_issued_and_received (W.pairs web.now) least key.now }
+    ensures { (members : List Text) (pairs : List (Text × Text)) → W.shows web.now members pairs → result ≡ has_issued_and_received pairs least key.now }
 {
     web.stock(key) >= least && web.received(key) >= least
 }

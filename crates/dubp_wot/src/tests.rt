@@ -20,9 +20,7 @@ struct Listed {
 }
 
 impl Web for Listed {
-    ghost members = { λ w. w.members.items };
-
-    ghost pairs = { λ w. w.pairs.items };
+    ghost shows = { λ w members pairs. (members ≡ w.members.items) × (pairs ≡ w.pairs.items) };
 
     fn is_member(&self, key: &Key) -> bool {
         self.members.contains(key)

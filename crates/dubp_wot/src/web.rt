@@ -7,36 +7,36 @@ use dubp_atoms::Key;
 
 /// The members of a chain and its live certifications. No call takes memory.
 ///
-/// Contracts see two lists:
-/// - `members w`: the members, each once, in the order of their texts;
-/// - `pairs w`: the certifications, each as who certifies and who is certified.
+/// Contracts see two lists that a web shows, `shows w members pairs`:
+/// - the members, each once, in the order of their texts;
+/// - the pairs, who certifies and who is certified, in any order and as often as it may be.
+///
+/// A clause holds of all lists that the web shows.
 pub trait Web {
-    ghost members: { Self → List Text };
-
-    ghost pairs: { Self → List (Text × Text) };
+    ghost shows: { Self → List Text → List (Text × Text) → Type 0 };
 
     /// Whether the key is a member.
     fn is_member(&self, key: &Key) -> bool
-        ensures { IsTrue result ↔ Contains (members self.now) key.now };
+        ensures { (members : List Text) (pairs : List (Text × Text)) → shows self.now members pairs → (IsTrue result ↔ Contains members key.now) };
 
     /// How many members there are.
     fn count_members(&self) -> u64
-        ensures count { result ≡ length (members self.now) }
-        ensures in_order { IsInOrder (members self.now) };
+        ensures count { (members : List Text) (pairs : List (Text × Text)) → shows self.now members pairs → result ≡ length members }
+        ensures in_order { (members : List Text) (pairs : List (Text × Text)) → shows self.now members pairs → IsInOrder members };
 
     /// The least member above `after`, or the least of all. None exactly where there is none.
     fn next_member(&self, after: Option<Key>) -> Option<Key>
-        ensures { IsNextMember (members self.now) after result };
+        ensures { (members : List Text) (pairs : List (Text × Text)) → shows self.now members pairs → IsNextMember members after result };
 
     /// The least key above `after` that certifies `to`, or the least of all. None exactly where there is none.
     fn next_issuer(&self, to: Key, after: Option<Key>) -> Option<Key>
-        ensures { IsNextIssuer (pairs self.now) to after result };
+        ensures { (members : List Text) (pairs : List (Text × Text)) → shows self.now members pairs → IsNextIssuer pairs to after result };
 
     /// How many keys this key certifies.
     fn stock(&self, key: &Key) -> u64
-        ensures { result ≡ stock_of (pairs self.now) key.now };
+        ensures { (members : List Text) (pairs : List (Text × Text)) → shows self.now members pairs → result ≡ stock_of pairs key.now };
 
     /// By how many keys this key is certified.
     fn received(&self, key: &Key) -> u64
-        ensures { result ≡ received_of (pairs self.now) key.now };
+        ensures { (members : List Text) (pairs : List (Text × Text)) → shows self.now members pairs → result ≡ received_of pairs key.now };
 }

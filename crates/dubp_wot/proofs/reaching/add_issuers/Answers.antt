@@ -1,29 +1,39 @@
-use Rattle.std.proofs.Common.{Some, BuildHasherDefault, FoldHasher, true≢false, sym, subst, ◌∙◌}
+use Rattle.std.proofs.Common.{◌≤◌, List, length, arith, Some, BuildHasherDefault, FoldHasher, true≢false, sym, subst, ◌∙◌}
 use Rattle.indexmap.specs.IndexSet.{IndexSet}
-use Rattle.dubp_atoms.specs.Same.{Text}
-use Rattle.dubp_wot.proofs.Issuers.{left-falls, Seen, Seen-put, Seen-skip}
+use Rattle.dubp_atoms.specs.Same.{Text, same_text}
+use Rattle.dubp_wot.proofs.Issuers.{longer-insert, Seen, Seen-put, Seen-skip}
 use Rattle.dubp_wot.proofs.reaching.add_issuers.Goals as goal
 use Rattle.dubp_wot.proofs.reaching.add_issuers.Goals.{then-is_member+in_ok-insert, else-is_member}
 
-pub loop-from-smaller : goal.loop-from-smaller
-loop-from-smaller g c =
-    left-falls (g.W.Web.pairs c.args.web.now) c.args.to c.loop-from.after c.in-Some.from c.in-Some.ensures.0 c.in-Some.ensures.1
-
-pub loop-from-preserved : goal.loop-from-preserved
-loop-from-preserved g c =
-    let members = (g.W.Web.members c.args.web.now) in
-    let pairs = (g.W.Web.pairs c.args.web.now) in
+pub issuers-preserved : goal.issuers-preserved
+issuers-preserved g c =
     let old = c.args.found.now.keys in
-    let keys = c.loop-from.found.keys in
+    let keys = c.issuers.found.keys in
     let from = c.in-Some.from in
     let to = c.args.to in
-    let after = c.loop-from.after in
-    let goal_at = λ (s : IndexSet Text (BuildHasherDefault FoldHasher)). Seen members pairs to (Some from) old s.keys in
-    elim c.if-is_member.branch [
-      | then-is_member+in_ok-insert w ↦
-          subst goal_at (sym w.found-is)
-          (Seen-put members pairs to after from old keys c.in-Some.ensures c.loop-from.invariant w.insert.new.found.keys w.in_ok-insert.ensures (c.is_member.ensures.0 w.if-is_member.true))
-      | else-is_member w ↦
-          subst goal_at (sym w.found-is)
-          (Seen-skip members pairs to after from old keys c.in-Some.ensures c.loop-from.invariant (λ in'. true≢false (sym (c.is_member.ensures.1 in') ∙ w.if-is_member.false)))
-    ]
+    let after = c.issuers.after in
+    let before = c.issuers.invariant in
+    record {
+      longer = elim c.if-is_member.branch [
+        | then-is_member+in_ok-insert w ↦
+            let more = longer-insert same_text keys from in
+            subst (λ (s : IndexSet Text (BuildHasherDefault FoldHasher)). length old ≤ length s.keys) (sym w.found-is)
+            (subst (λ (ks : List Text). length old ≤ length ks) (sym w.in_ok-insert.ensures) (omega (arith, before.longer)))
+        | else-is_member w ↦
+            subst (λ (s : IndexSet Text (BuildHasherDefault FoldHasher)). length old ≤ length s.keys) (sym w.found-is) before.longer
+      ];
+      seen = λ members pairs shown.
+          let next = c.in-Some.ensures members pairs shown in
+          let seen = before.seen members pairs shown in
+          let goal_at = λ (s : IndexSet Text (BuildHasherDefault FoldHasher)). Seen members pairs to (Some from) old s.keys in
+          elim c.if-is_member.branch [
+            | then-is_member+in_ok-insert w ↦
+                subst goal_at (sym w.found-is)
+                (Seen-put members pairs to after from old keys next seen w.insert.new.found.keys w.in_ok-insert.ensures
+                ((c.is_member.ensures members pairs shown).0 w.if-is_member.true))
+            | else-is_member w ↦
+                subst goal_at (sym w.found-is)
+                (Seen-skip members pairs to after from old keys next seen
+                (λ in'. true≢false (sym ((c.is_member.ensures members pairs shown).1 in') ∙ w.if-is_member.false)))
+          ];
+    }

@@ -5,21 +5,24 @@ use Rattle.dubp_wot.proofs.reaching.add_level.Goals as goal
 
 pub loop-i-preserved : goal.loop-i-preserved
 loop-i-preserved g c =
-    let members = (g.W.Web.members c.args.web.now) in
-    let pairs = (g.W.Web.pairs c.args.web.now) in
     let old = c.args.found.now.keys in
     let mid = c.loop-i.found.keys in
     let new = c.add_issuers.new.found.keys in
     let to = c.index-to.result.now in
-    let within : c.loop-i.i < length old = omega arith in
-    let first : In old to = (c.loop-i.i, at-old members pairs (In old) old mid c.loop-i.invariant.grows c.loop-i.i to within c.index-to.ensures) in
-    let more = c.in_ok-add_issuers.ensures.grows in
+    let i = c.loop-i.i in
     record {
-      grows = Grows-then members pairs (In old) old mid new c.loop-i.invariant.grows
-          (Grows-weaker members pairs (λ b. b ≡ to) (In old) mid new (λ b e. subst (In old) (sym e) first) more);
-      closed = Closed-more members pairs (λ b. b ≡ to) c.loop-i.i to mid new c.loop-i.invariant.closed more c.index-to.ensures c.in_ok-add_issuers.ensures.all;
+      longer = omega (arith, c.in_ok-add_issuers.ensures.longer, c.loop-i.invariant.longer);
+      grows = λ members pairs shown.
+          let grown = c.loop-i.invariant.grows members pairs shown in
+          let within : i < length old = omega arith in
+          let first : In old to = (i, at-old members pairs (In old) old mid grown i to within c.index-to.ensures) in
+          Grows-then members pairs (In old) old mid new grown
+          (Grows-weaker members pairs (λ b. b ≡ to) (In old) mid new (λ b e. subst (In old) (sym e) first) (c.in_ok-add_issuers.ensures.grows members pairs shown));
+      closed = λ members pairs shown from_start.
+          Closed-more members pairs (λ b. b ≡ to) i to mid new (c.loop-i.invariant.closed members pairs shown from_start)
+          (c.in_ok-add_issuers.ensures.grows members pairs shown) c.index-to.ensures (c.in_ok-add_issuers.ensures.all members pairs shown);
     }
 
 pub returns-clause-closed : goal.returns-clause-closed
-returns-clause-closed g c =
-    Closed-less (g.W.Web.members c.args.web.now) (g.W.Web.pairs c.args.web.now) (length c.args.found.now.keys) c.loop-i.i c.loop-i.found.keys (omega arith) c.loop-i.invariant.closed
+returns-clause-closed g c = λ members pairs shown from_start.
+    Closed-less members pairs (length c.args.found.now.keys) c.loop-i.i c.loop-i.found.keys (omega arith) (c.loop-i.invariant.closed members pairs shown from_start)

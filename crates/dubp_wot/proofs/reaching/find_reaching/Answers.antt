@@ -5,49 +5,46 @@ use Rattle.dubp_wot.proofs.Levels.{Level, Level-first, Level-next, Level-end, Le
 use Rattle.dubp_wot.proofs.reaching.find_reaching.Goals as goal
 
 pub returns-then-not-is_member : goal.returns-then-not-is_member
-returns-then-not-is_member g c =
-    nobody (g.W.Web.members c.args.web.now) (g.W.Web.pairs c.args.web.now) c.args.target same_text c.args.steps_max c.new-found.result.keys c.new-found.ensures.empty
-    (λ h. true≢false (sym (c.is_member.ensures.1 h) ∙ c.if-not-is_member.true))
+returns-then-not-is_member g c = λ members pairs shown.
+    nobody members pairs c.args.target same_text c.args.steps_max c.new-found.result.keys c.new-found.ensures.empty
+    (λ h. true≢false (sym ((c.is_member.ensures members pairs shown).1 h) ∙ c.if-not-is_member.true))
 
 pub loop-level-init : goal.loop-level-init
 loop-level-init g c =
-    let members = (g.W.Web.members c.args.web.now) in
-    let pairs = (g.W.Web.pairs c.args.web.now) in
     let target = c.args.target in
-    let in' = c.is_member.ensures.0 c.if-not-is_member.false in
     let e : c.insert.new.found.keys ≡ target ∷ [] = c.in_ok-insert.ensures ∙ ap (λ ks. insert_key same_text ks target) c.new-found.ensures.empty in
     record {
-      closed = Closed-none members pairs c.insert.new.found.keys;
-      level = subst (Level members pairs target 0) (sym e) (Level-first members pairs target in');
+      closed = λ members pairs shown. Closed-none members pairs c.insert.new.found.keys;
+      level = λ members pairs shown.
+          subst (Level members pairs target 0) (sym e)
+          (Level-first members pairs target ((c.is_member.ensures members pairs shown).0 c.if-not-is_member.false));
     }
 
 pub returns-then-start-end : goal.returns-then-start-end
-returns-then-start-end g c =
-    let members = (g.W.Web.members c.args.web.now) in
-    let pairs = (g.W.Web.pairs c.args.web.now) in
+returns-then-start-end g c = λ members pairs shown.
     let target = c.args.target in
     let keys = c.loop-level.found.keys in
     Level-test members pairs target same_text text_same text_own c.args.steps_max keys
-    (Level-end members pairs target c.loop-level.level c.args.steps_max keys (omega arith) c.loop-level.invariant.level
-    (Closed-less members pairs (length keys) c.loop-level.start keys (omega arith) c.loop-level.invariant.closed))
+    (Level-end members pairs target c.loop-level.level c.args.steps_max keys (omega arith) (c.loop-level.invariant.level members pairs shown)
+    (Closed-less members pairs (length keys) c.loop-level.start keys (omega arith) (c.loop-level.invariant.closed members pairs shown)))
 
 pub loop-level-preserved : goal.loop-level-preserved
 loop-level-preserved g c =
-    let members = (g.W.Web.members c.args.web.now) in
-    let pairs = (g.W.Web.pairs c.args.web.now) in
     let old = c.loop-level.found.keys in
     let new = c.add_level.new.found.keys in
-    let closed = c.in_ok-add_level.ensures.closed in
     record {
-      closed = Closed-less members pairs c.len-end.result (length old) new (omega arith) closed;
-      level = Level-next members pairs c.args.target c.loop-level.level old new c.loop-level.invariant.level c.in_ok-add_level.ensures.grows closed;
+      closed = λ members pairs shown.
+          Closed-less members pairs c.len-end.result (length old) new (omega arith)
+          (c.in_ok-add_level.ensures.closed members pairs shown (c.loop-level.invariant.closed members pairs shown));
+      level = λ members pairs shown.
+          Level-next members pairs c.args.target c.loop-level.level old new (c.loop-level.invariant.level members pairs shown)
+          (c.in_ok-add_level.ensures.grows members pairs shown)
+          (c.in_ok-add_level.ensures.closed members pairs shown (c.loop-level.invariant.closed members pairs shown));
     }
 
 pub returns : goal.returns
-returns g c =
-    let members = (g.W.Web.members c.args.web.now) in
-    let pairs = (g.W.Web.pairs c.args.web.now) in
+returns g c = λ members pairs shown.
     let keys = c.loop-level.found.keys in
     let all : c.loop-level.level ≡ c.args.steps_max = omega arith in
     Level-test members pairs c.args.target same_text text_same text_own c.args.steps_max keys
-    (subst (λ n. Level members pairs c.args.target n keys) all c.loop-level.invariant.level)
+    (subst (λ n. Level members pairs c.args.target n keys) all (c.loop-level.invariant.level members pairs shown))
