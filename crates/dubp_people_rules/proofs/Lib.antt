@@ -1,0 +1,5 @@
+pub mod Every
+pub mod Sections
+pub mod Sets
+pub mod Told
+pub mod Walk
