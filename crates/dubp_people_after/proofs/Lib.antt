@@ -1,0 +1,8 @@
+pub mod Counting
+pub mod Enough
+pub mod Every
+pub mod Identities
+pub mod Lists
+pub mod Live
+pub mod Rests
+pub mod Webs

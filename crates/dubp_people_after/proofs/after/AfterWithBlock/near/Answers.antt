@@ -1,0 +1,20 @@
+use Rattle.std.proofs.Common.{◌∙◌, ap}
+use Rattle.indexmap.specs.IndexSet.{contains}
+use Rattle.dubp_atoms.specs.Same.{same_text}
+use Rattle.dubp_block.specs.declared.block.Block.{Block}
+use Rattle.dubp_undo.specs.States.{states}
+use Rattle.dubp_left.specs.Left.{certifications_left}
+use Rattle.dubp_people_after.proofs.Live.{issuers_near, receivers_near}
+use Rattle.dubp_people_after.proofs.after.AfterWithBlock.near.Goals as goal
+
+pub returns-clause-issuers : goal.returns-clause-issuers
+returns-clause-issuers c = λ chain b shown.
+    issuers_near chain b c.args.key c.as_slice.result.now c.as_slice-2.result.now (contains same_text c.new-near.result) (contains same_text c.put_rows.new.set) (contains same_text c.put_lines.new.set)
+    (c.as_slice.ensures.value ∙ c.in_ok-rows.ensures (states certifications_left chain) (c.cindex.ensures chain shown.0)) (c.as_slice-2.ensures ∙ ap (λ (x : Block). x.certifications) shown.1.2)
+    c.in_ok-put_rows.ensures c.in_ok-put_lines.ensures
+
+pub returns-clause-receivers : goal.returns-clause-receivers
+returns-clause-receivers c = λ chain b shown.
+    receivers_near chain b c.args.key c.as_slice.result.now c.as_slice-2.result.now (contains same_text c.new-near.result) (contains same_text c.put_rows.new.set) (contains same_text c.put_lines.new.set)
+    (c.as_slice.ensures.value ∙ c.in_ok-rows.ensures (states certifications_left chain) (c.cindex.ensures chain shown.0)) (c.as_slice-2.ensures ∙ ap (λ (x : Block). x.certifications) shown.1.2)
+    c.in_ok-put_rows.ensures c.in_ok-put_lines.ensures

@@ -1,0 +1,6 @@
+use Rattle.dubp_people_after.proofs.Enough.{enough_told}
+use Rattle.dubp_people_after.proofs.counted.has_enough.Goals as goal
+
+pub returns : goal.returns
+returns g c = λ chain b shown.
+    enough_told chain b c.args.line.now _ _ c.is_within.result (c.params.ensures chain b shown) (c.in_ok-count.ensures chain b shown) c.is_within.ensures

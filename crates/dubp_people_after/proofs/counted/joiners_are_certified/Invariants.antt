@@ -1,0 +1,7 @@
+use Rattle.dubp_chain.specs.Chains.{Chain}
+use Rattle.dubp_people_after.specs.Lines.{HasEnough}
+use Rattle.dubp_people_after.proofs.Rests.{Rests}
+use Rattle.dubp_people_after.proofs.counted.joiners_are_certified.Given as goal
+
+abbrev pub invariant-loop-line : goal.invariant-loop-line
+invariant-loop-line g l = (c : Chain) → g.A.WithBlock.after l.after c l.block → Rests (HasEnough c l.block) l.lines l.line-index

@@ -1,0 +1,24 @@
+use Rattle.std.proofs.Common.{◌∙◌, ◌||◌, ap, sym}
+use Rattle.std.specs.List.{list_any}
+use Rattle.std.proofs.lemmas.List.Folds.{list_any-append}
+use Rattle.dubp_atoms.specs.Same.{same_text}
+use Rattle.dubp_chain.specs.Words.{last_of}
+use Rattle.dubp_chain.specs.Members.{is_of}
+use Rattle.dubp_steps.specs.AfterLines.{of_pair}
+use Rattle.dubp_people_after.proofs.keys.keys_of.Goals as goal
+
+pub returns : goal.returns
+returns c =
+    let b = c.args.block.now in
+    record {
+      joiners = λ k. c.in_ok-joining.ensures k ∙ ap (list_any (is_of k)) c.as_slice.ensures;
+      comers = λ k.
+          c.in_ok-put_keys.ensures k
+          ∙ ap (λ t. t || list_any (is_of k) c.as_slice-3.result.now) (c.in_ok-coming.ensures k ∙ ap (list_any (is_of k)) c.as_slice-2.ensures)
+          ∙ ap (λ ls. list_any (is_of k) b.joiners || list_any (is_of k) ls) c.as_slice-3.ensures
+          ∙ sym (list_any-append (is_of k) b.joiners b.actives);
+      leavers = λ k. c.in_ok-leaving.ensures k ∙ ap (list_any (is_of k)) c.as_slice-4.ensures;
+      excluded = λ k. c.in_ok-excluded.ensures k ∙ ap (list_any (same_text k)) c.as_slice-5.ensures;
+      identities = λ k. c.in_ok-identities.ensures k ∙ ap (last_of (λ line. same_text k line.key)) c.as_slice-6.ensures;
+      certifications = λ x y. c.in_ok-certifications.ensures x y ∙ ap (last_of (of_pair x y)) c.as_slice-7.ensures;
+    }

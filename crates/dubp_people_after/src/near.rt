@@ -1,0 +1,55 @@
+ghost use Rattle.std.specs.Prelude.{◌≡◌, ◌||◌, OnOk};
+ghost use Rattle.std.specs.List.{list_any};
+ghost use Rattle.indexmap.specs.IndexSet.{contains};
+ghost use Rattle.dubp_atoms.specs.Same.{Text, same_text};
+ghost use Rattle.dubp_people_after.specs.Near.{is_end, is_end_near, is_end_of};
+
+use dubp_atoms::{Key, NoMemory};
+use dubp_block::CertLine;
+use dubp_cindex::CertRow;
+use dubp_sets::insert;
+use indexmap::IndexSet;
+
+/// Puts both ends of each row into the set.
+pub(crate) fn put_rows(
+    set: &mut IndexSet<Key>,
+    rows: &[(Key, Key, CertRow)],
+) -> Result<(), NoMemory>
+    ensures { OnOk result ((k : Text) → contains same_text set.new k ≡ (contains same_text set.old k || list_any (is_end_of k) rows.now)) }
+{
+    for row in rows {
+        insert_both(set, row.0, row.1)?;
+    }
+    Ok(())
+}
+
+/// Puts both ends of each line that the key is an end of into the set.
+pub(crate) fn put_lines(
+    set: &mut IndexSet<Key>,
+    key: Key,
+    lines: &[CertLine],
+) -> Result<(), NoMemory>
+    ensures { OnOk result ((k : Text) → contains same_text set.new k ≡ (contains same_text set.old k || list_any (is_end_near key k) lines.now)) }
+{
+    for line in lines {
+        put_line(set, &key, line)?;
+    }
+    Ok(())
+}
+
+fn put_line(set: &mut IndexSet<Key>, key: &Key, line: &CertLine) -> Result<(), NoMemory>
+    ensures { OnOk result ((k : Text) → contains same_text set.new k ≡ (contains same_text set.old k || is_end_near key.now k line.now)) }
+{
+    if line.from == *key || line.to == *key {
+        insert_both(set, line.from, line.to)?;
+    }
+    Ok(())
+}
+
+fn insert_both(set: &mut IndexSet<Key>, from: Key, to: Key) -> Result<(), NoMemory>
+    ensures { OnOk result ((k : Text) → contains same_text set.new k ≡ (contains same_text set.old k || is_end from to k)) }
+{
+    insert(set, from)?;
+    insert(set, to)?;
+    Ok(())
+}
