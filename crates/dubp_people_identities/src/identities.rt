@@ -1,0 +1,167 @@
+ghost use Rattle.std.specs.Prelude.{◌≡◌, ℕ, ◌+◌, ◌*◌, ◌≤◌, List, ◌∷◌, Bool, false, fold, length, OnOk, OnErr};
+ghost use Rattle.dubp_undo.specs.States.{states, AtMostMore};
+ghost use Rattle.dubp_chain.specs.Chains.{Chain};
+ghost use Rattle.dubp_validity.specs.Rules.{IsSound};
+ghost use Rattle.std.specs.FinMap.{insert};
+ghost use Rattle.dubp_iindex.specs.Rows.{Rows, FitsRows};
+ghost use Rattle.dubp_left.specs.Left.{identities_left};
+ghost use Rattle.dubp_people_identities.specs.Writing.{row_of, created, with_member, joined, UidsApart, IsNewLine, AreNewLines, most_sets};
+
+use dubp_atoms::{Key, NoMemory, Steps};
+use dubp_block::{Block, IdentityLine, MemberLine};
+use dubp_iindex::{IIndex, IdentityRow, IdentityRows};
+use dubp_undo::Tables;
+use std::sync::ledger::Ledger as StepBook;
+
+/// Writes what the block makes of the identities: at most 4 steps for each line of Identities, Joiners and Excluded.
+///
+/// What is marked stays so. `NoMemory` leaves the index between two lines.
+pub fn write_identities<L: StepBook>(
+    index: &mut IIndex,
+    block: &Block,
+    steps: &mut Steps<L>,
+) -> Result<(), NoMemory>
+    ensures at { OnOk result ((c : Chain) → IsSound (block.now ∷ c) → ⟦<IIndex as Tables<IdentityRows>>⟧.at index.old (states identities_left c) → ⟦<IIndex as Tables<IdentityRows>>⟧.at index.new (states identities_left (block.now ∷ c))) }
+    ensures marked { (s : List Rows) → ⟦<IIndex as Tables<IdentityRows>>⟧.marked index.old s → ⟦<IIndex as Tables<IdentityRows>>⟧.marked index.new s }
+    ensures waits { (o : List Rows) (i : ℕ) → ⟦<IIndex as Tables<IdentityRows>>⟧.waits index.old o i → ⟦<IIndex as Tables<IdentityRows>>⟧.waits index.new o i }
+    ensures ahead { ⟦<IIndex as Tables<IdentityRows>>⟧.ahead_costs index.new ≡ ⟦<IIndex as Tables<IdentityRows>>⟧.ahead_costs index.old }
+    ensures depth { length (⟦<IIndex as Tables<IdentityRows>>⟧.costs index.new) ≡ length (⟦<IIndex as Tables<IdentityRows>>⟧.costs index.old) }
+    ensures costs { OnOk result (AtMostMore (most_sets block.now) (⟦<IIndex as Tables<IdentityRows>>⟧.costs index.old) (⟦<IIndex as Tables<IdentityRows>>⟧.costs index.new)) }
+    ensures steps { OnOk result (steps.new ≤ steps.old + most_sets block.now) }
+{
+    create_all(index, block.number, block.identities.as_slice(), steps)?;
+    join_all(index, block.joiners.as_slice(), steps)?;
+    exclude_all(index, block.excluded.as_slice(), steps)?;
+    Ok(())
+}
+
+/// Puts the row of each line.
+fn create_all<L: StepBook>(
+    index: &mut IIndex,
+    number: u64,
+    lines: &[IdentityLine],
+    steps: &mut Steps<L>,
+) -> Result<(), NoMemory>
+    ensures at { OnOk result ((rows : Rows) (t : List Rows) → AreNewLines number rows lines.now → ⟦<IIndex as Tables<IdentityRows>>⟧.at index.old (rows ∷ t) → ⟦<IIndex as Tables<IdentityRows>>⟧.at index.new (fold (created number) rows lines.now ∷ t)) }
+    ensures marked { (s : List Rows) → ⟦<IIndex as Tables<IdentityRows>>⟧.marked index.old s → ⟦<IIndex as Tables<IdentityRows>>⟧.marked index.new s }
+    ensures waits { (o : List Rows) (i : ℕ) → ⟦<IIndex as Tables<IdentityRows>>⟧.waits index.old o i → ⟦<IIndex as Tables<IdentityRows>>⟧.waits index.new o i }
+    ensures ahead { ⟦<IIndex as Tables<IdentityRows>>⟧.ahead_costs index.new ≡ ⟦<IIndex as Tables<IdentityRows>>⟧.ahead_costs index.old }
+    ensures depth { length (⟦<IIndex as Tables<IdentityRows>>⟧.costs index.new) ≡ length (⟦<IIndex as Tables<IdentityRows>>⟧.costs index.old) }
+    ensures costs { OnOk result (AtMostMore (4 * length lines.now) (⟦<IIndex as Tables<IdentityRows>>⟧.costs index.old) (⟦<IIndex as Tables<IdentityRows>>⟧.costs index.new)) }
+    ensures steps { OnOk result (steps.new ≤ steps.old + 4 * length lines.now) }
+{
+    for line in lines {
+        create(index, number, line, steps)?;
+    }
+    Ok(())
+}
+
+/// Puts the row of a new identity.
+fn create<L: StepBook>(
+    index: &mut IIndex,
+    number: u64,
+    line: &IdentityLine,
+    steps: &mut Steps<L>,
+) -> Result<(), NoMemory>
+    ensures at { OnOk result ((rows : Rows) (t : List Rows) → IsNewLine rows line.now → ⟦<IIndex as Tables<IdentityRows>>⟧.at index.old (rows ∷ t) → ⟦<IIndex as Tables<IdentityRows>>⟧.at index.new (created number rows line.now ∷ t)) }
+    ensures marked { (s : List Rows) → ⟦<IIndex as Tables<IdentityRows>>⟧.marked index.old s → ⟦<IIndex as Tables<IdentityRows>>⟧.marked index.new s }
+    ensures waits { (o : List Rows) (i : ℕ) → ⟦<IIndex as Tables<IdentityRows>>⟧.waits index.old o i → ⟦<IIndex as Tables<IdentityRows>>⟧.waits index.new o i }
+    ensures ahead { ⟦<IIndex as Tables<IdentityRows>>⟧.ahead_costs index.new ≡ ⟦<IIndex as Tables<IdentityRows>>⟧.ahead_costs index.old }
+    ensures depth { length (⟦<IIndex as Tables<IdentityRows>>⟧.costs index.new) ≡ length (⟦<IIndex as Tables<IdentityRows>>⟧.costs index.old) }
+    ensures costs { OnOk result (AtMostMore 4 (⟦<IIndex as Tables<IdentityRows>>⟧.costs index.old) (⟦<IIndex as Tables<IdentityRows>>⟧.costs index.new)) }
+    ensures steps { OnOk result (steps.new ≤ steps.old + 4) }
+{
+    let row = IdentityRow {
+        uid: line.uid,
+        stamp: line.stamp,
+        sig: line.sig,
+        written: number,
+        member: false,
+    };
+    put(index, line.key, row, steps)?;
+    Ok(())
+}
+
+/// Puts the row.
+fn put<L: StepBook>(
+    index: &mut IIndex,
+    key: Key,
+    row: IdentityRow,
+    steps: &mut Steps<L>,
+) -> Result<(), NoMemory>
+    ensures at { OnOk result ((rows : Rows) (t : List Rows) → FitsRows rows key row → ⟦<IIndex as Tables<IdentityRows>>⟧.at index.old (rows ∷ t) → ⟦<IIndex as Tables<IdentityRows>>⟧.at index.new (insert rows key row ∷ t)) }
+    ensures marked { (s : List Rows) → ⟦<IIndex as Tables<IdentityRows>>⟧.marked index.old s → ⟦<IIndex as Tables<IdentityRows>>⟧.marked index.new s }
+    ensures waits { (o : List Rows) (i : ℕ) → ⟦<IIndex as Tables<IdentityRows>>⟧.waits index.old o i → ⟦<IIndex as Tables<IdentityRows>>⟧.waits index.new o i }
+    ensures ahead { ⟦<IIndex as Tables<IdentityRows>>⟧.ahead_costs index.new ≡ ⟦<IIndex as Tables<IdentityRows>>⟧.ahead_costs index.old }
+    ensures depth { length (⟦<IIndex as Tables<IdentityRows>>⟧.costs index.new) ≡ length (⟦<IIndex as Tables<IdentityRows>>⟧.costs index.old) }
+    ensures costs { OnOk result (AtMostMore 4 (⟦<IIndex as Tables<IdentityRows>>⟧.costs index.old) (⟦<IIndex as Tables<IdentityRows>>⟧.costs index.new)) }
+    ensures steps { OnOk result (steps.new ≤ steps.old + 4) }
+{
+    index.laws();
+    index.put_row(key, row, steps)?;
+    Ok(())
+}
+
+/// Makes the key of each line a member.
+fn join_all<L: StepBook>(
+    index: &mut IIndex,
+    lines: &[MemberLine],
+    steps: &mut Steps<L>,
+) -> Result<(), NoMemory>
+    ensures at { OnOk result ((rows : Rows) (t : List Rows) → UidsApart rows → ⟦<IIndex as Tables<IdentityRows>>⟧.at index.old (rows ∷ t) → ⟦<IIndex as Tables<IdentityRows>>⟧.at index.new (fold joined rows lines.now ∷ t)) }
+    ensures marked { (s : List Rows) → ⟦<IIndex as Tables<IdentityRows>>⟧.marked index.old s → ⟦<IIndex as Tables<IdentityRows>>⟧.marked index.new s }
+    ensures waits { (o : List Rows) (i : ℕ) → ⟦<IIndex as Tables<IdentityRows>>⟧.waits index.old o i → ⟦<IIndex as Tables<IdentityRows>>⟧.waits index.new o i }
+    ensures ahead { ⟦<IIndex as Tables<IdentityRows>>⟧.ahead_costs index.new ≡ ⟦<IIndex as Tables<IdentityRows>>⟧.ahead_costs index.old }
+    ensures depth { length (⟦<IIndex as Tables<IdentityRows>>⟧.costs index.new) ≡ length (⟦<IIndex as Tables<IdentityRows>>⟧.costs index.old) }
+    ensures costs { OnOk result (AtMostMore (4 * length lines.now) (⟦<IIndex as Tables<IdentityRows>>⟧.costs index.old) (⟦<IIndex as Tables<IdentityRows>>⟧.costs index.new)) }
+    ensures steps { OnOk result (steps.new ≤ steps.old + 4 * length lines.now) }
+{
+    for line in lines {
+        set_member(index, line.key, true, steps)?;
+    }
+    Ok(())
+}
+
+/// Ends that each of the keys is a member.
+fn exclude_all<L: StepBook>(
+    index: &mut IIndex,
+    keys: &[Key],
+    steps: &mut Steps<L>,
+) -> Result<(), NoMemory>
+    ensures at { OnOk result ((rows : Rows) (t : List Rows) → UidsApart rows → ⟦<IIndex as Tables<IdentityRows>>⟧.at index.old (rows ∷ t) → ⟦<IIndex as Tables<IdentityRows>>⟧.at index.new (fold (with_member false) rows keys.now ∷ t)) }
+    ensures marked { (s : List Rows) → ⟦<IIndex as Tables<IdentityRows>>⟧.marked index.old s → ⟦<IIndex as Tables<IdentityRows>>⟧.marked index.new s }
+    ensures waits { (o : List Rows) (i : ℕ) → ⟦<IIndex as Tables<IdentityRows>>⟧.waits index.old o i → ⟦<IIndex as Tables<IdentityRows>>⟧.waits index.new o i }
+    ensures ahead { ⟦<IIndex as Tables<IdentityRows>>⟧.ahead_costs index.new ≡ ⟦<IIndex as Tables<IdentityRows>>⟧.ahead_costs index.old }
+    ensures depth { length (⟦<IIndex as Tables<IdentityRows>>⟧.costs index.new) ≡ length (⟦<IIndex as Tables<IdentityRows>>⟧.costs index.old) }
+    ensures costs { OnOk result (AtMostMore (4 * length keys.now) (⟦<IIndex as Tables<IdentityRows>>⟧.costs index.old) (⟦<IIndex as Tables<IdentityRows>>⟧.costs index.new)) }
+    ensures steps { OnOk result (steps.new ≤ steps.old + 4 * length keys.now) }
+{
+    for key in keys {
+        set_member(index, *key, false, steps)?;
+    }
+    Ok(())
+}
+
+/// Makes the key a member, or ends that, where it has an identity.
+fn set_member<L: StepBook>(
+    index: &mut IIndex,
+    key: Key,
+    member: bool,
+    steps: &mut Steps<L>,
+) -> Result<(), NoMemory>
+    ensures at { OnOk result ((rows : Rows) (t : List Rows) → UidsApart rows → ⟦<IIndex as Tables<IdentityRows>>⟧.at index.old (rows ∷ t) → ⟦<IIndex as Tables<IdentityRows>>⟧.at index.new (with_member member rows key ∷ t)) }
+    ensures marked { (s : List Rows) → ⟦<IIndex as Tables<IdentityRows>>⟧.marked index.old s → ⟦<IIndex as Tables<IdentityRows>>⟧.marked index.new s }
+    ensures waits { (o : List Rows) (i : ℕ) → ⟦<IIndex as Tables<IdentityRows>>⟧.waits index.old o i → ⟦<IIndex as Tables<IdentityRows>>⟧.waits index.new o i }
+    ensures ahead { ⟦<IIndex as Tables<IdentityRows>>⟧.ahead_costs index.new ≡ ⟦<IIndex as Tables<IdentityRows>>⟧.ahead_costs index.old }
+    ensures depth { length (⟦<IIndex as Tables<IdentityRows>>⟧.costs index.new) ≡ length (⟦<IIndex as Tables<IdentityRows>>⟧.costs index.old) }
+    ensures costs { OnOk result (AtMostMore 4 (⟦<IIndex as Tables<IdentityRows>>⟧.costs index.old) (⟦<IIndex as Tables<IdentityRows>>⟧.costs index.new)) }
+    ensures steps { OnOk result (steps.new ≤ steps.old + 4) }
+{
+    match index.row(key) {
+        Some(row) => {
+            put(index, key, IdentityRow { member, ..row }, steps)?;
+            Ok(())
+        }
+        None => Ok(()),
+    }
+}
