@@ -1,0 +1,12 @@
+pub mod Numbers
+pub mod Entries
+pub mod Small
+pub mod MemberLines
+pub mod CertLines
+pub mod Taken
+pub mod Joined
+pub mod Recorded
+pub mod EndedLines
+pub mod Appended
+pub mod Counted
+pub mod Fitting

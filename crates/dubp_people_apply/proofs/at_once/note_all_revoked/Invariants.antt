@@ -1,0 +1,13 @@
+use Rattle.std.proofs.Common.{◌≡◌, take, fold}
+use Rattle.std.specs.BTreeSet.{contains}
+use Rattle.dubp_atoms.specs.Same.{Text}
+use Rattle.dubp_chain.specs.Chains.{Chain}
+use Rattle.dubp_left.specs.Next.{IsWritten}
+use Rattle.dubp_steps.specs.Ordered.{text_cmp}
+use Rattle.dubp_steps.specs.Loops.{over_by_time_line}
+use Rattle.dubp_facts.specs.contracts.facts.FactsTablesBlock.TheImpl as facts
+use Rattle.dubp_people_apply.proofs.at_once.note_all_revoked.Given as goal
+
+abbrev pub invariant-loop-line : goal.invariant-loop-line
+invariant-loop-line l =
+    (c : Chain) → (facts.ghosts).at l.facts c → IsWritten c l.block l.next → (k : Text) → contains text_cmp l.set k ≡ fold (over_by_time_line c l.block k) (contains text_cmp l.initial.set k) (take l.line-index l.lines)

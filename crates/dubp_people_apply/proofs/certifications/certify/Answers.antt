@@ -1,0 +1,10 @@
+use Rattle.std.proofs.lemmas.Result.{on_ok_weaker}
+use Rattle.dubp_people_apply.proofs.CertLines.{certified}
+use Rattle.dubp_people_apply.proofs.certifications.certify.Goals as goal
+
+pub returns-clause-stands : goal.returns-clause-stands
+returns-clause-stands g c =
+    on_ok_weaker c.put_row.result
+    (λ put chain rows waiting facts written stands.
+    certified chain c.args.block.now c.args.line.now rows waiting c.args.next.now c.time_of_certification-made.result c.later.result c.row-before.result written (c.time_of_certification-made.ensures chain facts) c.later.ensures c.row-before.ensures
+    c.in_ok-replan.ensures.entries put stands) c.put_row.ensures.at

@@ -1,0 +1,30 @@
+use Rattle.std.proofs.Common.{◌≡◌, ℕ, ◌+◌, ◌*◌, ◌≤◌, List, length, take, fold}
+use Rattle.dubp_undo.specs.States.{AtMostMore}
+use Rattle.dubp_mindex.specs.Members.{Members}
+use Rattle.dubp_mindex.specs.contracts.member.MIndexTablesMemberRows.TheImpl as mindex
+use Rattle.dubp_expiry.specs.Entries.{Queued}
+use Rattle.dubp_expiry.specs.contracts.queue.QueueTablesEntries.TheImpl as queue_tables
+use Rattle.dubp_chain.specs.Chains.{Chain}
+use Rattle.dubp_block.specs.declared.block.Block.{Block}
+use Rattle.dubp_left.specs.Next.{IsWritten}
+use Rattle.dubp_steps.specs.AfterLines.{revoke_line, revoke_queue}
+use Rattle.dubp_people_apply.specs.Held.{Memberships, Waiting}
+use Rattle.dubp_people_apply.specs.Lines.{Stands}
+use Rattle.dubp_people_apply.proofs.memberships.revoke_all.Given as goal
+
+abbrev pub invariant-loop-line : goal.invariant-loop-line
+invariant-loop-line g l = record {
+  stands : (c : Chain) (b : Block) (rows : Memberships) (waiting : Waiting) → IsWritten c b l.next → Stands c b ((mindex.ghosts).at l.initial.memberships) ((queue_tables.ghosts).at l.initial.queue) rows waiting
+      → Stands c b ((mindex.ghosts).at l.memberships) ((queue_tables.ghosts).at l.queue) (λ k. fold (revoke_line k) (rows k) (take l.line-index l.lines)) (λ time due. fold (revoke_queue due) (waiting time due) (take l.line-index l.lines));
+  memberships_marked : (s : List Members) → (mindex.ghosts).marked l.initial.memberships s → (mindex.ghosts).marked l.memberships s;
+  memberships_waits : (o : List Members) (i : ℕ) → (mindex.ghosts).waits l.initial.memberships o i → (mindex.ghosts).waits l.memberships o i;
+  memberships_ahead : (mindex.ghosts).ahead_costs l.memberships ≡ (mindex.ghosts).ahead_costs l.initial.memberships;
+  memberships_depth : length ((mindex.ghosts).costs l.memberships) ≡ length ((mindex.ghosts).costs l.initial.memberships);
+  memberships_costs : AtMostMore (l.line-index) ((mindex.ghosts).costs l.initial.memberships) ((mindex.ghosts).costs l.memberships);
+  queue_marked : (s : List Queued) → (queue_tables.ghosts).marked l.initial.queue s → (queue_tables.ghosts).marked l.queue s;
+  queue_waits : (o : List Queued) (i : ℕ) → (queue_tables.ghosts).waits l.initial.queue o i → (queue_tables.ghosts).waits l.queue o i;
+  queue_ahead : (queue_tables.ghosts).ahead_costs l.queue ≡ (queue_tables.ghosts).ahead_costs l.initial.queue;
+  queue_depth : length ((queue_tables.ghosts).costs l.queue) ≡ length ((queue_tables.ghosts).costs l.initial.queue);
+  queue_costs : AtMostMore (l.line-index) ((queue_tables.ghosts).costs l.initial.queue) ((queue_tables.ghosts).costs l.queue);
+  steps : l.steps ≤ l.initial.steps + 2 * l.line-index;
+}

@@ -1,0 +1,9 @@
+use Rattle.std.proofs.Common.{◌≡◌, ◌++◌, map, take}
+use Rattle.dubp_chain.specs.Chains.{Chain}
+use Rattle.dubp_steps.specs.AfterLines.{certification_time}
+use Rattle.dubp_validity.specs.declared.record.Record.TheVariants.{Cert}
+use Rattle.dubp_facts.specs.contracts.facts.FactsTablesBlock.TheImpl as facts
+use Rattle.dubp_people_apply.proofs.records.put_certifications.Given as goal
+
+abbrev pub invariant-loop-line : goal.invariant-loop-line
+invariant-loop-line l = (c : Chain) → (facts.ghosts).at l.facts c → l.out.items ≡ l.initial.out.items ++ map (λ line. Cert line.from line.to (certification_time c l.block line)) (take l.line-index l.lines)

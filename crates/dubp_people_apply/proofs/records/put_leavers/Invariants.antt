@@ -1,0 +1,10 @@
+use Rattle.std.proofs.Common.{◌≡◌, ◌++◌, map, take}
+use Rattle.dubp_chain.specs.Chains.{Chain}
+use Rattle.dubp_validity.specs.Rules.{IsSound}
+use Rattle.dubp_validity.specs.Records.{membership_time}
+use Rattle.dubp_validity.specs.declared.record.Record.TheVariants.{Leave}
+use Rattle.dubp_facts.specs.contracts.facts.FactsTablesBlock.TheImpl as facts
+use Rattle.dubp_people_apply.proofs.records.put_leavers.Given as goal
+
+abbrev pub invariant-loop-line : goal.invariant-loop-line
+invariant-loop-line l = (c : Chain) → (facts.ghosts).at l.facts c → IsSound c → l.out.items ≡ l.initial.out.items ++ map (λ line. Leave line.key (membership_time c l.block line)) (take l.line-index l.lines)
