@@ -1,0 +1,3 @@
+pub mod Beside
+pub mod Last
+pub mod Rows

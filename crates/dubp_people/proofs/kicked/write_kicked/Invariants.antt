@@ -1,0 +1,29 @@
+use Rattle.std.proofs.Common.{◌≡◌, ◌≤◌, ◌+◌, List, ◌∷◌, length, take, fold}
+use Rattle.std.specs.Prelude.{is_some}
+use Rattle.std.specs.Cmp.Lexicographic.{slice_cmp}
+use Rattle.std.specs.Ordering.{nat_cmp}
+use Rattle.dubp_atoms.specs.Same.{Text}
+use Rattle.dubp_undo.specs.Definition.{IsMarked}
+use Rattle.dubp_undo.specs.MovingTable.{get}
+use Rattle.dubp_undo.specs.Numbers.{counts}
+use Rattle.dubp_undo.specs.States.{states, AtMostMore}
+use Rattle.dubp_chain.specs.Chains.{Chain}
+use Rattle.dubp_block.specs.declared.block.Block.{Block}
+use Rattle.dubp_iindex.specs.contracts.index.IIndexTablesIdentityRows.TheImpl as identities
+use Rattle.dubp_mindex.specs.contracts.member.MIndexTablesMemberRows.TheImpl as memberships
+use Rattle.dubp_cindex.specs.contracts.index.CIndexTablesCertRows.TheImpl as certifications
+use Rattle.dubp_steps.specs.Loops.{kicked_record}
+use Rattle.dubp_left.specs.Left.{identities_left, memberships_left, certifications_left, kicked_at}
+use Rattle.dubp_left.specs.Next.{IsWritten}
+use Rattle.dubp_people.proofs.kicked.write_kicked.Given as goal
+
+abbrev pub invariant-loop-record : goal.invariant-loop-record
+invariant-loop-record g l = record {
+  now : (c : Chain) (b : Block) → IsWritten c b l.next → (identities.ghosts).at l.identities (states identities_left (b ∷ c)) → (memberships.ghosts).at l.memberships (states memberships_left (b ∷ c)) → (certifications.ghosts).at l.certifications (states certifications_left (b ∷ c))
+      → (k : Text) → is_some (get (slice_cmp nat_cmp) l.kicked.now k) ≡ fold (kicked_record c b k) (is_some (get (slice_cmp nat_cmp) l.fn.kicked.now k)) (take l.record-index l.records);
+  marked : (c : Chain) → IsMarked (slice_cmp nat_cmp) kicked_at l.fn.kicked.past c → IsMarked (slice_cmp nat_cmp) kicked_at l.kicked.past c;
+  ahead : l.kicked.ahead ≡ l.fn.kicked.ahead;
+  root : l.kicked.root ≡ l.fn.kicked.root;
+  costs : AtMostMore l.record-index (counts l.fn.kicked.past) (counts l.kicked.past);
+  steps : l.steps ≤ l.fn.steps + l.record-index;
+}

@@ -1,0 +1,73 @@
+ghost use Rattle.std.specs.Prelude.{◌≡◌, ℕ, ◌+◌, ◌*◌, ◌≤◌, ◌∷◌, ◌++◌, List, length, OnOk, OnErr};
+ghost use Rattle.dubp_undo.specs.States.{AtMostMore};
+ghost use Rattle.dubp_chain.specs.Chains.{Chain};
+ghost use Rattle.dubp_steps.specs.Steps.{people_records};
+ghost use Rattle.dubp_people.specs.Applied.{IsApplied};
+
+use crate::next::{next_of, time_before};
+use crate::writing::{write_lines, write_others};
+use dubp_atoms::{NoMemory, Steps};
+use dubp_block::Block;
+use dubp_chain::Head;
+use dubp_registry::Registry;
+use dubp_undo::Tables;
+use dubp_validity::Record;
+use std::alloc::Global;
+use std::sync::ledger::Ledger as StepBook;
+
+/// Writes the block, whose head this is, behind the chain, and appends its records of people in the order of the protocol.
+///
+/// It adds at most eight steps for each of these records, and eight. What is marked stays so. `NoMemory` where there is no room: the
+/// records are as before then, and what was written until then stands in the tables until they go back to what was marked.
+pub fn apply<L: StepBook>(
+    alloc: Global,
+    people: &mut Registry,
+    block: &Block,
+    head: &Head,
+    out: &mut Vec<Record>,
+    steps: &mut Steps<L>,
+) -> Result<(), NoMemory>
+    ensures at { OnOk result ((c : Chain) → IsApplied c block.now head.now → ⟦<Registry as Tables<Block>>⟧.at people.old c → ⟦<Registry as Tables<Block>>⟧.at people.new (block.now ∷ c)) }
+    ensures records { OnOk result ((c : Chain) → IsApplied c block.now head.now → ⟦<Registry as Tables<Block>>⟧.at people.old c → out.new.items ≡ out.old.items ++ people_records c block.now) }
+    ensures marked { (c : Chain) → ⟦<Registry as Tables<Block>>⟧.marked people.old c → ⟦<Registry as Tables<Block>>⟧.marked people.new c }
+    ensures waits { (o : Chain) (i : ℕ) → ⟦<Registry as Tables<Block>>⟧.waits people.old o i → ⟦<Registry as Tables<Block>>⟧.waits people.new o i }
+    ensures ahead { ⟦<Registry as Tables<Block>>⟧.ahead_costs people.new ≡ ⟦<Registry as Tables<Block>>⟧.ahead_costs people.old }
+    ensures depth { length (⟦<Registry as Tables<Block>>⟧.costs people.new) ≡ length (⟦<Registry as Tables<Block>>⟧.costs people.old) }
+    ensures costs { OnOk result ((c : Chain) → IsApplied c block.now head.now → ⟦<Registry as Tables<Block>>⟧.at people.old c → AtMostMore (8 * length (people_records c block.now) + 8) (⟦<Registry as Tables<Block>>⟧.costs people.old) (⟦<Registry as Tables<Block>>⟧.costs people.new)) }
+    ensures steps { OnOk result ((c : Chain) → IsApplied c block.now head.now → ⟦<Registry as Tables<Block>>⟧.at people.old c → steps.new ≤ steps.old + (8 * length (people_records c block.now) + 8)) }
+    ensures refused { OnErr result (out.new.items ≡ out.old.items) }
+{
+    let next = next_of(people.facts(), block, head);
+    let since = time_before(people, block);
+    let mut records = Vec::new(alloc);
+    let tables = &mut people.tables;
+    write_lines(
+        alloc,
+        &mut tables.first,
+        &mut tables.second,
+        since,
+        block,
+        &next,
+        &mut records,
+        steps,
+    )?;
+    write_others(
+        &mut tables.second,
+        &tables.first,
+        block,
+        head,
+        &next,
+        records.as_slice(),
+        steps,
+    )?;
+    append(&mut records, out)?;
+    Ok(())
+}
+
+/// Moves the records behind those that are there.
+fn append(records: &mut Vec<Record>, out: &mut Vec<Record>) -> Result<(), NoMemory>
+    ensures appended { OnOk result (out.new.items ≡ out.old.items ++ records.old.items) }
+    ensures refused { OnErr result (out.new.items ≡ out.old.items) }
+{
+    out.append(records).map_err(|_| NoMemory)
+}

@@ -1,0 +1,167 @@
+ghost use Rattle.std.specs.Prelude.{◌≡◌, ℕ, ◌+◌, ◌≤◌, ◌∷◌, ◌++◌, List, length, OnOk};
+ghost use Rattle.std.specs.Cmp.Lexicographic.{slice_cmp};
+ghost use Rattle.std.specs.Ordering.{nat_cmp};
+ghost use Rattle.dubp_undo.specs.States.{states, AtMostMore};
+ghost use Rattle.dubp_chain.specs.Chains.{Chain};
+ghost use Rattle.dubp_steps.specs.Steps.{people_records};
+ghost use Rattle.dubp_left.specs.Left.{queue_left};
+ghost use Rattle.dubp_left.specs.Next.{IsWritten};
+ghost use Rattle.dubp_facts.specs.Facts.{IsNext};
+ghost use Rattle.dubp_people_identities.specs.Writing.{most_sets};
+ghost use Rattle.dubp_people_apply.specs.Counting.{membership_sets, certification_sets, queue_sets};
+ghost use Rattle.dubp_people_apply.specs.Taking.{IsSince};
+
+use crate::kicked::{KickedTable, write_kicked};
+use dubp_atoms::{NoMemory, Steps};
+use dubp_block::Block;
+use dubp_chain::Head;
+use dubp_expiry::{Entries, Queue};
+use dubp_facts::Facts;
+use dubp_left::Next;
+use dubp_people_apply::write_ends;
+use dubp_people_identities::write_identities;
+use dubp_registry::{Indexes, Others};
+use dubp_undo::Tables;
+use dubp_validity::Record;
+use std::alloc::Global;
+use std::sync::ledger::Ledger as StepBook;
+
+/// Writes the block into the three indexes and the queue, and appends its records of people.
+///
+/// `facts` are those of the chain below the block, and `since` is its time in seconds, where it has a block. What is marked stays so.
+fn write_indexes<L: StepBook>(
+    alloc: Global,
+    indexes: &mut Indexes,
+    queue: &mut Queue,
+    facts: &Facts,
+    since: Option<u64>,
+    block: &Block,
+    next: &Next,
+    out: &mut Vec<Record>,
+    steps: &mut Steps<L>,
+) -> Result<(), NoMemory>
+    ensures indexes { OnOk result ((c : Chain) → ⟦<Facts as Tables<Block>>⟧.at facts.now c → IsWritten c block.now next.now → IsSince c since → ⟦<Indexes as Tables<Block>>⟧.at indexes.old c → ⟦<Queue as Tables<Entries>>⟧.at queue.old (states queue_left c) → ⟦<Indexes as Tables<Block>>⟧.at indexes.new (block.now ∷ c)) }
+    ensures queue { OnOk result ((c : Chain) → ⟦<Facts as Tables<Block>>⟧.at facts.now c → IsWritten c block.now next.now → IsSince c since → ⟦<Indexes as Tables<Block>>⟧.at indexes.old c → ⟦<Queue as Tables<Entries>>⟧.at queue.old (states queue_left c) → ⟦<Queue as Tables<Entries>>⟧.at queue.new (states queue_left (block.now ∷ c))) }
+    ensures records { OnOk result ((c : Chain) → ⟦<Facts as Tables<Block>>⟧.at facts.now c → IsWritten c block.now next.now → IsSince c since → ⟦<Indexes as Tables<Block>>⟧.at indexes.old c → ⟦<Queue as Tables<Entries>>⟧.at queue.old (states queue_left c) → out.new.items ≡ out.old.items ++ people_records c block.now) }
+    ensures marked { (c : Chain) → ⟦<Indexes as Tables<Block>>⟧.marked indexes.old c → ⟦<Indexes as Tables<Block>>⟧.marked indexes.new c }
+    ensures waits { (o : Chain) (i : ℕ) → ⟦<Indexes as Tables<Block>>⟧.waits indexes.old o i → ⟦<Indexes as Tables<Block>>⟧.waits indexes.new o i }
+    ensures ahead { ⟦<Indexes as Tables<Block>>⟧.ahead_costs indexes.new ≡ ⟦<Indexes as Tables<Block>>⟧.ahead_costs indexes.old }
+    ensures depth { length (⟦<Indexes as Tables<Block>>⟧.costs indexes.new) ≡ length (⟦<Indexes as Tables<Block>>⟧.costs indexes.old) }
+    ensures queue_marked { (c : Chain) → ⟦<Queue as Tables<Entries>>⟧.marked queue.old (states queue_left c) → ⟦<Queue as Tables<Entries>>⟧.marked queue.new (states queue_left c) }
+    ensures queue_waits { (o : Chain) (i : ℕ) → ⟦<Queue as Tables<Entries>>⟧.waits queue.old (states queue_left o) i → ⟦<Queue as Tables<Entries>>⟧.waits queue.new (states queue_left o) i }
+    ensures queue_ahead { ⟦<Queue as Tables<Entries>>⟧.ahead_costs queue.new ≡ ⟦<Queue as Tables<Entries>>⟧.ahead_costs queue.old }
+    ensures queue_depth { length (⟦<Queue as Tables<Entries>>⟧.costs queue.new) ≡ length (⟦<Queue as Tables<Entries>>⟧.costs queue.old) }
+    ensures costs { OnOk result ((c : Chain) → ⟦<Facts as Tables<Block>>⟧.at facts.now c → IsWritten c block.now next.now → IsSince c since → ⟦<Indexes as Tables<Block>>⟧.at indexes.old c → ⟦<Queue as Tables<Entries>>⟧.at queue.old (states queue_left c) → AtMostMore (most_sets block.now + (membership_sets c block.now + certification_sets c block.now)) (⟦<Indexes as Tables<Block>>⟧.costs indexes.old) (⟦<Indexes as Tables<Block>>⟧.costs indexes.new)) }
+    ensures queue_costs { OnOk result ((c : Chain) → ⟦<Facts as Tables<Block>>⟧.at facts.now c → IsWritten c block.now next.now → IsSince c since → ⟦<Indexes as Tables<Block>>⟧.at indexes.old c → ⟦<Queue as Tables<Entries>>⟧.at queue.old (states queue_left c) → AtMostMore (queue_sets c block.now) (⟦<Queue as Tables<Entries>>⟧.costs queue.old) (⟦<Queue as Tables<Entries>>⟧.costs queue.new)) }
+    ensures steps { OnOk result ((c : Chain) → ⟦<Facts as Tables<Block>>⟧.at facts.now c → IsWritten c block.now next.now → IsSince c since → ⟦<Indexes as Tables<Block>>⟧.at indexes.old c → ⟦<Queue as Tables<Entries>>⟧.at queue.old (states queue_left c) → steps.new ≤ steps.old + (most_sets block.now + (membership_sets c block.now + certification_sets c block.now + queue_sets c block.now))) }
+{
+    write_identities(&mut indexes.tables.first.tables, block, steps)?;
+    write_ends(
+        alloc,
+        &mut indexes.tables.second.tables,
+        &mut indexes.tables.third.tables,
+        queue,
+        facts,
+        since,
+        block,
+        next,
+        out,
+        steps,
+    )?;
+    Ok(())
+}
+
+/// Notes who has to be excluded, and writes the block into the facts.
+///
+/// The indexes and the queue are those of the chain with the block already, and the records those that it made of people.
+pub(crate) fn write_others<L: StepBook>(
+    others: &mut Others,
+    indexes: &Indexes,
+    block: &Block,
+    head: &Head,
+    next: &Next,
+    records: &[Record],
+    steps: &mut Steps<L>,
+) -> Result<(), NoMemory>
+    ensures at { OnOk result ((c : Chain) → IsWritten c block.now next.now → IsNext c block.now head.now → records.now ≡ people_records c block.now → ⟦<Indexes as Tables<Block>>⟧.at indexes.now (block.now ∷ c) → ⟦<Queue as Tables<Entries>>⟧.at others.old.tables.first.tables (states queue_left (block.now ∷ c)) → ⟦<KickedTable as Tables<Block>>⟧.at others.old.tables.second c → ⟦<Facts as Tables<Block>>⟧.at others.old.tables.third c → ⟦<Others as Tables<Block>>⟧.at others.new (block.now ∷ c)) }
+    ensures marked { (c : Chain) → ⟦<Others as Tables<Block>>⟧.marked others.old c → ⟦<Others as Tables<Block>>⟧.marked others.new c }
+    ensures waits { (o : Chain) (i : ℕ) → ⟦<Others as Tables<Block>>⟧.waits others.old o i → ⟦<Others as Tables<Block>>⟧.waits others.new o i }
+    ensures ahead { ⟦<Others as Tables<Block>>⟧.ahead_costs others.new ≡ ⟦<Others as Tables<Block>>⟧.ahead_costs others.old }
+    ensures depth { length (⟦<Others as Tables<Block>>⟧.costs others.new) ≡ length (⟦<Others as Tables<Block>>⟧.costs others.old) }
+    ensures costs { OnOk result (AtMostMore (length records.now + 2) (⟦<Others as Tables<Block>>⟧.costs others.old) (⟦<Others as Tables<Block>>⟧.costs others.new)) }
+    ensures steps { OnOk result (steps.new ≤ steps.old + (length records.now + 2)) }
+{
+    write_kicked(
+        &mut others.tables.second,
+        &indexes.tables.first.tables,
+        &indexes.tables.second.tables,
+        &indexes.tables.third.tables,
+        next,
+        records,
+        steps,
+    )?;
+    write_facts(&mut others.tables.third, block, head, steps)?;
+    Ok(())
+}
+
+/// Writes the block into the facts.
+fn write_facts<L: StepBook>(
+    facts: &mut Facts,
+    block: &Block,
+    head: &Head,
+    steps: &mut Steps<L>,
+) -> Result<(), NoMemory>
+    ensures at { OnOk result ((c : Chain) → ⟦<Facts as Tables<Block>>⟧.at facts.old c → IsNext c block.now head.now → ⟦<Facts as Tables<Block>>⟧.at facts.new (block.now ∷ c)) }
+    ensures marked { (c : Chain) → ⟦<Facts as Tables<Block>>⟧.marked facts.old c → ⟦<Facts as Tables<Block>>⟧.marked facts.new c }
+    ensures waits { (o : Chain) (i : ℕ) → ⟦<Facts as Tables<Block>>⟧.waits facts.old o i → ⟦<Facts as Tables<Block>>⟧.waits facts.new o i }
+    ensures ahead { ⟦<Facts as Tables<Block>>⟧.ahead_costs facts.new ≡ ⟦<Facts as Tables<Block>>⟧.ahead_costs facts.old }
+    ensures depth { length (⟦<Facts as Tables<Block>>⟧.costs facts.new) ≡ length (⟦<Facts as Tables<Block>>⟧.costs facts.old) }
+    ensures costs { OnOk result (AtMostMore 2 (⟦<Facts as Tables<Block>>⟧.costs facts.old) (⟦<Facts as Tables<Block>>⟧.costs facts.new)) }
+    ensures steps { OnOk result (steps.new ≤ steps.old + 2) }
+{
+    facts.laws();
+    facts.write(block, head, steps)?;
+    Ok(())
+}
+
+/// The same with the queue and the facts in their place beside the keys that have to be excluded.
+pub(crate) fn write_lines<L: StepBook>(
+    alloc: Global,
+    indexes: &mut Indexes,
+    others: &mut Others,
+    since: Option<u64>,
+    block: &Block,
+    next: &Next,
+    out: &mut Vec<Record>,
+    steps: &mut Steps<L>,
+) -> Result<(), NoMemory>
+    ensures indexes { OnOk result ((c : Chain) → IsWritten c block.now next.now → IsSince c since → ⟦<Indexes as Tables<Block>>⟧.at indexes.old c → ⟦<Others as Tables<Block>>⟧.at others.old c → ⟦<Indexes as Tables<Block>>⟧.at indexes.new (block.now ∷ c)) }
+    ensures queue { OnOk result ((c : Chain) → IsWritten c block.now next.now → IsSince c since → ⟦<Indexes as Tables<Block>>⟧.at indexes.old c → ⟦<Others as Tables<Block>>⟧.at others.old c → ⟦<Queue as Tables<Entries>>⟧.at others.new.tables.first.tables (states queue_left (block.now ∷ c))) }
+    ensures kicked { others.new.tables.second ≡ others.old.tables.second }
+    ensures facts { others.new.tables.third ≡ others.old.tables.third }
+    ensures records { OnOk result ((c : Chain) → IsWritten c block.now next.now → IsSince c since → ⟦<Indexes as Tables<Block>>⟧.at indexes.old c → ⟦<Others as Tables<Block>>⟧.at others.old c → out.new.items ≡ out.old.items ++ people_records c block.now) }
+    ensures marked { (c : Chain) → ⟦<Indexes as Tables<Block>>⟧.marked indexes.old c → ⟦<Indexes as Tables<Block>>⟧.marked indexes.new c }
+    ensures waits { (o : Chain) (i : ℕ) → ⟦<Indexes as Tables<Block>>⟧.waits indexes.old o i → ⟦<Indexes as Tables<Block>>⟧.waits indexes.new o i }
+    ensures ahead { ⟦<Indexes as Tables<Block>>⟧.ahead_costs indexes.new ≡ ⟦<Indexes as Tables<Block>>⟧.ahead_costs indexes.old }
+    ensures depth { length (⟦<Indexes as Tables<Block>>⟧.costs indexes.new) ≡ length (⟦<Indexes as Tables<Block>>⟧.costs indexes.old) }
+    ensures others_marked { (c : Chain) → ⟦<Others as Tables<Block>>⟧.marked others.old c → ⟦<Others as Tables<Block>>⟧.marked others.new c }
+    ensures others_waits { (o : Chain) (i : ℕ) → ⟦<Others as Tables<Block>>⟧.waits others.old o i → ⟦<Others as Tables<Block>>⟧.waits others.new o i }
+    ensures others_ahead { ⟦<Others as Tables<Block>>⟧.ahead_costs others.new ≡ ⟦<Others as Tables<Block>>⟧.ahead_costs others.old }
+    ensures others_depth { length (⟦<Others as Tables<Block>>⟧.costs others.new) ≡ length (⟦<Others as Tables<Block>>⟧.costs others.old) }
+    ensures costs { OnOk result ((c : Chain) → IsWritten c block.now next.now → IsSince c since → ⟦<Indexes as Tables<Block>>⟧.at indexes.old c → ⟦<Others as Tables<Block>>⟧.at others.old c → AtMostMore (most_sets block.now + (membership_sets c block.now + certification_sets c block.now)) (⟦<Indexes as Tables<Block>>⟧.costs indexes.old) (⟦<Indexes as Tables<Block>>⟧.costs indexes.new)) }
+    ensures others_costs { OnOk result ((c : Chain) → IsWritten c block.now next.now → IsSince c since → ⟦<Indexes as Tables<Block>>⟧.at indexes.old c → ⟦<Others as Tables<Block>>⟧.at others.old c → AtMostMore (queue_sets c block.now) (⟦<Others as Tables<Block>>⟧.costs others.old) (⟦<Others as Tables<Block>>⟧.costs others.new)) }
+    ensures steps { OnOk result ((c : Chain) → IsWritten c block.now next.now → IsSince c since → ⟦<Indexes as Tables<Block>>⟧.at indexes.old c → ⟦<Others as Tables<Block>>⟧.at others.old c → steps.new ≤ steps.old + (most_sets block.now + (membership_sets c block.now + certification_sets c block.now + queue_sets c block.now))) }
+{
+    write_indexes(
+        alloc,
+        indexes,
+        &mut others.tables.first.tables,
+        &others.tables.third,
+        since,
+        block,
+        next,
+        out,
+        steps,
+    )?;
+    Ok(())
+}
