@@ -1,0 +1,35 @@
+use Rattle.std.proofs.Common.{◌≡◌, ◌++◌, true, ◌∷◌, [], length, ap, sym, ◌∙◌, subst}
+use Rattle.std.specs.List.{list_any}
+use Rattle.dubp_atoms.specs.Same.{same_text}
+use Rattle.dubp_cond.specs.Conditions.{cond_text}
+use Rattle.dubp_sindex.specs.Accounts.{accounts}
+use Rattle.dubp_sindex.specs.Rows.{IsNewRow}
+use Rattle.dubp_sindex.specs.contracts.sindex.SIndexTablesSourceRows.TheImpl as tables
+use Rattle.dubp_money_steps.specs.Left.{account_in}
+use Rattle.dubp_money.specs.Index.{HasRows}
+use Rattle.dubp_money.proofs.Kept.{depth_after}
+use Rattle.dubp_money.proofs.Made.{account_found, has_text}
+use Rattle.dubp_money.proofs.making.make_source.Goals as goal
+
+pub returns-clause-at : goal.returns-clause-at
+returns-clause-at g c = λ rows are has new.
+    let text = cond_text c.args.cond.now in
+    let same : account_in (accounts c.make.new.self) text ≡ c.in_ok-account.account = ap (λ l. account_in l text) c.in_ok-make.ensures.accounts ∙ account_found (accounts c.account.new.self) text c.in_ok-account.account c.in_ok-account.ensures.number in
+    let there = subst (λ k. IsNewRow rows (c.args.source.id, record { amount = c.args.source.amount; base = c.args.source.base; account = k; made_at = c.args.source.made_at; order = c.args.source.order })) same new in
+    subst (λ k. HasRows c.make.new.self (rows ++ (c.args.source.id, record { amount = c.args.source.amount; base = c.args.source.base; account = k; made_at = c.args.source.made_at; order = c.args.source.order }) ∷ [])) (sym same)
+    (c.in_ok-make.ensures.at (rows ∷ []) [] (c.in_ok-account.ensures.at (rows ∷ []) has) are there)
+
+pub returns-clause-has : goal.returns-clause-has
+returns-clause-has g c =
+    let text = cond_text c.args.cond.now in
+    subst (λ l. list_any (same_text text) l ≡ true) (sym (c.in_ok-make.ensures.accounts ∙ c.in_ok-account.ensures.accounts)) (has_text (accounts c.args.index.now) text)
+
+pub returns-clause-keeps : goal.returns-clause-keeps
+returns-clause-keeps g c = record {
+  marked = λ s h. c.make.ensures.marked s (c.account.ensures.marked s h);
+  waits = λ o n h. c.make.ensures.waits o n (c.account.ensures.waits o n h);
+  ahead = c.make.ensures.ahead ∙ c.account.ensures.ahead;
+  depth =
+      depth_after 5 ((tables.ghosts).costs c.account.new.self) ((tables.ghosts).costs c.make.new.self) c.make.result c.make.ensures.costs c.make.ensures.refused (c.laws.ensures.same_costs c.make.new.self)
+      ∙ ap length c.account.ensures.costs;
+}

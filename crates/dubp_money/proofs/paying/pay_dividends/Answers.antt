@@ -1,0 +1,62 @@
+use Rattle.std.proofs.Common.{◌≡◌, ℕ, ◌+◌, ◌*◌, ◌++◌, true, ◌∷◌, [], sym, subst, arith}
+use Rattle.std.specs.List.{list_any}
+use Rattle.dubp_atoms.specs.Same.{same_text}
+use Rattle.dubp_cond.specs.Conditions.{cond_text}
+use Rattle.dubp_cond.specs.Tree.{CondTree}
+use Rattle.dubp_cond.specs.declared.source.SourceId.TheVariants.{D}
+use Rattle.dubp_chain.specs.Money.{dividend_source}
+use Rattle.dubp_sindex.specs.Accounts.{accounts}
+use Rattle.dubp_sindex.specs.Rows.{Entry, IsNewRow}
+use Rattle.dubp_money_steps.specs.Left.{account_in, entry_of}
+use Rattle.dubp_money.specs.Index.{HasRows}
+use Rattle.dubp_money.specs.Making.{dividends_to}
+use Rattle.dubp_money.proofs.Standing.{grows_none, grows_on}
+use Rattle.dubp_money.proofs.Kept.{keeps_none, keeps_on, sets_none, sets_on}
+use Rattle.dubp_money.proofs.Made.{IsNext, made_next, has_next, nothing_made, dividend_next}
+use Rattle.dubp_money.proofs.paying.pay_dividends.Goals as goal
+
+pub loop-key-init : goal.loop-key-init
+loop-key-init g c = record {
+  at = λ rows are can has. subst (HasRows c.args.index.now) (sym (nothing_made (accounts c.args.index.now) rows c.args.order (dividends_to c.args.payment c.args.members.now))) has;
+  has = tt;
+  texts = grows_none (accounts c.args.index.now);
+  place = omega arith;
+  sets = sets_none c.args.index.now;
+  steps = omega arith;
+  keeps = keeps_none c.args.index.now;
+}
+
+pub returns-in_err-make_source-clause-keeps : goal.returns-in_err-make_source-clause-keeps
+returns-in_err-make_source-clause-keeps g c = keeps_on c.args.index.now c.loop-key.index c.make_source.new.index c.loop-key.invariant.keeps c.in_err-make_source.ensures.keeps
+
+pub loop-key-preserved : goal.loop-key-preserved
+loop-key-preserved g c =
+    let p = c.args.payment in
+    let n = c.args.order in
+    let i = c.loop-key.key-index in
+    let k = c.key-item.result in
+    let s = dividend_source p.time p.number p.amount p.base k in
+    let made = dividends_to p c.args.members.now in
+    let texts = accounts c.loop-key.index in
+    let texts' = accounts c.make_source.new.index in
+    let next : IsNext made i s = dividend_next p c.args.members.now i k (omega arith) c.key-item.is in
+    let place = c.loop-key.invariant.place in
+    let is = c.in_ok-cond.ensures.is in
+    record {
+      at = λ rows are can has.
+          made_next (HasRows c.loop-key.index) (HasRows c.make_source.new.index) texts texts' c.in_ok-make_source.ensures.texts rows n made i s next are can
+          c.loop-key.invariant.has (c.loop-key.invariant.at rows are can has)
+          (λ xs rows_are there new.
+          let E : ℕ → CondTree → Entry = λ j cond. entry_of (account_in texts') (n + j, record { id = D k p.number; amount = p.amount; base = p.base; cond = cond; time = p.time }) in
+          let same : E c.loop-key.place c.in_ok-cond.cond ≡ E i s.cond = λ j. E (place j) (is j) in
+          subst (λ e. HasRows c.make_source.new.index (xs ++ e ∷ [])) same
+          (c.in_ok-make_source.ensures.at xs rows_are there (subst (IsNewRow xs) (sym same) new)));
+      has =
+          has_next texts texts' c.in_ok-make_source.ensures.texts made i s next c.loop-key.invariant.has
+          (subst (λ cond. list_any (same_text (cond_text cond)) texts' ≡ true) is c.in_ok-make_source.ensures.has);
+      texts = grows_on (accounts c.args.index.now) texts texts' c.loop-key.invariant.texts c.in_ok-make_source.ensures.texts;
+      place = omega (arith, place);
+      sets = sets_on (5 * i) 5 (5 * (i + 1)) c.args.index.now c.loop-key.index c.make_source.new.index (omega arith) c.loop-key.invariant.sets c.in_ok-make_source.ensures.sets;
+      steps = omega (arith, c.in_ok-make_source.ensures.steps, c.loop-key.invariant.steps);
+      keeps = keeps_on c.args.index.now c.loop-key.index c.make_source.new.index c.loop-key.invariant.keeps c.in_ok-make_source.ensures.keeps;
+    }

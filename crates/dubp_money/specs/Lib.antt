@@ -1,0 +1,7 @@
+pub mod Index
+pub mod Texts
+pub mod Writing
+pub mod Making
+pub mod Transactions
+pub mod Blocks
+pub mod Tables

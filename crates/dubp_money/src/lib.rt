@@ -1,0 +1,33 @@
+//! Money: the unspent sources of a chain, the hashes of its transactions and its totals, and what a block does to sources.
+//!
+//! `Sources` stands for the chain itself, over the index of `dubp_sindex`: the rows that each block leaves, with the accounts as
+//! the index numbers them. While a block is written, contracts see the index by the rows that it has (`specs/Index`). First
+//! transactions spend and make, one after the other, and dividends are made behind them (`spend_and_make`); then the accounts
+//! that have too little are cleared (`clear_block`), and the index stands for the chain with the block. Every call that is
+//! refused keeps what is marked, so that `back` undoes all of it. `Money` holds the sources with the tables that stand beside
+//! them. The chapters on money and records in `docs/protocol` say the same in words.
+//!
+//! ```text
+//! sources.mark()?;
+//! spend_and_make(&mut sources.index, alloc, &block, time, payment, &members, made, &mut out, &mut steps)?;
+//! let cleared = clear_block(&mut sources.index, alloc, limit, &accounts, &mut out, &mut steps)?;
+//! ```
+#![tactic(auto)]
+
+mod blocks;
+mod clearing;
+mod making;
+mod money;
+mod paying;
+mod sources;
+mod spending;
+mod transactions;
+
+pub use blocks::{clear_block, pay, spend_and_make};
+pub use clearing::{clear_accounts, put_clears};
+pub use making::{NewSource, make_outputs, put_makes};
+pub use money::{Money, Totals, TotalsOf, TransactionsOf};
+pub use paying::{Payment, pay_dividends, put_dividends};
+pub use sources::Sources;
+pub use spending::{put_spends, spend_inputs};
+pub use transactions::{write_transaction, write_transactions};

@@ -1,0 +1,146 @@
+ghost use Rattle.std.specs.Prelude.{◌≡◌, ◌+◌, ◌*◌, ◌^◌, ◌≤◌, ◌++◌, List, ◌∷◌, [], IsTrue, length, map, ℕ, OnOk, IfOk};
+ghost use Rattle.std.specs.List.{list_any};
+ghost use Rattle.dubp_atoms.specs.Same.{same_text};
+ghost use Rattle.dubp_cond.specs.Conditions.{cond_text};
+ghost use Rattle.dubp_cond.specs.Transactions.{IsTx};
+ghost use Rattle.dubp_chain.specs.Money.{Source};
+ghost use Rattle.dubp_validity.specs.declared.record.Record.TheVariants.{Make};
+ghost use Rattle.dubp_validity.specs.Records.{make_record};
+ghost use Rattle.dubp_sindex.specs.Accounts.{accounts};
+ghost use Rattle.dubp_sindex.specs.Rows.{Entry, AreRows, IsNewRow};
+ghost use Rattle.dubp_money_steps.specs.Left.{account_in, entry_of, HasTexts};
+ghost use Rattle.dubp_money.specs.Index.{HasRows, Keeps, Sets};
+ghost use Rattle.dubp_money.specs.Texts.{Grows};
+ghost use Rattle.dubp_money.specs.Making.{outputs_at, CanFollow, with_made, source_of};
+
+use arrayvec::ArrayVec;
+use dubp_atoms::{Hash, Items, Line, NoMemory, Steps};
+use dubp_cond::{Cond, Input, Output, SourceId, Tx, put_cond};
+use dubp_sindex::{SIndex, SourceRow};
+use dubp_undo::Tables;
+use dubp_validity::Record;
+use std::alloc::Global;
+use std::sync::ledger::Ledger as StepBook;
+
+/// A source that is made, without its condition: when, in seconds, and its place in the order of making.
+#[derive(Clone, Copy, Debug, PartialEq, Eq)]
+pub struct NewSource {
+    pub id: SourceId,
+    pub amount: u64,
+    pub base: u8,
+    pub made_at: u64,
+    pub order: u64,
+}
+
+// The source is unspent, behind all others, and its condition has a number.
+pub(crate) fn make_source<L: StepBook>(
+    index: &mut SIndex,
+    source: NewSource,
+    cond: &Cond,
+    steps: &mut Steps<L>,
+) -> Result<(), NoMemory>
+    requires { length (cond_text cond.now) ≤ 1000 }
+    ensures at { OnOk result ((rows : List Entry) → AreRows rows → HasRows index.old rows → IsNewRow rows (entry_of (account_in (accounts index.new)) (source.order, source_of source cond.now)) → HasRows index.new (rows ++ entry_of (account_in (accounts index.new)) (source.order, source_of source cond.now) ∷ [])) }
+    ensures has { OnOk result (IsTrue (list_any (same_text (cond_text cond.now)) (accounts index.new))) }
+    ensures texts { Grows (accounts index.old) (accounts index.new) }
+    ensures sets { OnOk result (Sets 5 index.old index.new) }
+    ensures steps { OnOk result (steps.new ≤ steps.old + 5) }
+    ensures keeps { Keeps index.old index.new }
+{
+    let account = index.account(cond)?;
+    let row = SourceRow {
+        amount: source.amount,
+        base: source.base,
+        account,
+        made_at: source.made_at,
+        order: source.order,
+    };
+    index.laws();
+    index.make(source.id, row, steps)?;
+    Ok(())
+}
+
+/// The outputs of the transaction of this hash are unspent sources, from this place on in the order of making, made at this
+/// time in seconds. Each of their conditions has a number. At most five sets an output.
+///
+/// On `NoMemory` some of them may be made; what is marked stays so.
+pub fn make_outputs<L: StepBook>(
+    index: &mut SIndex,
+    tx: &Tx,
+    hash: &Hash,
+    time: u64,
+    order: u64,
+    steps: &mut Steps<L>,
+) -> Result<(), NoMemory>
+    requires tx { IsTx tx.now }
+    requires few { order + length tx.now.outputs ≤ 2 ^ 53 }
+    ensures at { OnOk result ((rows : List Entry) → AreRows rows → CanFollow rows order (outputs_at time hash.now tx.now) → HasRows index.old rows → HasRows index.new (with_made (accounts index.new) rows order (outputs_at time hash.now tx.now))) }
+    ensures has { OnOk result (HasTexts (accounts index.new) (outputs_at time hash.now tx.now)) }
+    ensures texts { Grows (accounts index.old) (accounts index.new) }
+    ensures sets { OnOk result (Sets (5 * length tx.now.outputs) index.old index.new) }
+    ensures steps { OnOk result (steps.new ≤ steps.old + 5 * length tx.now.outputs) }
+    ensures keeps { Keeps index.old index.new }
+{
+    let mut place = 0;
+    for output in tx.outputs.as_slice() {
+        let source = NewSource {
+            id: SourceId::T {
+                tx: *hash,
+                index: place,
+            },
+            amount: output.amount,
+            base: output.base,
+            made_at: time,
+            order: order + place,
+        };
+        make_source(index, source, &output.cond, steps)?;
+        place += 1;
+    }
+    Ok(())
+}
+
+// The text of the condition, in memory of its own length.
+fn text_of(alloc: Global, cond: &Cond) -> Result<Items<u8>, NoMemory>
+    requires { length (cond_text cond.now) ≤ 1000 }
+    ensures { IfOk result (λ text. text ≡ cond_text cond.now) }
+{
+    let mut line: Line = ArrayVec::new();
+    put_cond(cond, &mut line);
+    let text: Vec<u8> = Vec::from_slice(alloc, line.as_slice()).map_err(|_| NoMemory)?;
+    Ok(Items::from_vec(text))
+}
+
+fn put_make(
+    alloc: Global,
+    output: &Output,
+    source: SourceId,
+    out: &mut Vec<Record>,
+) -> Result<(), NoMemory>
+    requires { length (cond_text output.now.cond) ≤ 1000 }
+    ensures { OnOk result (out.new.items ≡ out.old.items ++ Make (record { amount = output.now.amount; base = output.now.base; source = source }) (cond_text output.now.cond) ∷ []) }
+{
+    let cond = text_of(alloc, &output.cond)?;
+    let input = Input {
+        amount: output.amount,
+        base: output.base,
+        source,
+    };
+    out.push(Record::Make { input, cond }).map_err(|_| NoMemory)
+}
+
+/// Appends a record for each output of the transaction of this hash.
+pub fn put_makes(alloc: Global, tx: &Tx, hash: &Hash, out: &mut Vec<Record>) -> Result<(), NoMemory>
+    requires { IsTx tx.now }
+    ensures { OnOk result ((time : ℕ) → out.new.items ≡ out.old.items ++ map make_record (outputs_at time hash.now tx.now)) }
+{
+    let mut place = 0;
+    for output in tx.outputs.as_slice() {
+        let source = SourceId::T {
+            tx: *hash,
+            index: place,
+        };
+        put_make(alloc, output, source, out)?;
+        place += 1;
+    }
+    Ok(())
+}

@@ -1,0 +1,171 @@
+ghost use Rattle.std.specs.Prelude.{◌≡◌, ℕ, ◌+◌, ◌≤◌, List, [], option_map};
+ghost use Rattle.dubp_block.specs.declared.block.Block.{Block as BlockValue};
+ghost use Rattle.dubp_chain.specs.Chains.{Chain};
+ghost use Rattle.dubp_chain.specs.Tables.{has_transaction, totals};
+ghost use Rattle.dubp_money.specs.Tables.{transaction_at, totals_at, totals_entry};
+
+use crate::sources::Sources;
+use dubp_atoms::{Hash, NoMemory, Steps};
+use dubp_block::Block;
+use dubp_facts::Facts;
+use dubp_undo::{Both, Definition, Leaf, Tables, Three};
+use std::alloc::Global;
+use std::sync::ledger::Ledger as StepBook;
+
+/// The units that a chain issued, those that are unspent and those that were cleared, and how many sources it made.
+#[derive(Clone, Copy, Debug, PartialEq, Eq)]
+pub struct Totals {
+    pub issued: u128,
+    pub unspent: u128,
+    pub cleared: u128,
+    pub made: u64,
+}
+
+/// The hashes of the transactions of each chain.
+pub struct TransactionsOf;
+
+impl Definition<Block, Hash, ()> for TransactionsOf {
+    ghost at = { transaction_at };
+}
+
+/// The totals of each chain.
+pub struct TotalsOf;
+
+impl Definition<Block, (), Totals> for TotalsOf {
+    ghost at = { totals_at };
+}
+
+type HashesAndTotals = Both<
+    Block,
+    Leaf<Block, Hash, (), TransactionsOf>,
+    Leaf<Block, (), Totals, TotalsOf>,
+>;
+
+type MoneyTables = Three<Block, Sources, HashesAndTotals, Facts>;
+
+/// The money of a chain: its unspent sources, the hashes of its transactions and its totals, and its facts.
+#[derive(Drop)]
+pub struct Money {
+    tables: MoneyTables,
+}
+
+impl Tables<Block> for Money {
+    ghost costs = { λ t. ⟦<MoneyTables as Tables<Block>>⟧.costs t.tables };
+
+    ghost ahead_costs = { λ t. ⟦<MoneyTables as Tables<Block>>⟧.ahead_costs t.tables };
+
+    ghost at = { λ t c. ⟦<MoneyTables as Tables<Block>>⟧.at t.tables c };
+
+    ghost stands = { λ t c. ⟦<MoneyTables as Tables<Block>>⟧.stands t.tables c };
+
+    ghost marked = { λ t c. ⟦<MoneyTables as Tables<Block>>⟧.marked t.tables c };
+
+    ghost waits = { λ t o i. ⟦<MoneyTables as Tables<Block>>⟧.waits t.tables o i };
+
+    ghost same = { λ t u. ⟦<MoneyTables as Tables<Block>>⟧.same t.tables u.tables };
+
+    ghost marks = { λ t u. ⟦<MoneyTables as Tables<Block>>⟧.marks t.tables u.tables };
+
+    ghost keeps = { λ t u. ⟦<MoneyTables as Tables<Block>>⟧.keeps t.tables u.tables };
+
+    ghost spare = { λ t. ⟦<MoneyTables as Tables<Block>>⟧.spare t.tables };
+
+    ghost room = { λ t. ⟦<MoneyTables as Tables<Block>>⟧.room t.tables };
+
+    fn depth(&self) -> usize {
+        self.tables.depth()
+    }
+
+    fn laws(&self) {
+        self.tables.laws();
+    }
+
+    fn mark(&mut self) -> Result<(), NoMemory> {
+        self.tables.mark()?;
+        Ok(())
+    }
+
+    fn unmark(&mut self) {
+        self.tables.unmark();
+    }
+
+    fn reserve(&mut self, k: usize) -> Result<(), NoMemory> {
+        self.tables.reserve(k)?;
+        Ok(())
+    }
+
+    fn hold<L: StepBook>(&mut self, steps: &mut Steps<L>) {
+        self.tables.hold(steps);
+    }
+
+    fn back<L: StepBook>(&mut self, steps: &mut Steps<L>) {
+        self.tables.back(steps);
+    }
+
+    fn again<L: StepBook>(&mut self, steps: &mut Steps<L>) {
+        self.tables.again(steps);
+    }
+
+    fn drop_oldest(&mut self) {
+        self.tables.drop_oldest();
+    }
+
+    fn drop_ahead(&mut self) {
+        self.tables.drop_ahead();
+    }
+}
+
+// The tables beside the sources, in which nothing stands.
+fn no_tables(alloc: Global) -> HashesAndTotals
+    ensures stands { ⟦<HashesAndTotals as Tables<Block>>⟧.stands result [] }
+    ensures costs { ⟦<HashesAndTotals as Tables<Block>>⟧.costs result ≡ [] }
+    ensures ahead { ⟦<HashesAndTotals as Tables<Block>>⟧.ahead_costs result ≡ [] }
+    ensures waits { (o : List BlockValue) → ⟦<HashesAndTotals as Tables<Block>>⟧.waits result o 0 }
+{
+    Both::new(Leaf::new(alloc), Leaf::new(alloc))
+}
+
+impl Money {
+    /// That of the empty chain. It takes no memory.
+    pub fn new(alloc: Global) -> Money
+        ensures stands { ⟦<Money as Tables<Block>>⟧.stands result [] }
+        ensures costs { ⟦<Money as Tables<Block>>⟧.costs result ≡ [] }
+        ensures ahead { ⟦<Money as Tables<Block>>⟧.ahead_costs result ≡ [] }
+        ensures waits { (o : List BlockValue) → ⟦<Money as Tables<Block>>⟧.waits result o 0 }
+    {
+        Money {
+            tables: Three::new(Sources::new(alloc), no_tables(alloc), Facts::new(alloc)),
+        }
+    }
+
+    /// Whether the chain has a transaction of this hash. It takes no memory.
+    pub fn has_transaction(&self, hash: Hash) -> bool
+        ensures { (c : Chain) → ⟦<Money as Tables<Block>>⟧.at self.now c → result ≡ has_transaction c hash }
+    {
+        match self.tables.second.first.get(hash) {
+            Some(()) => true,
+            None => false,
+        }
+    }
+
+    /// The totals, or None where the chain is empty. It takes no memory.
+    pub fn totals(&self) -> Option<Totals>
+        ensures { (c : Chain) → ⟦<Money as Tables<Block>>⟧.at self.now c → result ≡ option_map totals_entry (totals c) }
+    {
+        self.tables.second.second.get(())
+    }
+
+    /// The unspent sources.
+    pub fn sources(&self) -> &Sources
+        ensures { (c : Chain) → ⟦<Money as Tables<Block>>⟧.at self.now c → ⟦<Sources as Tables<Block>>⟧.at result.now c }
+    {
+        &self.tables.first
+    }
+
+    /// The parameters, the currency and the times of the blocks.
+    pub fn facts(&self) -> &Facts
+        ensures { (c : Chain) → ⟦<Money as Tables<Block>>⟧.at self.now c → ⟦<Facts as Tables<Block>>⟧.at result.now c }
+    {
+        &self.tables.third
+    }
+}

@@ -1,0 +1,116 @@
+ghost use Rattle.std.specs.Prelude.{◌≡◌, ◌+◌, ◌*◌, ◌^◌, ◌≤◌, ◌++◌, List, ◌∷◌, [], length, map, OnOk, IfOk};
+ghost use Rattle.dubp_cond.specs.Conditions.{cond_text};
+ghost use Rattle.dubp_cond.specs.declared.source.SourceId.TheVariants.{D};
+ghost use Rattle.dubp_chain.specs.Money.{signed_by as sig_by};
+ghost use Rattle.dubp_validity.specs.declared.record.Record.TheVariants.{Dividend};
+ghost use Rattle.dubp_validity.specs.Records.{input_of};
+ghost use Rattle.dubp_sindex.specs.Accounts.{accounts};
+ghost use Rattle.dubp_sindex.specs.Rows.{Entry, AreRows};
+ghost use Rattle.dubp_money_steps.specs.Left.{HasTexts};
+ghost use Rattle.dubp_money.specs.Index.{HasRows, Keeps, Sets};
+ghost use Rattle.dubp_money.specs.Texts.{Grows};
+ghost use Rattle.dubp_money.specs.Making.{dividends_to, CanFollow, with_made};
+
+use crate::making::{NewSource, make_source};
+use dubp_atoms::{Key, NoMemory, Steps};
+use dubp_cond::{All, Cond, Input, Item, SourceId};
+use dubp_sindex::SIndex;
+use dubp_validity::Record;
+use std::alloc::Global;
+use std::sync::ledger::Ledger as StepBook;
+
+/// What the block of this number pays to each member, at this time in seconds.
+#[derive(Clone, Copy, Debug, PartialEq, Eq)]
+pub struct Payment {
+    pub amount: u64,
+    pub base: u8,
+    pub number: u64,
+    pub time: u64,
+}
+
+// SIG(key).
+fn signed_by(alloc: Global, key: &Key) -> Result<Cond, NoMemory>
+    ensures is { IfOk result (λ cond. cond ≡ sig_by key.now) }
+    ensures short { IfOk result (λ cond. length (cond_text cond) ≤ 1000) }
+{
+    let _text = key.as_bytes();
+    let mut every = Vec::new(alloc);
+    push(&mut every, Item::Sig(*key))?;
+    let mut any = Vec::new(alloc);
+    push(&mut any, All { every })?;
+    Ok(Cond { any })
+}
+
+fn push<T: Drop>(list: &mut Vec<T>, value: T) -> Result<(), NoMemory>
+    ensures { OnOk result (list.new.items ≡ list.old.items ++ value ∷ []) }
+{
+    list.push(value).map_err(|_| NoMemory)
+}
+
+/// The dividends of the members are unspent sources, from this place on in the order of making. Each of their conditions has a
+/// number. At most five sets a member.
+///
+/// On `NoMemory` some of them may be made; what is marked stays so.
+pub fn pay_dividends<L: StepBook>(
+    index: &mut SIndex,
+    alloc: Global,
+    payment: Payment,
+    members: &[Key],
+    order: u64,
+    steps: &mut Steps<L>,
+) -> Result<(), NoMemory>
+    requires { order + length members.now ≤ 2 ^ 53 }
+    ensures at { OnOk result ((rows : List Entry) → AreRows rows → CanFollow rows order (dividends_to payment members.now) → HasRows index.old rows → HasRows index.new (with_made (accounts index.new) rows order (dividends_to payment members.now))) }
+    ensures has { OnOk result (HasTexts (accounts index.new) (dividends_to payment members.now)) }
+    ensures texts { Grows (accounts index.old) (accounts index.new) }
+    ensures sets { OnOk result (Sets (5 * length members.now) index.old index.new) }
+    ensures steps { OnOk result (steps.new ≤ steps.old + 5 * length members.now) }
+    ensures keeps { Keeps index.old index.new }
+{
+    let mut place = 0;
+    for key in members {
+        let cond = signed_by(alloc, key)?;
+        let source = NewSource {
+            id: SourceId::D {
+                key: *key,
+                block: payment.number,
+            },
+            amount: payment.amount,
+            base: payment.base,
+            made_at: payment.time,
+            order: order + place,
+        };
+        make_source(index, source, &cond, steps)?;
+        place += 1;
+    }
+    Ok(())
+}
+
+fn put_dividend(payment: Payment, key: &Key, out: &mut Vec<Record>) -> Result<(), NoMemory>
+    ensures { OnOk result (out.new.items ≡ out.old.items ++ Dividend (record { amount = payment.amount; base = payment.base; source = D key.now payment.number }) ∷ []) }
+{
+    let source = SourceId::D {
+        key: *key,
+        block: payment.number,
+    };
+    let input = Input {
+        amount: payment.amount,
+        base: payment.base,
+        source,
+    };
+    out.push(Record::Dividend { input }).map_err(|_| NoMemory)
+}
+
+/// Appends a record for the dividend of each of the members.
+pub fn put_dividends(
+    payment: Payment,
+    members: &[Key],
+    out: &mut Vec<Record>,
+) -> Result<(), NoMemory>
+    ensures { OnOk result (out.new.items ≡ out.old.items ++ map (λ s. Dividend (input_of s)) (dividends_to payment members.now)) }
+{
+    for key in members {
+        put_dividend(payment, key, out)?;
+    }
+    Ok(())
+}

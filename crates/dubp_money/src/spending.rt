@@ -1,0 +1,67 @@
+ghost use Rattle.std.specs.Prelude.{◌≡◌, ◌+◌, ◌*◌, ◌≤◌, ◌++◌, List, ◌∷◌, [], map, length, OnOk};
+ghost use Rattle.dubp_sindex.specs.Accounts.{accounts};
+ghost use Rattle.dubp_sindex.specs.Rows.{Entry, AreRows, without};
+ghost use Rattle.dubp_validity.specs.declared.record.Record.TheVariants.{Spend};
+ghost use Rattle.dubp_money.specs.Index.{HasRows, Keeps, Sets};
+ghost use Rattle.dubp_money.specs.Writing.{without_inputs};
+
+use dubp_atoms::{NoMemory, Steps};
+use dubp_cond::{Input, SourceId, Tx};
+use dubp_sindex::SIndex;
+use dubp_undo::Tables;
+use dubp_validity::Record;
+use std::sync::ledger::Ledger as StepBook;
+
+// The source is no longer unspent.
+pub(crate) fn spend_source<L: StepBook>(
+    index: &mut SIndex,
+    id: SourceId,
+    steps: &mut Steps<L>,
+) -> Result<(), NoMemory>
+    ensures at { OnOk result ((rows : List Entry) → AreRows rows → HasRows index.old rows → HasRows index.new (without id rows)) }
+    ensures sets { OnOk result (Sets 5 index.old index.new) }
+    ensures steps { OnOk result (steps.new ≤ steps.old + 5) }
+    ensures keeps { Keeps index.old index.new }
+    ensures accounts { accounts index.new ≡ accounts index.old }
+{
+    index.laws();
+    index.spend(id, steps)?;
+    Ok(())
+}
+
+/// The sources that the inputs of the transaction name are no longer unspent. At most five sets an input.
+///
+/// On `NoMemory` some of them may be spent; what is marked stays so.
+pub fn spend_inputs<L: StepBook>(
+    index: &mut SIndex,
+    tx: &Tx,
+    steps: &mut Steps<L>,
+) -> Result<(), NoMemory>
+    ensures at { OnOk result ((rows : List Entry) → AreRows rows → HasRows index.old rows → HasRows index.new (without_inputs tx.now.inputs rows)) }
+    ensures sets { OnOk result (Sets (5 * length tx.now.inputs) index.old index.new) }
+    ensures steps { OnOk result (steps.new ≤ steps.old + 5 * length tx.now.inputs) }
+    ensures keeps { Keeps index.old index.new }
+    ensures accounts { accounts index.new ≡ accounts index.old }
+{
+    for input in tx.inputs.as_slice() {
+        spend_source(index, input.source, steps)?;
+    }
+    Ok(())
+}
+
+fn put_spend(input: &Input, out: &mut Vec<Record>) -> Result<(), NoMemory>
+    ensures { OnOk result (out.new.items ≡ out.old.items ++ Spend input.now ∷ []) }
+{
+    out.push(Record::Spend { input: *input })
+        .map_err(|_| NoMemory)
+}
+
+/// Appends a record for each input of the transaction.
+pub fn put_spends(tx: &Tx, out: &mut Vec<Record>) -> Result<(), NoMemory>
+    ensures { OnOk result (out.new.items ≡ out.old.items ++ map Spend tx.now.inputs) }
+{
+    for input in tx.inputs.as_slice() {
+        put_spend(input, out)?;
+    }
+    Ok(())
+}

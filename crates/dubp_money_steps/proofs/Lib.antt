@@ -1,0 +1,9 @@
+pub mod Names
+pub mod ByBalance
+pub mod Totals
+pub mod Entries
+pub mod Numbering
+pub mod Transacted
+pub mod Enough
+pub mod Ranges
+pub mod Cleared

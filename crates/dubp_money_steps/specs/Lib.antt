@@ -1,0 +1,4 @@
+pub mod Steps
+pub mod Left
+pub mod Clearing
+pub mod Laws
