@@ -1,0 +1,69 @@
+-- Lists in which nothing stands twice, as a set of what stands before a place shows them.
+use Rattle.std.proofs.Common.{◌≡◌, ℕ, suc, ◌+◌, ◌<◌, Bool, true, false, not, ◌||◌, ◌&&◌, List, [], ◌∷◌, ◌++◌, take, drop, get_or, length, if◌then◌else◌, refl, ap, sym, ◌∙◌, subst, true≢false, arith}
+use Rattle.std.specs.List.{list_any}
+use Rattle.std.specs.Cmp.{IsEquivalence}
+use Rattle.std.proofs.lemmas.List.{take_more, take_all}
+use Rattle.std.proofs.Math.Seq.{split_at}
+use Rattle.dubp_chain.specs.Words.{each_once}
+
+and_false : (a : Bool) → (a && false) ≡ false
+and_false true = refl
+and_false false = refl
+
+module _ {T : Type 0} (eq : T → T → Bool) where
+  -- a value that stands before and again behind stands twice
+  stands_behind : (y : T) (xs ys : List T) (x : T) → eq x y ≡ true → list_any (eq x) (xs ++ y ∷ ys) ≡ true
+  stands_behind y [] ys x e = rw e
+  stands_behind y (z ∷ xs) ys x e = elim (eq x z) as (λ b. (b || list_any (eq x) (xs ++ y ∷ ys)) ≡ true) [ true ↦ refl | false ↦ stands_behind y xs ys x e ]
+
+  twice : IsEquivalence eq → (y : T) (xs ys : List T) → list_any (eq y) xs ≡ true → each_once eq (xs ++ y ∷ ys) ≡ false
+  twice laws y [] ys e = absurd (true≢false (sym e))
+  twice laws y (x ∷ xs) ys e =
+      elim (eq y x) as (λ b. eq y x ≡ b → (b || list_any (eq y) xs) ≡ true → each_once eq (x ∷ (xs ++ y ∷ ys)) ≡ false) [
+        | true ↦ λ same _. ap (λ b. not b && each_once eq (xs ++ y ∷ ys)) (stands_behind y xs ys x (laws.symm x y ∙ same))
+        | false ↦ λ _ later. ap (λ b. not (list_any (eq x) (xs ++ y ∷ ys)) && b) (twice laws y xs ys later) ∙ and_false _
+      ] refl e
+
+  -- one value more
+  none_behind : (y : T) (xs : List T) (x : T) → eq x y ≡ false → list_any (eq x) (xs ++ y ∷ []) ≡ list_any (eq x) xs
+  none_behind y [] x e = rw e
+  none_behind y (z ∷ xs) x e = ap (λ b. eq x z || b) (none_behind y xs x e)
+
+  once_more : IsEquivalence eq → (y : T) (xs : List T) → list_any (eq y) xs ≡ false → each_once eq xs ≡ true → each_once eq (xs ++ y ∷ []) ≡ true
+  once_more laws y [] none once = refl
+  once_more laws y (x ∷ xs) none once =
+      elim (eq y x) as (λ b. eq y x ≡ b → (b || list_any (eq y) xs) ≡ false → each_once eq ((x ∷ xs) ++ y ∷ []) ≡ true) [
+        | true ↦ λ _ no. absurd (true≢false no)
+        | false ↦ λ other no.
+            elim (list_any (eq x) xs) as (λ b. list_any (eq x) xs ≡ b → (not b && each_once eq xs) ≡ true → each_once eq ((x ∷ xs) ++ y ∷ []) ≡ true) [
+              | true ↦ λ _ bad. absurd (true≢false (sym bad))
+              | false ↦ λ free rest. rw (none_behind y xs x (laws.symm x y ∙ other), free) (once_more laws y xs no rest)
+            ] refl once
+      ] refl none
+
+  -- what a set has seen of the first values of a list
+  pub record Seen (values : List T) (i : ℕ) (keys : List T) : Type 0 where
+    pub are : keys ≡ take i values
+    pub once : each_once eq keys ≡ true
+
+  pub seen_one_more : IsEquivalence eq → (values : List T) (i : ℕ) (keys new : List T) (x : T) (is_new : Bool) → i < length values → x ≡ get_or values i x
+      → Seen values i keys → is_new ≡ not (list_any (eq x) keys) → is_new ≡ true
+      → new ≡ (if list_any (eq x) keys then keys else keys ++ x ∷ []) → Seen values (i + 1) new
+  seen_one_more laws values i keys new x is_new lt at seen e holds put =
+      let none : list_any (eq x) keys ≡ false = elim (list_any (eq x) keys) as (λ b. is_new ≡ not b → b ≡ false) [ true ↦ λ h. absurd (true≢false (sym holds ∙ h)) | false ↦ λ _. refl ] e in
+      let grown : new ≡ keys ++ x ∷ [] = put ∙ ap (λ b. if b then keys else keys ++ x ∷ []) none in
+      record {
+        are = grown ∙ ap (λ k. k ++ x ∷ []) seen.are ∙ ap (λ z. take i values ++ z ∷ []) at ∙ sym (take_more values i x lt);
+        once = subst (λ k. each_once eq k ≡ true) (sym grown) (once_more laws x keys none seen.once);
+      }
+
+  pub seen_twice : IsEquivalence eq → (values : List T) (i : ℕ) (keys : List T) (x : T) (is_new : Bool) → i < length values → x ≡ get_or values i x
+      → Seen values i keys → is_new ≡ not (list_any (eq x) keys) → is_new ≡ false → each_once eq values ≡ false
+  seen_twice laws values i keys x is_new lt at seen e fails =
+      let there : list_any (eq x) keys ≡ true = elim (list_any (eq x) keys) as (λ b. is_new ≡ not b → b ≡ true) [ true ↦ λ _. refl | false ↦ λ h. absurd (true≢false (sym h ∙ fails)) ] e in
+      let before : list_any (eq x) (take i values) ≡ true = subst (λ k. list_any (eq x) k ≡ true) seen.are there in
+      subst (λ l. each_once eq l ≡ false) (sym (split_at values i x lt))
+      (subst (λ z. each_once eq (take i values ++ z ∷ drop (suc i) values) ≡ false) at (twice laws x (take i values) (drop (suc i) values) before))
+
+  pub seen_all : (values : List T) (i : ℕ) (keys : List T) → i ≡ length values → Seen values i keys → each_once eq values ≡ true
+  seen_all values i keys e seen = subst (λ k. each_once eq k ≡ true) (seen.are ∙ take_all i values (omega arith)) seen.once

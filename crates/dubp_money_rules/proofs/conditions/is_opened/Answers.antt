@@ -1,0 +1,33 @@
+use Rattle.std.proofs.Common.{◌↔◌, ◌≡◌, ◌≤◌, IsTrue, Some, None, refl, sym, subst, ◌∙◌, arith}
+use Rattle.dubp_chain.specs.Money.{Source, unspent}
+use Rattle.dubp_validity.specs.MoneyRules.{spent}
+use Rattle.dubp_money_rules.specs.Spending.{IsSeenOpened, at_hand, made_before, seen_in}
+use Rattle.dubp_money_rules.proofs.Found.{told_first, told_then}
+use Rattle.dubp_money_rules.proofs.Opened.{opened_seen, found_early}
+use Rattle.dubp_money_rules.proofs.conditions.is_opened.Goals as goal
+
+pub returns-in-Some : goal.returns-in-Some
+returns-in-Some c = λ ch at read once.
+    let t = c.args.time in
+    let input = c.args.input.now in
+    let before = made_before t c.args.block.now c.args.number in
+    let made = c.in-Some.made in
+    let seen : Some (made, c.in-Some.cond) ≡ seen_in (spent (unspent ch) input) = sym c.in-Some.is ∙ c.in_ok-made.ensures ch at read.sound read.conditions in
+    let early = found_early ch input made c.in-Some.cond seen in
+    let not_before = read.not_before in
+    let in_time : made ≤ t = omega (arith, early, not_before) in
+    opened_seen t c.args.tx.now c.args.place (at_hand t ch c.args.block.now c.args.number) input c.is_true_at.result (Some (made, c.in-Some.cond))
+    (told_first (λ (s : Source). (s.time, s.cond)) input (unspent ch) before (made, c.in-Some.cond) seen)
+    (subst (λ u. IsTrue c.is_true_at.result ↔ IsSeenOpened t u c.args.tx.now.issuers (Some (made, c.in-Some.cond))) (c.unlocks_at-unlocks.ensures once)
+    (subst (λ k. IsTrue c.is_true_at.result ↔ IsSeenOpened t c.unlocks_at-unlocks.result.now k (Some (made, c.in-Some.cond))) c.as_slice-issuers.ensures (c.is_true_at.ensures in_time)))
+
+pub returns-in-None : goal.returns-in-None
+returns-in-None c = λ ch at read once.
+    let t = c.args.time in
+    let input = c.args.input.now in
+    let before = made_before t c.args.block.now c.args.number in
+    let none : None ≡ seen_in (spent (unspent ch) input) = sym c.in-None.is ∙ c.in_ok-made.ensures ch at read.sound read.conditions in
+    opened_seen t c.args.tx.now c.args.place (at_hand t ch c.args.block.now c.args.number) input c.made_is_opened.result (seen_in (spent before input))
+    (told_then (λ (s : Source). (s.time, s.cond)) input (unspent ch) before (seen_in (spent before input)) none refl)
+    (subst (λ u. IsTrue c.made_is_opened.result ↔ IsSeenOpened t u c.args.tx.now.issuers (seen_in (spent before input))) (c.unlocks_at-unlocks.ensures once)
+    (subst (λ k. IsTrue c.made_is_opened.result ↔ IsSeenOpened t c.unlocks_at-unlocks.result.now k (seen_in (spent before input))) c.as_slice-issuers.ensures (c.made_is_opened.ensures read.numbered)))
