@@ -1,0 +1,16 @@
+//! Tests of the indexes of certifications and of sources, of the facts of a chain and of the registry at work, and nothing else.
+//!
+//! Each call of theirs is made once or twice, with values whose answers are known from outside. A call with a long contract stands in a
+//! small function without one, so that the tests, which are proved as code is, stay cheap.
+#![tactic(auto)]
+
+#[cfg(test)]
+mod accounts;
+#[cfg(test)]
+mod certifications;
+#[cfg(test)]
+mod facts;
+#[cfg(test)]
+mod registry;
+#[cfg(test)]
+mod sources;
