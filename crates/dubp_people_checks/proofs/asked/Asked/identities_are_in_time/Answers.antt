@@ -1,0 +1,4 @@
+use Rattle.dubp_people_checks.proofs.asked.Asked.identities_are_in_time.Goals as goal
+
+pub returns : goal.returns
+returns c = λ chain asked. c.identities_are_in_time.ensures chain asked.at asked.asked

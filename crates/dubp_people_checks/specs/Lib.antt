@@ -1,0 +1,2 @@
+pub mod PeopleRules
+pub mod Asking

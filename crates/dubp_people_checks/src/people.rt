@@ -1,0 +1,45 @@
+ghost use Rattle.std.specs.Prelude.{IfOk};
+ghost use Rattle.dubp_rules.specs.First.{IsFirst};
+ghost use Rattle.dubp_chain.specs.Chains.{Chain};
+ghost use Rattle.dubp_validity.specs.Rules.{Holds};
+ghost use Rattle.dubp_left.specs.Next.{IsAsked};
+ghost use Rattle.dubp_people_checks.specs.PeopleRules.{people_rules};
+
+use crate::asked::Asked;
+use crate::first::first_broken;
+use dubp_atoms::NoMemory;
+use dubp_block::Block;
+use dubp_left::Next;
+use dubp_people_after::After;
+use dubp_registry::Registry;
+use dubp_rules::Rule;
+use dubp_undo::Tables;
+use dubp_verdict::Verdicts;
+use std::alloc::Global;
+
+/// The first of the rules on people, in the order of the table, that the block breaks on the chain. None where it keeps all.
+///
+/// The registry is that of the chain, and stays as it is. `NoMemory` where there is none for the keys that the block names, or for
+/// what a rule counts.
+pub fn first_broken_of_people(
+    alloc: Global,
+    registry: &Registry,
+    block: &Block,
+    next: &Next,
+    verdicts: &Verdicts,
+) -> Result<Option<Rule>, NoMemory>
+    requires { (c : Chain) × (⟦<Registry as Tables<Block>>⟧.at registry.now c × IsAsked c block.now next.now) }
+    ensures { IfOk result (λ found. (c : Chain) → ⟦<Registry as Tables<Block>>⟧.at registry.now c → IsAsked c block.now next.now → IsFirst (Holds verdicts.now c block.now) people_rules found) }
+{
+    let after = After::of(alloc, registry, block, next)?;
+    let asked = Asked {
+        alloc,
+        registry,
+        after: &after,
+        block,
+        next,
+        verdicts,
+    };
+    let found = first_broken(&asked)?;
+    Ok(found)
+}
