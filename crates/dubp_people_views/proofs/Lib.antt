@@ -1,0 +1,4 @@
+pub mod Small
+pub mod Told
+pub mod Uids
+pub mod Walked
