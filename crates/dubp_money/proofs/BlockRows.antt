@@ -186,11 +186,11 @@ rest_has texts c b fits =
     all_from_in (λ s. list_any (same_text (cond_text s.cond)) texts ≡ true) (rest c b)
     (λ s there. in_all (λ s. list_any (same_text (cond_text s.cond)) texts ≡ true) (made_sources (b ∷ c)) fits.has s (in_filter (is_left (b ∷ c) (cleared c)) (made_sources (b ∷ c)) s there).0)
 
-pub cleared_are_rows : (texts : List Text) (c : Chain) (b : Block) (limit : ℕ) (asked : List ℕ) → IsCleared c b limit asked texts → AreRows (sources_before_clearing texts c b)
-cleared_are_rows texts c b limit asked w = sources_are_rows_before_clearing texts c b w.sound w.fits.small
+pub cleared_are_rows : (texts : List Text) (c : Chain) (b : Block) (limit : ℕ) → IsCleared c b limit texts → AreRows (sources_before_clearing texts c b)
+cleared_are_rows texts c b limit w = sources_are_rows_before_clearing texts c b w.sound w.fits.small
 
-pub kept_is : (texts : List Text) (c : Chain) (b : Block) (limit : ℕ) (asked : List ℕ) → IsCleared c b limit asked texts → kept limit (sources_before_clearing texts c b) ≡ sources_left texts (b ∷ c)
-kept_is texts c b limit asked w = ap (λ n. kept n (sources_before_clearing texts c b)) w.limited ∙ (clears_rows texts c b w.sound (rest_has texts c b w.fits)).left
+pub kept_is : (texts : List Text) (c : Chain) (b : Block) (limit : ℕ) → IsCleared c b limit texts → kept limit (sources_before_clearing texts c b) ≡ sources_left texts (b ∷ c)
+kept_is texts c b limit w = ap (λ n. kept n (sources_before_clearing texts c b)) w.limited ∙ (clears_rows texts c b w.sound (rest_has texts c b w.fits)).left
 
-pub taken_is : (texts : List Text) (c : Chain) (b : Block) (limit : ℕ) (asked : List ℕ) → IsCleared c b limit asked texts → map clear_record (taken limit (sources_before_clearing texts c b)) ≡ clearing_records c b
-taken_is texts c b limit asked w = ap (λ n. map clear_record (taken n (sources_before_clearing texts c b))) w.limited ∙ (clears_rows texts c b w.sound (rest_has texts c b w.fits)).taken
+pub taken_is : (texts : List Text) (c : Chain) (b : Block) (limit : ℕ) → IsCleared c b limit texts → map clear_record (taken limit (sources_before_clearing texts c b)) ≡ clearing_records c b
+taken_is texts c b limit w = ap (λ n. map clear_record (taken n (sources_before_clearing texts c b))) w.limited ∙ (clears_rows texts c b w.sound (rest_has texts c b w.fits)).taken

@@ -1,20 +1,21 @@
 -- Clearing account by account: what was taken so far, and what is left.
-use Rattle.std.proofs.Common.{◌≡◌, ℕ, ◌+◌, ◌<◌, ◌≤◌, Bool, true, false, not, ◌||◌, ◌&&◌, ◌==◌, List, [], ◌∷◌, ◌++◌, filter, length, sum_by, nat_lt, refl, ap, sym, ◌∙◌, subst, true≢false, inl, inr, ◌⊎◌, arith, take, get_or, append_assoc, append-nil}
+use Rattle.std.proofs.Common.{◌≡◌, ℕ, ◌+◌, ◌<◌, ◌≤◌, Bool, true, false, not, ◌||◌, ◌&&◌, ◌==◌, List, [], ◌∷◌, ◌++◌, filter, length, sum_by, nat_lt, refl, ap, sym, ◌∙◌, subst, true≢false, inl, inr, Option, Some, None, arith, take, get_or, append_assoc, append-nil}
 use Rattle.std.proofs.lemmas.List.{take_more, take_all}
+use Rattle.std.specs.Prelude.{IfSome, IfNone}
 use Rattle.std.specs.List.{list_any}
 use Rattle.std.specs.List.Sorted.{IsPermutation, IsNonDecreasingBy}
 use Rattle.std.proofs.lemmas.List.Elements.{filter_agree}
 use Rattle.std.proofs.lemmas.List.Folds.{list_any-append}
 use Rattle.std.proofs.lemmas.List.Sorted.{IsPermutation-refl, IsPermutation-sym, IsPermutation-trans, IsPermutation-append_left}
-use Rattle.std.proofs.lemmas.Bool.Decides.{Decides-eqb}
 use Rattle.std.proofs.lemmas.Bool.{lt-ltb, ltb-true}
-use Rattle.dubp_sindex.specs.Rows.{Entry, units_of_entry, is_of, is_named, of_account, units_in, without, Rises, AreRows}
-use Rattle.dubp_sindex.proofs.Elements.{is_false, or_true, IsIn, in_all, all_from_in, all_append, all_more, in_any, any_in, not_true, in_filter, kept_in, filter_on, filter_true, filter_twice}
+use Rattle.dubp_sindex.specs.Balances.{Any}
+use Rattle.dubp_sindex.specs.Rows.{Entry, units_of_entry, is_of, is_named, of_account, units_in, without, Rises, AreRows, IsAtMost, balance_of_row, IsLeastBalance}
+use Rattle.dubp_sindex.proofs.Elements.{is_false, IsIn, in_all, all_from_in, all_more, in_any, any_in, not_true, in_filter, kept_in, filter_on, filter_true, filter_twice}
 use Rattle.dubp_sindex.proofs.Sources.{same_source_own, OnceEach, once_each, one_of_name}
-use Rattle.dubp_money_steps.specs.Clearing.{has_little, HasEnough, OthersHave}
+use Rattle.dubp_money_steps.specs.Clearing.{has_little, HasEnough}
 use Rattle.dubp_money_steps.proofs.ByBalance.{filter_whole}
 use Rattle.dubp_money_steps.proofs.Enough.{same_account, kept_account}
-use Rattle.dubp_money.specs.Writing.{IsCleared, IsSettled}
+use Rattle.dubp_money.specs.Writing.{IsCleared}
 use Rattle.dubp_money.proofs.Lists.{both_kinds, Climbs, sorted_is, climbs-filter}
 
 -- ---- rows of which some are named
@@ -183,64 +184,39 @@ module _ (Has : List Entry → Type 0) (limit : ℕ) (rows so_far : List Entry) 
       climbs [] rises = tt
       climbs (x ∷ xs) rises = (rises.0, climbs xs rises.1)
 
--- ---- accounts that were asked
+-- ---- turns of the loop over the accounts with the least balance
 
-pub enough_asked : (Has : List Entry → Type 0) (limit : ℕ) (rows so_far : List Entry) (asked : List ℕ) (is : IsSettled Has limit rows so_far asked) → OthersHave limit asked rows
-    → HasEnough limit (filter (λ e. not (is.cleared.gone e.1.account)) rows)
-enough_asked Has limit rows so_far asked is others =
-    is_enough limit (filter (λ e. not (is.cleared.gone e.1.account)) rows) (λ e there.
-    let h = in_filter (λ (x : Entry). not (is.cleared.gone x.1.account)) rows e there in
-    let stays : is.cleared.gone e.1.account ≡ false = not_true (is.cleared.gone e.1.account) h.1 in
-    let kept = ap (sum_by units_of_entry) (kept_account is.cleared.gone e.1.account rows stays) in
-    elim (in_all (λ (x : Entry). (list_any (λ a. a == x.1.account) asked ≡ true) ⊎ (limit ≤ units_in x.1.account rows)) rows others e h.0) [
-      | inr enough ↦ omega (arith, enough, kept)
-      | inl among ↦
-          let t = any_in (λ a. a == e.1.account) asked among in
-          let same : t.0 ≡ e.1.account = same_account t.0 e.1.account t.2 in
-          elim (in_all (λ a. (is.cleared.gone a ≡ true) ⊎ (limit ≤ units_in a rows)) asked is.settled t.0 t.1) [
-            | inl gone ↦ absurd (true≢false (sym gone ∙ ap is.cleared.gone same ∙ stays))
-            | inr enough ↦ omega (arith, enough, kept, ap (λ a. units_in a rows) same)
-          ]
-    ])
+pub cleared_next : (Has Has' : List Entry → Type 0) (limit : ℕ) (rows so_far now : List Entry) (account : ℕ) → (is : IsCleared Has limit rows so_far)
+    → units_in account (filter (λ e. not (is.gone e.1.account)) rows) < limit
+    → Has' (filter (λ e. not (is_of account e)) (filter (λ e. not (is.gone e.1.account)) rows))
+    → now ≡ so_far ++ of_account account (filter (λ e. not (is.gone e.1.account)) rows)
+    → IsCleared Has' limit rows now
+cleared_next Has Has' limit rows so_far now account is below others put =
+    elim (is.gone account) as (λ r. is.gone account ≡ r → IsCleared Has' limit rows now) [
+      | true ↦ λ before. record {
+        gone = is.gone;
+        left = subst Has' (all_left limit rows is.gone account before) others;
+        taken = subst (λ l. IsPermutation l (filter (λ e. is.gone e.1.account) rows)) (sym (put ∙ ap (λ l. so_far ++ l) (none_left limit rows is.gone account before) ∙ append-nil so_far)) is.taken;
+        little = is.little;
+      }
+      | false ↦ λ here. cleared_more Has Has' limit rows so_far now account is here below others put
+    ] refl
 
-module _ (Has : List Entry → Type 0) (limit : ℕ) (rows so_far : List Entry) (asked : List ℕ) (account : ℕ) (is : IsSettled Has limit rows so_far asked) where
-  abbrev rest : List Entry
-  rest = filter (λ e. not (is.cleared.gone e.1.account)) rows
+-- where the least balance has the limit, all have
+least_enough : (limit : ℕ) (rows : List Entry) (least : ℕ × ℕ) → IsLeastBalance rows Any least → limit ≤ least.0 → HasEnough limit rows
+least_enough limit rows least is enough = record {
+  each = all_more (λ e. Any (balance_of_row rows e) → IsAtMost least (balance_of_row rows e)) (λ e. limit ≤ units_in e.1.account rows)
+      (λ e at_most. elim (at_most tt) [ inl more ↦ omega (arith, more, enough) | inr same ↦ omega (arith, same.0, enough) ]) rows is.least;
+}
 
-  pub settled_enough : limit ≤ units_in account rest → IsSettled Has limit rows so_far (asked ++ account ∷ [])
-  settled_enough enough = record {
-    cleared = is.cleared;
-    settled = all_append _ asked (account ∷ []) is.settled (
-      elim (is.cleared.gone account) as (λ r. is.cleared.gone account ≡ r → (is.cleared.gone account ≡ true) ⊎ (limit ≤ units_in account rows)) [
-        | true ↦ λ before. inl before
-        | false ↦ λ here. inr (omega (arith, enough, ap (sum_by units_of_entry) (kept_account is.cleared.gone account rows here)))
-      ] refl,
-      tt,
-    );
-  }
+pub below_found : (limit : ℕ) (rows : List Entry) (least : ℕ × ℕ) → IsLeastBalance rows Any least → (o : Option ℕ) → IfSome o (λ account. (account ≡ least.1) × (least.0 < limit))
+    → IfSome o (λ account. units_in account rows < limit)
+below_found limit rows least is None below = tt
+below_found limit rows least is (Some account) below = subst (λ a. units_in a rows < limit) (sym below.0) (subst (λ n. n < limit) is.is.units below.1)
 
-  pub settled_little : (Has' : List Entry → Type 0) (now : List Entry) → units_in account rest < limit
-      → Has' (filter (λ e. not (is_of account e)) rest) → now ≡ so_far ++ of_account account rest → IsSettled Has' limit rows now (asked ++ account ∷ [])
-  unfolding cleared_more
-  settled_little Has' now below others put =
-      elim (is.cleared.gone account) as (λ r. is.cleared.gone account ≡ r → IsSettled Has' limit rows now (asked ++ account ∷ [])) [
-        | true ↦ λ before. record {
-          cleared = record {
-            gone = is.cleared.gone;
-            left = subst Has' (all_left limit rows is.cleared.gone account before) others;
-            taken = subst (λ l. IsPermutation l (filter (λ e. is.cleared.gone e.1.account) rows)) (sym (put ∙ ap (λ l. so_far ++ l) (none_left limit rows is.cleared.gone account before) ∙ append-nil so_far)) is.cleared.taken;
-            little = is.cleared.little;
-          };
-          settled = all_append _ asked (account ∷ []) is.settled (inl before, tt);
-        }
-        | false ↦ λ here. record {
-          cleared = cleared_more Has Has' limit rows so_far now account is.cleared here below others put;
-          settled =
-              all_append _ asked (account ∷ [])
-              (all_more _ _ (λ a h. elim h [ inl gone ↦ inl (ap (λ r. r || account == a) gone) | inr other ↦ inr other ]) asked is.settled)
-              (inl (or_true (is.cleared.gone account) (account == account) (inr ((Decides-eqb account account).1 refl))), tt);
-        }
-      ] refl
+pub below_none : (limit : ℕ) (rows : List Entry) (least : ℕ × ℕ) → IsLeastBalance rows Any least → (o : Option ℕ) → IfNone o (limit ≤ least.0) → IfNone o (HasEnough limit rows)
+below_none limit rows least is None enough = least_enough limit rows least is enough
+below_none limit rows least is (Some account) enough = tt
 
-pub settled_first : (Has : List Entry → Type 0) (limit : ℕ) (rows : List Entry) → Has rows → IsSettled Has limit rows [] []
-settled_first Has limit rows are = record { cleared = cleared_none Has limit rows are; settled = tt }
+pub none_enough : (limit : ℕ) (rows : List Entry) → rows ≡ [] → HasEnough limit rows
+none_enough limit rows none = subst (HasEnough limit) (sym none) (record { each = tt })

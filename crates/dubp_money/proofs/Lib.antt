@@ -6,3 +6,5 @@ pub mod Clears
 pub mod Made
 pub mod Written
 pub mod BlockRows
+pub mod Applies
+pub mod Noting

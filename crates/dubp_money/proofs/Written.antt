@@ -1,13 +1,15 @@
 -- Transactions one after the other: what each may make stands behind what the others left, and more texts change nothing of it.
 use Rattle.std.proofs.Common.{◌≡◌, ℕ, suc, ◌+◌, ◌<◌, ◌≤◌, Bool, true, false, not, cond, List, [], ◌∷◌, ◌++◌, map, filter, fold, length, take, drop, get_or, refl, ap, sym, ◌∙◌, subst, append_assoc, append-nil, length-append, arith}
 use Rattle.std.specs.List.{list_any, AllByRecursion, enumerate_from, flat_map}
-use Rattle.std.proofs.lemmas.List.{take_more, length-map}
+use Rattle.std.proofs.lemmas.List.{take_more, length-map, get_or-map}
 use Rattle.std.proofs.lemmas.Grind.{flat_map-append}
 use Rattle.dubp_atoms.specs.Same.{Text, same_text}
 use Rattle.dubp_cond.specs.Conditions.{cond_text}
 use Rattle.dubp_cond.specs.declared.source.SourceId.{SourceId}
 use Rattle.dubp_cond.specs.declared.tx.Tx.{Tx}
-use Rattle.dubp_chain.specs.Money.{Source, outputs_made}
+use Rattle.dubp_block.specs.declared.block.Block.{Block}
+use Rattle.dubp_docs.specs.declared.hashing.TxHashes.{TxHashes}
+use Rattle.dubp_chain.specs.Money.{Source, outputs_made, hashes_in}
 use Rattle.dubp_docs.specs.Spelling.{tx_hash}
 use Rattle.dubp_validity.specs.declared.record.Record.TheVariants.{Spend}
 use Rattle.dubp_validity.specs.Records.{make_record}
@@ -178,3 +180,14 @@ pub has_written : (texts texts' : List Text) → Grows texts texts' → (time : 
 has_written texts texts' g time currency txs i tx within is known made =
     subst (HasTexts texts') (sym (flat_next (outputs_made time currency) txs i tx within is))
     (all_append (λ s. list_any (same_text (cond_text s.cond)) texts' ≡ true) (all_outputs time currency (take i txs)) (outputs_made time currency tx) (has_more texts texts' g (all_outputs time currency (take i txs)) known) made)
+
+-- the hash at the place of a transaction is its own
+pub hash_is : (b : Block) (hashes : List TxHashes) → map (λ (x : TxHashes). x.whole) hashes ≡ hashes_in b → (i : ℕ) (tx : Tx) (h : TxHashes) → i < length b.transactions → tx ≡ get_or b.transactions i tx
+    → (get_or hashes i h).whole ≡ tx_hash b.currency tx
+hash_is b hashes are i tx h within is =
+    let own = tx_hash b.currency tx in
+    let below : i < length hashes = omega (arith, within, ap length are, length-map hashes (λ (x : TxHashes). x.whole), length-map b.transactions (tx_hash b.currency)) in
+    sym (get_or-map (λ (x : TxHashes). x.whole) hashes i h own below)
+    ∙ ap (λ l. get_or l i own) are
+    ∙ get_or-map (tx_hash b.currency) b.transactions i tx own within
+    ∙ ap (tx_hash b.currency) (sym is)

@@ -7,8 +7,6 @@ use Rattle.dubp_chain.specs.Heads.{time_of}
 use Rattle.dubp_chain.specs.Money.{Source, made_sources}
 use Rattle.dubp_validity.specs.Rules.{IsSound}
 use Rattle.dubp_money_steps.specs.Steps.{dividends_of, limit_of}
-use Rattle.dubp_money_steps.specs.Left.{sources_before_clearing}
-use Rattle.dubp_money_steps.specs.Clearing.{OthersHave}
 use Rattle.dubp_money.specs.Texts.{Fits}
 use Rattle.dubp_money.specs.declared.paying.Payment.{Payment}
 use Rattle.dubp_money.specs.Making.{dividends_to}
@@ -25,9 +23,8 @@ pub record IsWritten (c : Chain) (b : Block) (time : ℕ) (payment : Option Paym
   pub pays : paid payment members ≡ dividends_of c b
   pub behind : made ≡ length (made_sources c)
 
--- the limit is that of the chain with the block, these texts number its conditions, and the accounts that are not asked have enough
-pub record IsCleared (c : Chain) (b : Block) (limit : ℕ) (asked : List ℕ) (texts : List Text) : Type 0 where
+-- the limit is that of the chain with the block, and these texts number its conditions
+pub record IsCleared (c : Chain) (b : Block) (limit : ℕ) (texts : List Text) : Type 0 where
   pub sound : IsSound (b ∷ c)
   pub limited : limit ≡ limit_of (b ∷ c)
   pub fits : Fits texts (b ∷ c)
-  pub others : OthersHave limit asked (sources_before_clearing texts c b)

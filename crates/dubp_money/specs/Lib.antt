@@ -5,3 +5,4 @@ pub mod Making
 pub mod Transactions
 pub mod Blocks
 pub mod Tables
+pub mod Applied

@@ -9,13 +9,17 @@ use Rattle.dubp_validity.specs.declared.record.Record.TheVariants.{Spend}
 use Rattle.dubp_validity.specs.Records.{make_record}
 use Rattle.dubp_sindex.specs.Rows.{Entry}
 use Rattle.dubp_money.specs.Writing.{without_inputs}
-use Rattle.dubp_money.specs.Making.{with_made}
+use Rattle.dubp_money.specs.Making.{outputs_at, with_made}
 
 -- the outputs of some transactions
 abbrev pub all_outputs : ℕ → Text → List Tx → List Source
 all_outputs time currency txs = flat_map (outputs_made time currency) txs
 
--- the records of a transaction
+-- the records of a transaction of this hash, made at this time
+abbrev pub records_at : ℕ → Text → Tx → List Record
+records_at time hash tx = map Spend tx.inputs ++ map make_record (outputs_at time hash tx)
+
+-- the records of a transaction of this currency
 abbrev pub records_of : ℕ → Text → Tx → List Record
 records_of time currency tx = map Spend tx.inputs ++ map make_record (outputs_made time currency tx)
 

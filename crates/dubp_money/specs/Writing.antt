@@ -1,9 +1,10 @@
 -- What the inputs of transactions leave of rows, and how far clearing has come, account by account. Protocol: money.
-use Rattle.std.specs.Prelude.{◌≡◌, ℕ, ◌≤◌, Bool, true, not, List, filter, nat_lt, ◌⊎◌}
-use Rattle.std.specs.List.{list_any, AllByRecursion}
+use Rattle.std.specs.Prelude.{◌≡◌, ℕ, Bool, true, not, List, filter, nat_lt}
+use Rattle.std.specs.List.{list_any}
 use Rattle.std.specs.List.Sorted.{IsPermutation}
 use Rattle.dubp_cond.specs.declared.source.Input.{Input}
 use Rattle.dubp_sindex.specs.Rows.{Entry, is_named, units_in}
+use Rattle.dubp_money_steps.specs.Clearing.{HasEnough}
 
 -- the rows that no input names
 abbrev pub without_inputs : List Input → List Entry → List Entry
@@ -16,11 +17,7 @@ pub record IsCleared (Has : List Entry → Type 0) (limit : ℕ) (rows so_far : 
   pub taken : IsPermutation so_far (filter (λ e. gone e.1.account) rows)
   pub little : (account : ℕ) → gone account ≡ true → nat_lt (units_in account rows) limit ≡ true
 
--- each of these accounts is gone or has enough
-abbrev pub AreSettled : ℕ → List Entry → (ℕ → Bool) → List ℕ → Type 0
-AreSettled limit rows gone accounts = AllByRecursion (λ a. (gone a ≡ true) ⊎ (limit ≤ units_in a rows)) accounts
-
--- the accounts that may have too little were asked
-pub record IsSettled (Has : List Entry → Type 0) (limit : ℕ) (rows so_far : List Entry) (asked : List ℕ) : Type 0 where
+-- and none that is left has too little
+pub record AreCleared (Has : List Entry → Type 0) (limit : ℕ) (rows so_far : List Entry) : Type 0 where
   pub cleared : IsCleared Has limit rows so_far
-  pub settled : AreSettled limit rows cleared.gone asked
+  pub enough : HasEnough limit (filter (λ e. not (cleared.gone e.1.account)) rows)

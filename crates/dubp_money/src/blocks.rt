@@ -3,12 +3,15 @@ ghost use Rattle.std.specs.List.{flat_map};
 ghost use Rattle.dubp_block.specs.Text.{IsBlock};
 ghost use Rattle.dubp_block.specs.declared.block.Block.{Block as BlockValue};
 ghost use Rattle.dubp_undo.specs.States.{states};
+ghost use Rattle.dubp_docs.specs.declared.hashing.TxHashes.{TxHashes as TxHashesValue};
 ghost use Rattle.dubp_chain.specs.Chains.{Chain};
+ghost use Rattle.dubp_chain.specs.Money.{hashes_in};
 ghost use Rattle.dubp_validity.specs.declared.record.Record.TheVariants.{Dividend};
 ghost use Rattle.dubp_validity.specs.Records.{input_of, clearing_records};
 ghost use Rattle.dubp_sindex.specs.Accounts.{accounts};
 ghost use Rattle.dubp_sindex.specs.Rows.{Entry, AreRows};
 ghost use Rattle.dubp_money_steps.specs.Left.{HasTexts, sources_left, sources_before_clearing};
+ghost use Rattle.dubp_money_steps.specs.Clearing.{clear_record};
 ghost use Rattle.dubp_money.specs.Index.{HasRows, Keeps, Sets};
 ghost use Rattle.dubp_money.specs.Texts.{Grows, Fits};
 ghost use Rattle.dubp_money.specs.Making.{CanFollow, with_made};
@@ -21,6 +24,7 @@ use crate::transactions::write_transactions;
 use dubp_atoms::{Key, NoMemory, Steps};
 use dubp_block::Block;
 use dubp_cond::SourceId;
+use dubp_docs::TxHashes;
 use dubp_sindex::{SIndex, SourceRow, SourceRows};
 use dubp_undo::Tables;
 use dubp_validity::Record;
@@ -57,14 +61,15 @@ pub fn pay<L: StepBook>(
 }
 
 /// What the transactions of the block spend and make, and what it pays to the members of the chain with it, with their records:
-/// all that it does to sources before it clears. `time` is the time of the chain with the block, in seconds, and `made` how many
-/// sources the chain made. At most five sets a record.
+/// all that it does to sources before it clears. `hashes` are those of the transactions, `time` is the time of the chain with the
+/// block, in seconds, and `made` how many sources the chain made. At most five sets a record.
 ///
 /// On `NoMemory` some of it may be written; what is marked stays so.
 pub fn spend_and_make<L: StepBook>(
     index: &mut SIndex,
     alloc: Global,
     block: &Block,
+    hashes: &[TxHashes],
     time: u64,
     payment: Option<Payment>,
     members: &[Key],
@@ -73,6 +78,7 @@ pub fn spend_and_make<L: StepBook>(
     steps: &mut Steps<L>,
 ) -> Result<(), NoMemory>
     requires block { IsBlock block.now }
+    requires hashes { map (λ (h : TxHashesValue). h.whole) hashes.now ≡ hashes_in block.now }
     requires few { made + length (all_outputs time block.now.currency block.now.transactions) + length members.now ≤ 2 ^ 53 }
     ensures at { OnOk result ((c : Chain) → IsWritten c block.now time payment members.now made → Fits (accounts index.old) c → HasRows index.old (sources_left (accounts index.old) c) → HasRows index.new (sources_before_clearing (accounts index.new) c block.now)) }
     ensures fits { OnOk result ((c : Chain) → IsWritten c block.now time payment members.now made → Fits (accounts index.old) c → Fits (accounts index.new) (block.now ∷ c)) }
@@ -82,32 +88,31 @@ pub fn spend_and_make<L: StepBook>(
     ensures steps { OnOk result (steps.new ≤ steps.old + 5 * (length (flat_map (records_of time block.now.currency) block.now.transactions) + length (paid payment members.now))) }
     ensures keeps { Keeps index.old index.new }
 {
-    let behind = write_transactions(index, alloc, block, time, made, out, steps)?;
+    let behind = write_transactions(index, alloc, block, hashes, time, made, out, steps)?;
     pay(index, alloc, payment, members, behind, out, steps)?;
     Ok(())
 }
 
-/// Clears, of what stands when the block has spent and made, each of the accounts that has less than the limit, with its
-/// records, and hands out what it took. All others have the limit. Behind it the index stands for the chain with the block.
-/// At most five sets a record.
+/// Clears, of what stands when the block has spent and made, each account that has less than the limit, with its records, and
+/// hands out what it took. Behind it the index stands for the chain with the block. At most five sets a record.
 ///
 /// On `NoMemory` some of it may be cleared; what is marked stays so.
 pub fn clear_block<L: StepBook>(
     index: &mut SIndex,
     alloc: Global,
     limit: u128,
-    asked: &[usize],
     out: &mut Vec<Record>,
     steps: &mut Steps<L>,
 ) -> Result<Vec<(SourceId, SourceRow)>, NoMemory>
-    ensures at { OnOk result ((c : Chain) (b : BlockValue) → IsCleared c b limit asked.now (accounts index.old) → HasRows index.old (sources_before_clearing (accounts index.old) c b) → ⟦<SIndex as Tables<SourceRows>>⟧.at index.new (states (sources_left (accounts index.new)) (b ∷ c))) }
-    ensures records { OnOk result ((c : Chain) (b : BlockValue) → IsCleared c b limit asked.now (accounts index.old) → HasRows index.old (sources_before_clearing (accounts index.old) c b) → out.new.items ≡ out.old.items ++ clearing_records c b) }
+    ensures at { OnOk result ((c : Chain) (b : BlockValue) → IsCleared c b limit (accounts index.old) → HasRows index.old (sources_before_clearing (accounts index.old) c b) → ⟦<SIndex as Tables<SourceRows>>⟧.at index.new (states (sources_left (accounts index.new)) (b ∷ c))) }
+    ensures records { OnOk result ((c : Chain) (b : BlockValue) → IsCleared c b limit (accounts index.old) → HasRows index.old (sources_before_clearing (accounts index.old) c b) → out.new.items ≡ out.old.items ++ clearing_records c b) }
+    ensures taken { IfOk result (λ taken. (c : Chain) (b : BlockValue) → IsCleared c b limit (accounts index.old) → HasRows index.old (sources_before_clearing (accounts index.old) c b) → map clear_record taken.items ≡ clearing_records c b) }
     ensures texts { accounts index.new ≡ accounts index.old }
     ensures sets { IfOk result (λ taken. Sets (5 * length taken.items) index.old index.new) }
     ensures steps { IfOk result (λ taken. steps.new ≤ steps.old + 5 * length taken.items) }
     ensures keeps { Keeps index.old index.new }
 {
-    let taken = clear_accounts(index, alloc, limit, asked, steps)?;
+    let taken = clear_accounts(index, alloc, limit, steps)?;
     put_clears(taken.as_slice(), out)?;
     Ok(taken)
 }

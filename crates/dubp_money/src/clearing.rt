@@ -1,9 +1,9 @@
-ghost use Rattle.std.specs.Prelude.{◌≡◌, ℕ, ◌+◌, ◌*◌, ◌≤◌, ◌++◌, ◌∷◌, List, [], filter, length, not, map, OnOk, IfOk};
+ghost use Rattle.std.specs.Prelude.{◌≡◌, ℕ, ◌+◌, ◌*◌, ◌<◌, ◌≤◌, ◌++◌, ◌∷◌, List, [], filter, length, not, map, OnOk, IfOk, IfSome, IfNone};
 ghost use Rattle.dubp_sindex.specs.Accounts.{accounts as texts};
-ghost use Rattle.dubp_sindex.specs.Rows.{Entry, AreRows, is_of, of_account};
-ghost use Rattle.dubp_money_steps.specs.Clearing.{OthersHave, kept, taken as cleared, clear_record};
+ghost use Rattle.dubp_sindex.specs.Rows.{Entry, AreRows, is_of, of_account, units_in};
+ghost use Rattle.dubp_money_steps.specs.Clearing.{HasEnough, kept, taken as cleared, clear_record};
 ghost use Rattle.dubp_money.specs.Index.{HasRows, Keeps, Sets};
-ghost use Rattle.dubp_money.specs.Writing.{IsSettled};
+ghost use Rattle.dubp_money.specs.Writing.{AreCleared};
 
 use crate::spending::spend_source;
 use dubp_atoms::{NoMemory, Steps};
@@ -45,48 +45,70 @@ fn take_account<L: StepBook>(
     Ok(())
 }
 
-// Takes the sources of the account where its balance is below the limit.
-fn settle<L: StepBook>(
-    index: &mut SIndex,
-    alloc: Global,
-    limit: u128,
-    account: usize,
-    taken: &mut Vec<(SourceId, SourceRow)>,
-    steps: &mut Steps<L>,
-) -> Result<(), NoMemory>
-    ensures settled { OnOk result ((rows : List Entry) (asked : List ℕ) → AreRows rows → IsSettled (HasRows index.old) limit rows taken.old.items asked → IsSettled (HasRows index.new) limit rows taken.new.items (asked ++ account ∷ [])) }
-    ensures sets { OnOk result ((n : ℕ) × (length taken.new.items ≡ length taken.old.items + n) × Sets (5 * n) index.old index.new) }
-    ensures steps { OnOk result (steps.new + 5 * length taken.old.items ≤ steps.old + 5 * length taken.new.items) }
-    ensures keeps { Keeps index.old index.new }
-    ensures texts { texts index.new ≡ texts index.old }
+// The account with the least balance, where that is below the limit.
+fn lowest_below(index: &SIndex, limit: u128) -> Option<usize>
+    ensures found { (rows : List Entry) → HasRows index.now rows → IfSome result (λ account. units_in account rows < limit) }
+    ensures none { (rows : List Entry) → HasRows index.now rows → IfNone result (HasEnough limit rows) }
 {
-    if limit <= index.balance(account) {
-        return Ok(());
+    match index.lowest() {
+        Some(lowest) => account_below(lowest, limit),
+        None => None,
     }
-    take_account(index, alloc, account, taken, steps)?;
-    Ok(())
 }
 
-/// Takes the sources of each of the accounts whose balance is below the limit, in the order of making. What it hands out is all
-/// that has too little, where each account that is not among these has the limit. At most five sets a source.
-pub fn clear_accounts<L: StepBook>(
+// The account of the balance, where that is below the limit.
+fn account_below(lowest: (u128, usize), limit: u128) -> Option<usize>
+    ensures found { IfSome result (λ account. (account ≡ lowest.1) × (lowest.0 < limit)) }
+    ensures none { IfNone result (limit ≤ lowest.0) }
+{
+    if limit <= lowest.0 {
+        return None;
+    }
+    Some(lowest.1)
+}
+
+// Takes all sources of the account with the least balance, as long as that is below the limit.
+fn take_little<L: StepBook>(
     index: &mut SIndex,
     alloc: Global,
     limit: u128,
-    accounts: &[usize],
     steps: &mut Steps<L>,
 ) -> Result<Vec<(SourceId, SourceRow)>, NoMemory>
-    ensures left { OnOk result ((rows : List Entry) → AreRows rows → OthersHave limit accounts.now rows → HasRows index.old rows → HasRows index.new (kept limit rows)) }
-    ensures taken { IfOk result (λ taken. (rows : List Entry) → AreRows rows → OthersHave limit accounts.now rows → HasRows index.old rows → taken.items ≡ cleared limit rows) }
+    ensures cleared { IfOk result (λ taken. (rows : List Entry) → AreRows rows → HasRows index.old rows → AreCleared (HasRows index.new) limit rows taken.items) }
     ensures sets { IfOk result (λ taken. Sets (5 * length taken.items) index.old index.new) }
     ensures steps { IfOk result (λ taken. steps.new ≤ steps.old + 5 * length taken.items) }
     ensures keeps { Keeps index.old index.new }
     ensures texts { texts index.new ≡ texts index.old }
 {
     let mut taken = Vec::new(alloc);
-    for account in accounts {
-        settle(index, alloc, limit, *account, &mut taken, steps)?;
+    // what the index has is no value, so no measure speaks of it; there are fewer accounts than turns
+    'accounts: for _ in 0..u64::MAX {
+        let Some(account) = lowest_below(index, limit) else {
+            return Ok(taken);
+        };
+        take_account(index, alloc, account, &mut taken, steps)?;
     }
+    Err(NoMemory)
+}
+
+/// Takes the sources of each account whose balance is below the limit, and hands them out in the order of making. The accounts are
+/// found by their balances, the least first, so none that has the limit is looked at but one. At most five sets a source.
+///
+/// On `NoMemory` some of them may be taken; what is marked stays so.
+pub fn clear_accounts<L: StepBook>(
+    index: &mut SIndex,
+    alloc: Global,
+    limit: u128,
+    steps: &mut Steps<L>,
+) -> Result<Vec<(SourceId, SourceRow)>, NoMemory>
+    ensures left { OnOk result ((rows : List Entry) → AreRows rows → HasRows index.old rows → HasRows index.new (kept limit rows)) }
+    ensures taken { IfOk result (λ taken. (rows : List Entry) → AreRows rows → HasRows index.old rows → taken.items ≡ cleared limit rows) }
+    ensures sets { IfOk result (λ taken. Sets (5 * length taken.items) index.old index.new) }
+    ensures steps { IfOk result (λ taken. steps.new ≤ steps.old + 5 * length taken.items) }
+    ensures keeps { Keeps index.old index.new }
+    ensures texts { texts index.new ≡ texts index.old }
+{
+    let mut taken = take_little(index, alloc, limit, steps)?;
     taken.sort_unstable_by_key(|entry| entry.1.order);
     Ok(taken)
 }

@@ -3,25 +3,30 @@
 //! `Sources` stands for the chain itself, over the index of `dubp_sindex`: the rows that each block leaves, with the accounts as
 //! the index numbers them. While a block is written, contracts see the index by the rows that it has (`specs/Index`). First
 //! transactions spend and make, one after the other, and dividends are made behind them (`spend_and_make`); then the accounts
-//! that have too little are cleared (`clear_block`), and the index stands for the chain with the block. Every call that is
-//! refused keeps what is marked, so that `back` undoes all of it. `Money` holds the sources with the tables that stand beside
-//! them. The chapters on money and records in `docs/protocol` say the same in words.
+//! that have too little are cleared (`clear_block`), and the index stands for the chain with the block. `Money` holds the sources
+//! with the tables that stand beside them, the hashes of transactions, the totals and the facts, and its `apply` writes a block
+//! into all of them. Every call that is refused keeps what is marked, so that `back` undoes all of it. The chapters on money and
+//! records in `docs/protocol` say the same in words.
 //!
 //! ```text
-//! sources.mark()?;
-//! spend_and_make(&mut sources.index, alloc, &block, time, payment, &members, made, &mut out, &mut steps)?;
-//! let cleared = clear_block(&mut sources.index, alloc, limit, &accounts, &mut out, &mut steps)?;
+//! money.mark()?;
+//! money.apply(alloc, &block, &head, &members, &hashes, &mut records, &mut steps)?;
+//! assert!(money.has_transaction(hashes[0].whole));
 //! ```
 #![tactic(auto)]
 
+mod applying;
+mod beside;
 mod blocks;
 mod clearing;
+mod counting;
 mod making;
 mod money;
 mod paying;
 mod sources;
 mod spending;
 mod transactions;
+mod writing;
 
 pub use blocks::{clear_block, pay, spend_and_make};
 pub use clearing::{clear_accounts, put_clears};

@@ -35,18 +35,16 @@ impl Definition<Block, (), Totals> for TotalsOf {
     ghost at = { totals_at };
 }
 
-type HashesAndTotals = Both<
-    Block,
-    Leaf<Block, Hash, (), TransactionsOf>,
-    Leaf<Block, (), Totals, TotalsOf>,
->;
+pub(crate) type HashTable = Leaf<Block, Hash, (), TransactionsOf>;
+
+pub(crate) type HashesAndTotals = Both<Block, HashTable, Leaf<Block, (), Totals, TotalsOf>>;
 
 type MoneyTables = Three<Block, Sources, HashesAndTotals, Facts>;
 
 /// The money of a chain: its unspent sources, the hashes of its transactions and its totals, and its facts.
 #[derive(Drop)]
 pub struct Money {
-    tables: MoneyTables,
+    pub(crate) tables: MoneyTables,
 }
 
 impl Tables<Block> for Money {

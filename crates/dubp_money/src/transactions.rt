@@ -1,37 +1,38 @@
-ghost use Rattle.std.specs.Prelude.{◌≡◌, ℕ, ◌+◌, ◌*◌, ◌^◌, ◌≤◌, ◌++◌, List, length, OnOk, IfOk};
+ghost use Rattle.std.specs.Prelude.{◌≡◌, ℕ, ◌+◌, ◌*◌, ◌^◌, ◌≤◌, ◌++◌, List, map, length, OnOk, IfOk};
 ghost use Rattle.std.specs.List.{flat_map};
 ghost use Rattle.dubp_block.specs.Text.{IsBlock};
 ghost use Rattle.dubp_cond.specs.Transactions.{IsTx};
-ghost use Rattle.dubp_chain.specs.Money.{outputs_made};
+ghost use Rattle.dubp_docs.specs.declared.hashing.TxHashes.{TxHashes as TxHashesValue};
+ghost use Rattle.dubp_chain.specs.Money.{hashes_in};
 ghost use Rattle.dubp_sindex.specs.Accounts.{accounts};
 ghost use Rattle.dubp_sindex.specs.Rows.{Entry, AreRows};
 ghost use Rattle.dubp_money_steps.specs.Left.{HasTexts};
 ghost use Rattle.dubp_money.specs.Index.{HasRows, Keeps, Sets};
 ghost use Rattle.dubp_money.specs.Texts.{Grows};
 ghost use Rattle.dubp_money.specs.Writing.{without_inputs};
-ghost use Rattle.dubp_money.specs.Making.{CanFollow, with_made};
-ghost use Rattle.dubp_money.specs.Transactions.{all_outputs, all_written, records_of};
+ghost use Rattle.dubp_money.specs.Making.{outputs_at, CanFollow, with_made};
+ghost use Rattle.dubp_money.specs.Transactions.{all_outputs, all_written, records_at, records_of};
 
 use crate::making::{make_outputs, put_makes};
 use crate::spending::{put_spends, spend_inputs};
-use dubp_atoms::{Currency, NoMemory, Steps};
+use dubp_atoms::{Hash, NoMemory, Steps};
 use dubp_block::Block;
 use dubp_cond::Tx;
-use dubp_docs::tx_hashes;
+use dubp_docs::TxHashes;
 use dubp_sindex::SIndex;
 use dubp_validity::Record;
 use std::alloc::Global;
 use std::sync::ledger::Ledger as StepBook;
 
-/// What a transaction of this currency, at this time in seconds, spends and makes, with its records. Its outputs stand from
-/// this place on in the order of making. At most five sets a record.
+/// What a transaction of this hash, at this time in seconds, spends and makes, with its records. Its outputs stand from this
+/// place on in the order of making. At most five sets a record.
 ///
 /// On `NoMemory` some of it may be written; what is marked stays so.
 pub fn write_transaction<L: StepBook>(
     index: &mut SIndex,
     alloc: Global,
-    currency: &Currency,
     tx: &Tx,
+    hash: &Hash,
     time: u64,
     order: u64,
     out: &mut Vec<Record>,
@@ -39,36 +40,38 @@ pub fn write_transaction<L: StepBook>(
 ) -> Result<(), NoMemory>
     requires tx { IsTx tx.now }
     requires few { order + length tx.now.outputs ≤ 2 ^ 53 }
-    ensures at { OnOk result ((rows : List Entry) → AreRows rows → CanFollow (without_inputs tx.now.inputs rows) order (outputs_made time currency.now tx.now) → HasRows index.old rows → HasRows index.new (with_made (accounts index.new) (without_inputs tx.now.inputs rows) order (outputs_made time currency.now tx.now))) }
-    ensures has { OnOk result (HasTexts (accounts index.new) (outputs_made time currency.now tx.now)) }
+    ensures at { OnOk result ((rows : List Entry) → AreRows rows → CanFollow (without_inputs tx.now.inputs rows) order (outputs_at time hash.now tx.now) → HasRows index.old rows → HasRows index.new (with_made (accounts index.new) (without_inputs tx.now.inputs rows) order (outputs_at time hash.now tx.now))) }
+    ensures has { OnOk result (HasTexts (accounts index.new) (outputs_at time hash.now tx.now)) }
     ensures texts { Grows (accounts index.old) (accounts index.new) }
-    ensures records { OnOk result (out.new.items ≡ out.old.items ++ records_of time currency.now tx.now) }
+    ensures records { OnOk result (out.new.items ≡ out.old.items ++ records_at time hash.now tx.now) }
     ensures sets { OnOk result (Sets (5 * (length tx.now.inputs + length tx.now.outputs)) index.old index.new) }
     ensures steps { OnOk result (steps.new ≤ steps.old + 5 * (length tx.now.inputs + length tx.now.outputs)) }
     ensures keeps { Keeps index.old index.new }
 {
-    let hash = tx_hashes(currency, tx).whole;
     put_spends(tx, out)?;
-    put_makes(alloc, tx, &hash, out)?;
+    put_makes(alloc, tx, hash, out)?;
     spend_inputs(index, tx, steps)?;
-    make_outputs(index, tx, &hash, time, order, steps)?;
+    make_outputs(index, tx, hash, time, order, steps)?;
     Ok(())
 }
 
-/// What the transactions of the block, at this time in seconds, spend and make, one after the other, with their records. What
-/// they make stands from this place on in the order of making; the answer is the place behind it. At most five sets a record.
+/// What the transactions of the block, which have these hashes, spend and make at this time in seconds, one after the other, with
+/// their records. What they make stands from this place on in the order of making; the answer is the place behind it. At most five
+/// sets a record.
 ///
 /// On `NoMemory` some of it may be written; what is marked stays so.
 pub fn write_transactions<L: StepBook>(
     index: &mut SIndex,
     alloc: Global,
     block: &Block,
+    hashes: &[TxHashes],
     time: u64,
     order: u64,
     out: &mut Vec<Record>,
     steps: &mut Steps<L>,
 ) -> Result<u64, NoMemory>
     requires block { IsBlock block.now }
+    requires hashes { map (λ (h : TxHashesValue). h.whole) hashes.now ≡ hashes_in block.now }
     requires few { order + length (all_outputs time block.now.currency block.now.transactions) ≤ 2 ^ 53 }
     ensures at { OnOk result ((rows : List Entry) → AreRows rows → CanFollow rows order (all_outputs time block.now.currency block.now.transactions) → HasRows index.old rows → HasRows index.new ((all_written (accounts index.new) time block.now.currency order rows block.now.transactions).1)) }
     ensures order { IfOk result (λ n. n ≡ order + length (all_outputs time block.now.currency block.now.transactions)) }
@@ -79,9 +82,12 @@ pub fn write_transactions<L: StepBook>(
     ensures steps { OnOk result (steps.new ≤ steps.old + 5 * length (flat_map (records_of time block.now.currency) block.now.transactions)) }
     ensures keeps { Keeps index.old index.new }
 {
+    let txs = block.transactions.as_slice();
     let mut place = order;
-    for tx in block.transactions.as_slice() {
-        write_transaction(index, alloc, &block.currency, tx, time, place, out, steps)?;
+    for i in 0..txs.len() {
+        let tx = &txs[i];
+        let hash = &hashes[i].whole;
+        write_transaction(index, alloc, tx, hash, time, place, out, steps)?;
         place += tx.outputs.len() as u64;
     }
     Ok(place)

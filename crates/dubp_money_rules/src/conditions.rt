@@ -27,7 +27,7 @@ use std::alloc::Global;
 /// When the unspent source of the chain that the input spends was made, in seconds, and its condition. None where there is none.
 ///
 /// `NoMemory` where there is none for the condition.
-pub fn condition_of_source(
+fn condition_of_source(
     alloc: Global,
     sources: &Sources,
     input: &Input,
@@ -61,7 +61,7 @@ fn condition_of_row(
 }
 
 /// The unlocks of the input at this place, which has one line of them.
-pub fn unlocks_at(tx: &Tx, place: usize) -> &[Unlock]
+fn unlocks_at(tx: &Tx, place: usize) -> &[Unlock]
     ensures { count_by (λ line. line.input == place) tx.now.unlocks ≡ 1 → result.now ≡ unlocks_of tx.now place }
 {
     for line in tx.unlocks.as_slice() {
@@ -73,7 +73,7 @@ pub fn unlocks_at(tx: &Tx, place: usize) -> &[Unlock]
 }
 
 /// Whether the condition of a source made at `written` is true at `now` for these unlocks and issuers. Times are in seconds.
-pub fn is_true_at(cond: &Cond, unlocks: &[Unlock], issuers: &[Key], now: u64, written: u64) -> bool
+fn is_true_at(cond: &Cond, unlocks: &[Unlock], issuers: &[Key], now: u64, written: u64) -> bool
     ensures { written ≤ now → (IsTrue result ↔ IsTrueAt (record { unlocks = unlocks.now; issuers = issuers.now; now = now; written = written }) cond.now) }
 {
     written <= now && holds(cond, unlocks, issuers, now, written)

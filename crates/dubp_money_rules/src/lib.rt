@@ -16,7 +16,7 @@ mod sets;
 mod spending;
 mod times;
 
-pub use conditions::{condition_of_source, conditions_are_true, is_true_at, unlocks_at};
+pub use conditions::conditions_are_true;
 pub use hashes::{Transactions, transactions_are_new, tx_numbers};
 pub use inputs::{inputs_are_there, locktimes_have_ended};
 pub use outputs::output_bases_fit;

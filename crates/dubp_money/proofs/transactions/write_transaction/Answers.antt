@@ -1,8 +1,5 @@
-use Rattle.std.proofs.Common.{◌+◌, ◌*◌, length, sym, subst, arith}
-use Rattle.dubp_sindex.specs.Accounts.{accounts}
-use Rattle.dubp_money.specs.Index.{HasRows}
+use Rattle.std.proofs.Common.{◌+◌, ◌*◌, length, arith}
 use Rattle.dubp_money.specs.Writing.{without_inputs}
-use Rattle.dubp_money.specs.Making.{outputs_at, CanFollow, with_made}
 use Rattle.dubp_money.proofs.Kept.{keeps_on, sets_on}
 use Rattle.dubp_money.proofs.Rows.{rows-filter}
 use Rattle.dubp_money.proofs.transactions.write_transaction.Goals as goal
@@ -11,11 +8,7 @@ pub returns-in_err-make_outputs-clause-keeps : goal.returns-in_err-make_outputs-
 returns-in_err-make_outputs-clause-keeps g c = keeps_on c.args.index.now c.spend_inputs.new.index c.make_outputs.new.index c.in_ok-spend_inputs.ensures.keeps c.in_err-make_outputs.ensures.keeps
 
 pub returns-clause-at : goal.returns-clause-at
-returns-clause-at g c = λ rows are can has.
-    let whole = c.tx_hashes-hash.ensures.whole in
-    let left = without_inputs c.args.tx.now.inputs rows in
-    subst (λ h. HasRows c.make_outputs.new.index (with_made (accounts c.make_outputs.new.index) left c.args.order (outputs_at c.args.time h c.args.tx.now))) whole
-    (c.in_ok-make_outputs.ensures.at left (rows-filter _ rows are) (subst (λ h. CanFollow left c.args.order (outputs_at c.args.time h c.args.tx.now)) (sym whole) can) (c.in_ok-spend_inputs.ensures.at rows are has))
+returns-clause-at g c = λ rows are can has. c.in_ok-make_outputs.ensures.at (without_inputs c.args.tx.now.inputs rows) (rows-filter _ rows are) can (c.in_ok-spend_inputs.ensures.at rows are has)
 
 pub returns-clause-sets : goal.returns-clause-sets
 returns-clause-sets g c =

@@ -1,18 +1,22 @@
-use Rattle.std.proofs.Common.{◌≡◌, ◌+◌, ◌*◌, ◌<◌, ◌++◌, take, get_or, length, ap, sym, ◌∙◌, subst, append_assoc, append-nil, length-append, arith}
+use Rattle.std.proofs.Common.{List, ◌≡◌, ◌+◌, ◌*◌, ◌<◌, ◌++◌, take, get_or, length, ap, sym, ◌∙◌, subst, append_assoc, append-nil, length-append, arith}
 use Rattle.std.specs.List.{flat_map}
 use Rattle.dubp_docs.specs.Spelling.{tx_hash}
 use Rattle.dubp_chain.specs.Money.{outputs_made}
 use Rattle.dubp_sindex.specs.Accounts.{accounts}
+use Rattle.dubp_sindex.specs.Rows.{Entry, AreRows}
+use Rattle.dubp_money_steps.specs.Left.{HasTexts}
 use Rattle.dubp_money.specs.Index.{HasRows}
-use Rattle.dubp_money.specs.Transactions.{all_outputs, records_of}
+use Rattle.dubp_money.specs.Writing.{without_inputs}
+use Rattle.dubp_money.specs.Making.{outputs_at, CanFollow, with_made}
+use Rattle.dubp_money.specs.Transactions.{all_outputs, records_at, records_of}
 use Rattle.dubp_money.proofs.Standing.{grows_none, grows_on}
 use Rattle.dubp_money.proofs.Kept.{keeps_none, keeps_on, sets_none, sets_on}
 use Rattle.dubp_money.proofs.Made.{outputs-length}
-use Rattle.dubp_money.proofs.Written.{written_next, outputs_few, flat_next, records-length, has_written}
+use Rattle.dubp_money.proofs.Written.{written_next, outputs_few, flat_next, records-length, has_written, hash_is}
 use Rattle.dubp_money.proofs.transactions.write_transactions.Goals as goal
 
-pub loop-tx-init : goal.loop-tx-init
-loop-tx-init g c = record {
+pub loop-i-init : goal.loop-i-init
+loop-i-init g c = record {
   at = λ rows are can has. has;
   has = tt;
   texts = grows_none (accounts c.args.index.now);
@@ -26,62 +30,66 @@ loop-tx-init g c = record {
 pub write_transaction-requires-clause-few : goal.write_transaction-requires-clause-few
 write_transaction-requires-clause-few g c =
     let txs = c.args.block.now.transactions in
-    let i = c.loop-tx.tx-index in
-    let tx = c.tx-item.result in
-    let within : i < length txs = omega (arith, ap length c.as_slice-tx-items.ensures) in
-    let is : tx ≡ get_or txs i tx = subst (λ l. tx ≡ get_or l i tx) c.as_slice-tx-items.ensures c.tx-item.is in
-    omega (arith, c.loop-tx.invariant.place, c.requires.few, outputs_few c.args.time c.args.block.now.currency txs i tx within is, outputs-length c.args.time (tx_hash c.args.block.now.currency tx) 0 tx.outputs)
+    let i = c.loop-i.i in
+    let tx = c.index-txs-i.result in
+    let within : i < length txs = omega (arith, ap length c.as_slice-txs.ensures) in
+    let is : tx ≡ get_or txs i tx = subst (λ l. tx ≡ get_or l i tx) c.as_slice-txs.ensures c.index-txs-i.is in
+    omega (arith, c.loop-i.invariant.place, c.requires.few, outputs_few c.args.time c.args.block.now.currency txs i tx within is, outputs-length c.args.time (tx_hash c.args.block.now.currency tx) 0 tx.outputs)
 
 pub returns-in_err-write_transaction-clause-keeps : goal.returns-in_err-write_transaction-clause-keeps
-returns-in_err-write_transaction-clause-keeps g c = keeps_on c.args.index.now c.loop-tx.index c.write_transaction.new.index c.loop-tx.invariant.keeps c.in_err-write_transaction.ensures.keeps
+returns-in_err-write_transaction-clause-keeps g c = keeps_on c.args.index.now c.loop-i.index c.write_transaction.new.index c.loop-i.invariant.keeps c.in_err-write_transaction.ensures.keeps
 
 pub overflow_add-place : goal.overflow_add-place
 overflow_add-place g c =
     let txs = c.args.block.now.transactions in
-    let i = c.loop-tx.tx-index in
-    let tx = c.tx-item.result in
-    let within : i < length txs = omega (arith, ap length c.as_slice-tx-items.ensures) in
-    let is : tx ≡ get_or txs i tx = subst (λ l. tx ≡ get_or l i tx) c.as_slice-tx-items.ensures c.tx-item.is in
-    omega (arith, c.len.ensures, c.loop-tx.invariant.place, c.requires.few, outputs_few c.args.time c.args.block.now.currency txs i tx within is, outputs-length c.args.time (tx_hash c.args.block.now.currency tx) 0 tx.outputs)
+    let i = c.loop-i.i in
+    let tx = c.index-txs-i.result in
+    let within : i < length txs = omega (arith, ap length c.as_slice-txs.ensures) in
+    let is : tx ≡ get_or txs i tx = subst (λ l. tx ≡ get_or l i tx) c.as_slice-txs.ensures c.index-txs-i.is in
+    omega (arith, c.len.ensures, c.loop-i.invariant.place, c.requires.few, outputs_few c.args.time c.args.block.now.currency txs i tx within is, outputs-length c.args.time (tx_hash c.args.block.now.currency tx) 0 tx.outputs)
 
-pub loop-tx-preserved : goal.loop-tx-preserved
-loop-tx-preserved g c =
+pub loop-i-preserved : goal.loop-i-preserved
+loop-i-preserved g c =
     let time = c.args.time in
     let currency = c.args.block.now.currency in
     let txs = c.args.block.now.transactions in
     let n = c.args.order in
-    let i = c.loop-tx.tx-index in
-    let tx = c.tx-item.result in
-    let within : i < length txs = omega (arith, ap length c.as_slice-tx-items.ensures) in
-    let is : tx ≡ get_or txs i tx = subst (λ l. tx ≡ get_or l i tx) c.as_slice-tx-items.ensures c.tx-item.is in
-    let texts = accounts c.loop-tx.index in
+    let i = c.loop-i.i in
+    let tx = c.index-txs-i.result in
+    let within : i < length txs = omega (arith, ap length c.as_slice-txs.ensures) in
+    let is : tx ≡ get_or txs i tx = subst (λ l. tx ≡ get_or l i tx) c.as_slice-txs.ensures c.index-txs-i.is in
+    let texts = accounts c.loop-i.index in
     let texts' = accounts c.write_transaction.new.index in
+    let hash = hash_is c.args.block.now c.args.hashes.now c.requires.hashes i tx c.index-hashes-i.result within is in
     let more = flat_next (records_of time currency) txs i tx within is in
     let counted : length (flat_map (records_of time currency) (take (i + 1) txs)) ≡ length (flat_map (records_of time currency) (take i txs)) + (length tx.inputs + length tx.outputs) =
     omega (arith, ap length more, length-append (flat_map (records_of time currency) (take i txs)) (records_of time currency tx), records-length time currency tx) in
     record {
       at = λ rows are can has.
-          written_next time currency (HasRows c.loop-tx.index) (HasRows c.write_transaction.new.index) texts texts' c.in_ok-write_transaction.ensures.texts rows n c.loop-tx.place txs i tx within is c.loop-tx.invariant.place
-          are can c.loop-tx.invariant.has (c.loop-tx.invariant.at rows are can has) c.in_ok-write_transaction.ensures.at;
-      has = has_written texts texts' c.in_ok-write_transaction.ensures.texts time currency txs i tx within is c.loop-tx.invariant.has c.in_ok-write_transaction.ensures.has;
-      texts = grows_on (accounts c.args.index.now) texts texts' c.loop-tx.invariant.texts c.in_ok-write_transaction.ensures.texts;
+          written_next time currency (HasRows c.loop-i.index) (HasRows c.write_transaction.new.index) texts texts' c.in_ok-write_transaction.ensures.texts rows n c.loop-i.place txs i tx within is c.loop-i.invariant.place
+          are can c.loop-i.invariant.has (c.loop-i.invariant.at rows are can has)
+          (subst (λ h. (xs : List Entry) → AreRows xs → CanFollow (without_inputs tx.inputs xs) c.loop-i.place (outputs_at time h tx) → HasRows c.loop-i.index xs → HasRows c.write_transaction.new.index (with_made texts' (without_inputs tx.inputs xs) c.loop-i.place (outputs_at time h tx)))
+          hash c.in_ok-write_transaction.ensures.at);
+      has = has_written texts texts' c.in_ok-write_transaction.ensures.texts time currency txs i tx within is c.loop-i.invariant.has (subst (λ h. HasTexts texts' (outputs_at time h tx)) hash c.in_ok-write_transaction.ensures.has);
+      texts = grows_on (accounts c.args.index.now) texts texts' c.loop-i.invariant.texts c.in_ok-write_transaction.ensures.texts;
       place =
           omega (
             arith,
             c.len.ensures,
-            c.loop-tx.invariant.place,
+            c.loop-i.invariant.place,
             ap length (flat_next (outputs_made time currency) txs i tx within is),
             length-append (all_outputs time currency (take i txs)) (outputs_made time currency tx),
             outputs-length time (tx_hash currency tx) 0 tx.outputs,
           );
       records =
           c.in_ok-write_transaction.ensures.records
-          ∙ ap (λ l. l ++ records_of time currency tx) c.loop-tx.invariant.records
+          ∙ ap (λ h. c.loop-i.out.items ++ records_at time h tx) hash
+          ∙ ap (λ l. l ++ records_of time currency tx) c.loop-i.invariant.records
           ∙ append_assoc c.args.out.now.items (flat_map (records_of time currency) (take i txs)) (records_of time currency tx)
           ∙ ap (λ l. c.args.out.now.items ++ l) (sym more);
       sets =
           sets_on (5 * length (flat_map (records_of time currency) (take i txs))) (5 * (length tx.inputs + length tx.outputs)) (5 * length (flat_map (records_of time currency) (take (i + 1) txs)))
-          c.args.index.now c.loop-tx.index c.write_transaction.new.index (omega (arith, counted)) c.loop-tx.invariant.sets c.in_ok-write_transaction.ensures.sets;
-      steps = omega (arith, counted, c.in_ok-write_transaction.ensures.steps, c.loop-tx.invariant.steps);
-      keeps = keeps_on c.args.index.now c.loop-tx.index c.write_transaction.new.index c.loop-tx.invariant.keeps c.in_ok-write_transaction.ensures.keeps;
+          c.args.index.now c.loop-i.index c.write_transaction.new.index (omega (arith, counted)) c.loop-i.invariant.sets c.in_ok-write_transaction.ensures.sets;
+      steps = omega (arith, counted, c.in_ok-write_transaction.ensures.steps, c.loop-i.invariant.steps);
+      keeps = keeps_on c.args.index.now c.loop-i.index c.write_transaction.new.index c.loop-i.invariant.keeps c.in_ok-write_transaction.ensures.keeps;
     }

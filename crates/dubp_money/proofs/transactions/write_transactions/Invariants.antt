@@ -9,14 +9,14 @@ use Rattle.dubp_money.specs.Making.{CanFollow}
 use Rattle.dubp_money.specs.Transactions.{all_outputs, all_written, records_of}
 use Rattle.dubp_money.proofs.transactions.write_transactions.Given as goal
 
-abbrev pub invariant-loop-tx : goal.invariant-loop-tx
-invariant-loop-tx g l = record {
-  at : (rows : List Entry) → AreRows rows → CanFollow rows l.fn.order (all_outputs l.fn.time l.fn.block.currency l.fn.block.transactions) → HasRows l.fn.index rows → HasRows l.index (all_written (accounts l.index) l.fn.time l.fn.block.currency l.fn.order rows (take l.tx-index l.fn.block.transactions)).1;
-  has : HasTexts (accounts l.index) (all_outputs l.fn.time l.fn.block.currency (take l.tx-index l.fn.block.transactions));
+abbrev pub invariant-loop-i : goal.invariant-loop-i
+invariant-loop-i g l = record {
+  at : (rows : List Entry) → AreRows rows → CanFollow rows l.fn.order (all_outputs l.fn.time l.fn.block.currency l.fn.block.transactions) → HasRows l.fn.index rows → HasRows l.index (all_written (accounts l.index) l.fn.time l.fn.block.currency l.fn.order rows (take l.i l.fn.block.transactions)).1;
+  has : HasTexts (accounts l.index) (all_outputs l.fn.time l.fn.block.currency (take l.i l.fn.block.transactions));
   texts : Grows (accounts l.fn.index) (accounts l.index);
-  place : l.place ≡ l.fn.order + length (all_outputs l.fn.time l.fn.block.currency (take l.tx-index l.fn.block.transactions));
-  records : l.out.items ≡ l.fn.out.items ++ flat_map (records_of l.fn.time l.fn.block.currency) (take l.tx-index l.fn.block.transactions);
-  sets : Sets (5 * length (flat_map (records_of l.fn.time l.fn.block.currency) (take l.tx-index l.fn.block.transactions))) l.fn.index l.index;
-  steps : l.steps ≤ l.fn.steps + 5 * length (flat_map (records_of l.fn.time l.fn.block.currency) (take l.tx-index l.fn.block.transactions));
+  place : l.place ≡ l.fn.order + length (all_outputs l.fn.time l.fn.block.currency (take l.i l.fn.block.transactions));
+  records : l.out.items ≡ l.fn.out.items ++ flat_map (records_of l.fn.time l.fn.block.currency) (take l.i l.fn.block.transactions);
+  sets : Sets (5 * length (flat_map (records_of l.fn.time l.fn.block.currency) (take l.i l.fn.block.transactions))) l.fn.index l.index;
+  steps : l.steps ≤ l.fn.steps + 5 * length (flat_map (records_of l.fn.time l.fn.block.currency) (take l.i l.fn.block.transactions));
   keeps : Keeps l.fn.index l.index;
 }

@@ -1,0 +1,99 @@
+ghost use Rattle.std.specs.Prelude.{◌≡◌, ℕ, ◌+◌, ◌*◌, ◌≤◌, ◌∷◌, ◌++◌, List, map, length, OnOk, OnErr};
+ghost use Rattle.dubp_undo.specs.States.{AtMostMore};
+ghost use Rattle.dubp_block.specs.Text.{IsBlock};
+ghost use Rattle.dubp_docs.specs.declared.hashing.TxHashes.{TxHashes as TxHashesValue};
+ghost use Rattle.dubp_chain.specs.Chains.{Chain};
+ghost use Rattle.dubp_chain.specs.Money.{hashes_in};
+ghost use Rattle.dubp_money.specs.Tables.{totals_of};
+ghost use Rattle.dubp_money.specs.Applied.{IsApplied, ArePaid, money_records};
+
+use crate::money::{Money, Totals};
+use crate::writing::write_all;
+use dubp_atoms::{Key, NoMemory, Steps};
+use dubp_block::Block;
+use dubp_chain::Head;
+use dubp_docs::TxHashes;
+use dubp_undo::Tables;
+use dubp_validity::Record;
+use std::alloc::Global;
+use std::sync::ledger::Ledger as StepBook;
+
+/// The totals of the empty chain.
+const NO_TOTALS: Totals = Totals {
+    issued: 0,
+    unspent: 0,
+    cleared: 0,
+    made: 0,
+};
+
+impl Money {
+    /// Writes the block, whose head this is, behind the chain: its transactions, the dividends of the members, what is cleared, the
+    /// totals, the hashes and the facts. Appends its records of money in the order of the protocol.
+    ///
+    /// The block is in range, and `hashes` are those of its transactions, in order. `members` are those of the chain with the block,
+    /// by key, where the head has a dividend; else they are not looked at. It adds at most eight steps for each of these records, and
+    /// eight. What is marked stays so.
+    ///
+    /// `NoMemory` where there is no room, where more than 2^53 sources would be made with a dividend for each of `members`, and where units
+    /// or totals would leave 128 bits: the records are as before then, and what was written until then stands in the tables until they go
+    /// back to what was marked.
+    pub fn apply<L: StepBook>(
+        &mut self,
+        alloc: Global,
+        block: &Block,
+        head: &Head,
+        members: &[Key],
+        hashes: &[TxHashes],
+        out: &mut Vec<Record>,
+        steps: &mut Steps<L>,
+    ) -> Result<(), NoMemory>
+        requires block { IsBlock block.now }
+        requires hashes { map (λ (h : TxHashesValue). h.whole) hashes.now ≡ hashes_in block.now }
+        ensures at { OnOk result ((c : Chain) → IsApplied c block.now head.now → ArePaid (block.now ∷ c) head.now members.now → ⟦<Money as Tables<Block>>⟧.at self.old c → ⟦<Money as Tables<Block>>⟧.at self.new (block.now ∷ c)) }
+        ensures records { OnOk result ((c : Chain) → IsApplied c block.now head.now → ArePaid (block.now ∷ c) head.now members.now → ⟦<Money as Tables<Block>>⟧.at self.old c → out.new.items ≡ out.old.items ++ money_records c block.now) }
+        ensures marked { (c : Chain) → ⟦<Money as Tables<Block>>⟧.marked self.old c → ⟦<Money as Tables<Block>>⟧.marked self.new c }
+        ensures waits { (o : Chain) (i : ℕ) → ⟦<Money as Tables<Block>>⟧.waits self.old o i → ⟦<Money as Tables<Block>>⟧.waits self.new o i }
+        ensures ahead { ⟦<Money as Tables<Block>>⟧.ahead_costs self.new ≡ ⟦<Money as Tables<Block>>⟧.ahead_costs self.old }
+        ensures depth { length (⟦<Money as Tables<Block>>⟧.costs self.new) ≡ length (⟦<Money as Tables<Block>>⟧.costs self.old) }
+        ensures costs { OnOk result ((c : Chain) → IsApplied c block.now head.now → ArePaid (block.now ∷ c) head.now members.now → ⟦<Money as Tables<Block>>⟧.at self.old c → AtMostMore (8 * length (money_records c block.now) + 8) (⟦<Money as Tables<Block>>⟧.costs self.old) (⟦<Money as Tables<Block>>⟧.costs self.new)) }
+        ensures steps { OnOk result ((c : Chain) → IsApplied c block.now head.now → ArePaid (block.now ∷ c) head.now members.now → ⟦<Money as Tables<Block>>⟧.at self.old c → steps.new ≤ steps.old + (8 * length (money_records c block.now) + 8)) }
+        ensures refused { OnErr result (out.new.items ≡ out.old.items) }
+    {
+        let before = self.totals_so_far();
+        let mut records = Vec::new(alloc);
+        let tables = &mut self.tables;
+        write_all(
+            &mut tables.first,
+            &mut tables.second,
+            &mut tables.third,
+            alloc,
+            block,
+            head,
+            members,
+            hashes,
+            before,
+            &mut records,
+            steps,
+        )?;
+        append(&mut records, out)?;
+        Ok(())
+    }
+
+    /// The totals, each of which is 0 where the chain is empty.
+    fn totals_so_far(&self) -> Totals
+        ensures { (c : Chain) → ⟦<Money as Tables<Block>>⟧.at self.now c → result ≡ totals_of c }
+    {
+        match self.totals() {
+            Some(totals) => totals,
+            None => NO_TOTALS,
+        }
+    }
+}
+
+/// Moves the records behind those that are there.
+fn append(records: &mut Vec<Record>, out: &mut Vec<Record>) -> Result<(), NoMemory>
+    ensures appended { OnOk result (out.new.items ≡ out.old.items ++ records.old.items) }
+    ensures refused { OnErr result (out.new.items ≡ out.old.items) }
+{
+    out.append(records).map_err(|_| NoMemory)
+}

@@ -1,0 +1,245 @@
+ghost use Rattle.std.specs.Prelude.{◌≡◌, ℕ, ◌+◌, ◌*◌, ◌≤◌, ◌∷◌, ◌++◌, List, Some, map, length, OnOk, IfOk};
+ghost use Rattle.dubp_atoms.specs.Same.{Text};
+ghost use Rattle.dubp_undo.specs.States.{states, AtMostMore};
+ghost use Rattle.dubp_block.specs.Text.{IsBlock};
+ghost use Rattle.dubp_block.specs.declared.block.Block.{Block as BlockValue};
+ghost use Rattle.dubp_docs.specs.declared.hashing.TxHashes.{TxHashes as TxHashesValue};
+ghost use Rattle.dubp_chain.specs.Chains.{Chain};
+ghost use Rattle.dubp_chain.specs.Money.{hashes_in, made_sources, dividends_at};
+ghost use Rattle.dubp_facts.specs.Facts.{IsNext};
+ghost use Rattle.dubp_sindex.specs.Accounts.{accounts};
+ghost use Rattle.dubp_money_steps.specs.Steps.{cleared_units_by};
+ghost use Rattle.dubp_money_steps.specs.Left.{sources_left};
+ghost use Rattle.dubp_money.specs.Index.{HasRows, Keeps, Sets};
+ghost use Rattle.dubp_money.specs.Texts.{Grows, Fits};
+ghost use Rattle.dubp_money.specs.Blocks.{paid};
+ghost use Rattle.dubp_money.specs.Tables.{totals_of};
+ghost use Rattle.dubp_money.specs.Applied.{IsApplied, ArePaid, Follows, money_records};
+
+use crate::beside::write_beside;
+use crate::blocks::{clear_block, spend_and_make};
+use crate::counting::{count_made, sum_of, units, units_of};
+use crate::money::{HashesAndTotals, Totals};
+use crate::paying::Payment;
+use crate::sources::Sources;
+use dubp_atoms::{Key, NoMemory, Steps};
+use dubp_block::Block;
+use dubp_chain::Head;
+use dubp_docs::TxHashes;
+use dubp_facts::Facts;
+use dubp_sindex::{SIndex, SourceRows};
+use dubp_undo::Tables;
+use dubp_validity::Record;
+use std::alloc::Global;
+use std::sync::ledger::Ledger as StepBook;
+
+/// How many sources the chain with a block made, and the units that the block cleared.
+#[derive(Clone, Copy, Debug, PartialEq, Eq)]
+pub(crate) struct Written {
+    pub made: u64,
+    pub cleared: u128,
+}
+
+/// What the block, whose head this is, pays to each member.
+fn payment_of(block: &Block, head: &Head) -> Option<Payment>
+    ensures { (keys : List Text) → paid result keys ≡ dividends_at block.now.number (Some head.now) keys }
+{
+    match head.ud {
+        Some(amount) => {
+            Some(Payment {
+                amount,
+                base: head.unit_base,
+                number: block.number,
+                time: head.median_time,
+            })
+        }
+        None => None,
+    }
+}
+
+/// Writes the block, whose head this is, into the index of sources, and appends its records of money. At most five sets a record.
+///
+/// `made` is how many sources the chain made.
+fn write_index<L: StepBook>(
+    index: &mut SIndex,
+    alloc: Global,
+    block: &Block,
+    head: &Head,
+    members: &[Key],
+    hashes: &[TxHashes],
+    made: u64,
+    out: &mut Vec<Record>,
+    steps: &mut Steps<L>,
+) -> Result<Written, NoMemory>
+    requires block { IsBlock block.now }
+    requires hashes { map (λ (h : TxHashesValue). h.whole) hashes.now ≡ hashes_in block.now }
+    ensures at { OnOk result ((c : Chain) → Follows c block.now head.now members.now made → Fits (accounts index.old) c → HasRows index.old (sources_left (accounts index.old) c) → ⟦<SIndex as Tables<SourceRows>>⟧.at index.new (states (sources_left (accounts index.new)) (block.now ∷ c))) }
+    ensures fits { OnOk result ((c : Chain) → Follows c block.now head.now members.now made → Fits (accounts index.old) c → Fits (accounts index.new) (block.now ∷ c)) }
+    ensures records { OnOk result ((c : Chain) → Follows c block.now head.now members.now made → Fits (accounts index.old) c → HasRows index.old (sources_left (accounts index.old) c) → out.new.items ≡ out.old.items ++ money_records c block.now) }
+    ensures made { IfOk result (λ w. (c : Chain) → Follows c block.now head.now members.now made → w.made ≡ length (made_sources (block.now ∷ c))) }
+    ensures cleared { IfOk result (λ w. (c : Chain) → Follows c block.now head.now members.now made → Fits (accounts index.old) c → HasRows index.old (sources_left (accounts index.old) c) → w.cleared ≡ cleared_units_by c block.now) }
+    ensures sets { OnOk result ((c : Chain) → Follows c block.now head.now members.now made → Fits (accounts index.old) c → HasRows index.old (sources_left (accounts index.old) c) → Sets (5 * length (money_records c block.now)) index.old index.new) }
+    ensures steps { OnOk result ((c : Chain) → Follows c block.now head.now members.now made → Fits (accounts index.old) c → HasRows index.old (sources_left (accounts index.old) c) → steps.new ≤ steps.old + 5 * length (money_records c block.now)) }
+    ensures texts { Grows (accounts index.old) (accounts index.new) }
+    ensures keeps { Keeps index.old index.new }
+{
+    let payment = payment_of(block, head);
+    let behind = count_made(block, payment, members, made)?;
+    let limit = units(100, head.unit_base)?;
+    spend_and_make(
+        index,
+        alloc,
+        block,
+        hashes,
+        head.median_time,
+        payment,
+        members,
+        made,
+        out,
+        steps,
+    )?;
+    let taken = clear_block(index, alloc, limit, out, steps)?;
+    let cleared = units_of(taken.as_slice())?;
+    Ok(Written {
+        made: behind,
+        cleared,
+    })
+}
+
+/// The same in the tables of the sources. What is marked stays so.
+fn write_sources<L: StepBook>(
+    sources: &mut Sources,
+    alloc: Global,
+    block: &Block,
+    head: &Head,
+    members: &[Key],
+    hashes: &[TxHashes],
+    made: u64,
+    out: &mut Vec<Record>,
+    steps: &mut Steps<L>,
+) -> Result<Written, NoMemory>
+    requires block { IsBlock block.now }
+    requires hashes { map (λ (h : TxHashesValue). h.whole) hashes.now ≡ hashes_in block.now }
+    ensures at { OnOk result ((c : Chain) → Follows c block.now head.now members.now made → ⟦<Sources as Tables<Block>>⟧.at sources.old c → ⟦<Sources as Tables<Block>>⟧.at sources.new (block.now ∷ c)) }
+    ensures records { OnOk result ((c : Chain) → Follows c block.now head.now members.now made → ⟦<Sources as Tables<Block>>⟧.at sources.old c → out.new.items ≡ out.old.items ++ money_records c block.now) }
+    ensures made { IfOk result (λ w. (c : Chain) → Follows c block.now head.now members.now made → w.made ≡ length (made_sources (block.now ∷ c))) }
+    ensures cleared { IfOk result (λ w. (c : Chain) → Follows c block.now head.now members.now made → ⟦<Sources as Tables<Block>>⟧.at sources.old c → w.cleared ≡ cleared_units_by c block.now) }
+    ensures marked { (c : Chain) → ⟦<Sources as Tables<Block>>⟧.marked sources.old c → ⟦<Sources as Tables<Block>>⟧.marked sources.new c }
+    ensures waits { (o : Chain) (i : ℕ) → ⟦<Sources as Tables<Block>>⟧.waits sources.old o i → ⟦<Sources as Tables<Block>>⟧.waits sources.new o i }
+    ensures ahead { ⟦<Sources as Tables<Block>>⟧.ahead_costs sources.new ≡ ⟦<Sources as Tables<Block>>⟧.ahead_costs sources.old }
+    ensures depth { length (⟦<Sources as Tables<Block>>⟧.costs sources.new) ≡ length (⟦<Sources as Tables<Block>>⟧.costs sources.old) }
+    ensures costs { OnOk result ((c : Chain) → Follows c block.now head.now members.now made → ⟦<Sources as Tables<Block>>⟧.at sources.old c → AtMostMore (5 * length (money_records c block.now)) (⟦<Sources as Tables<Block>>⟧.costs sources.old) (⟦<Sources as Tables<Block>>⟧.costs sources.new)) }
+    ensures steps { OnOk result ((c : Chain) → Follows c block.now head.now members.now made → ⟦<Sources as Tables<Block>>⟧.at sources.old c → steps.new ≤ steps.old + 5 * length (money_records c block.now)) }
+{
+    let written = write_index(
+        &mut sources.index,
+        alloc,
+        block,
+        head,
+        members,
+        hashes,
+        made,
+        out,
+        steps,
+    )?;
+    Ok(written)
+}
+
+/// The totals of a chain with a block, whose head this is, from the units that the chain cleared and what the block wrote.
+///
+/// `NoMemory` where they are out of their range, as those of no chain are.
+fn totals_with(before: u128, head: &Head, written: Written) -> Result<Totals, NoMemory>
+    ensures issued { IfOk result (λ t. t.issued ≡ head.now.mass) }
+    ensures whole { IfOk result (λ t. head.now.mass ≡ t.unspent + t.cleared) }
+    ensures cleared { IfOk result (λ t. t.cleared ≡ before + written.cleared) }
+    ensures made { IfOk result (λ t. t.made ≡ written.made) }
+{
+    let cleared = sum_of(before, written.cleared)?;
+    match head.mass.checked_sub(cleared) {
+        Some(unspent) => {
+            Ok(Totals {
+                issued: head.mass,
+                unspent,
+                cleared,
+                made: written.made,
+            })
+        }
+        None => Err(NoMemory),
+    }
+}
+
+/// Writes the block, whose head this is, into the facts.
+fn write_facts<L: StepBook>(
+    facts: &mut Facts,
+    block: &Block,
+    head: &Head,
+    steps: &mut Steps<L>,
+) -> Result<(), NoMemory>
+    ensures at { OnOk result ((c : Chain) → ⟦<Facts as Tables<Block>>⟧.at facts.old c → IsNext c block.now head.now → ⟦<Facts as Tables<Block>>⟧.at facts.new (block.now ∷ c)) }
+    ensures marked { (c : Chain) → ⟦<Facts as Tables<Block>>⟧.marked facts.old c → ⟦<Facts as Tables<Block>>⟧.marked facts.new c }
+    ensures waits { (o : Chain) (i : ℕ) → ⟦<Facts as Tables<Block>>⟧.waits facts.old o i → ⟦<Facts as Tables<Block>>⟧.waits facts.new o i }
+    ensures ahead { ⟦<Facts as Tables<Block>>⟧.ahead_costs facts.new ≡ ⟦<Facts as Tables<Block>>⟧.ahead_costs facts.old }
+    ensures depth { length (⟦<Facts as Tables<Block>>⟧.costs facts.new) ≡ length (⟦<Facts as Tables<Block>>⟧.costs facts.old) }
+    ensures costs { OnOk result (AtMostMore 2 (⟦<Facts as Tables<Block>>⟧.costs facts.old) (⟦<Facts as Tables<Block>>⟧.costs facts.new)) }
+    ensures steps { OnOk result (steps.new ≤ steps.old + 2) }
+{
+    facts.laws();
+    facts.write(block, head, steps)?;
+    Ok(())
+}
+
+/// Writes the block, whose head this is, into the sources, the tables beside them and the facts, and appends its records of money.
+///
+/// `before` are the totals of the chain. What is marked stays so.
+pub(crate) fn write_all<L: StepBook>(
+    sources: &mut Sources,
+    beside: &mut HashesAndTotals,
+    facts: &mut Facts,
+    alloc: Global,
+    block: &Block,
+    head: &Head,
+    members: &[Key],
+    hashes: &[TxHashes],
+    before: Totals,
+    out: &mut Vec<Record>,
+    steps: &mut Steps<L>,
+) -> Result<(), NoMemory>
+    requires block { IsBlock block.now }
+    requires hashes { map (λ (h : TxHashesValue). h.whole) hashes.now ≡ hashes_in block.now }
+    ensures sources { OnOk result ((c : Chain) → IsApplied c block.now head.now → ArePaid (block.now ∷ c) head.now members.now → before ≡ totals_of c → ⟦<Sources as Tables<Block>>⟧.at sources.old c → ⟦<Sources as Tables<Block>>⟧.at sources.new (block.now ∷ c)) }
+    ensures beside { OnOk result ((c : Chain) → IsApplied c block.now head.now → ArePaid (block.now ∷ c) head.now members.now → before ≡ totals_of c → ⟦<Sources as Tables<Block>>⟧.at sources.old c → ⟦<HashesAndTotals as Tables<Block>>⟧.at beside.old c → ⟦<HashesAndTotals as Tables<Block>>⟧.at beside.new (block.now ∷ c)) }
+    ensures facts { OnOk result ((c : Chain) → IsApplied c block.now head.now → ⟦<Facts as Tables<Block>>⟧.at facts.old c → ⟦<Facts as Tables<Block>>⟧.at facts.new (block.now ∷ c)) }
+    ensures records { OnOk result ((c : Chain) → IsApplied c block.now head.now → ArePaid (block.now ∷ c) head.now members.now → before ≡ totals_of c → ⟦<Sources as Tables<Block>>⟧.at sources.old c → out.new.items ≡ out.old.items ++ money_records c block.now) }
+    ensures sources_marked { (c : Chain) → ⟦<Sources as Tables<Block>>⟧.marked sources.old c → ⟦<Sources as Tables<Block>>⟧.marked sources.new c }
+    ensures sources_waits { (o : Chain) (i : ℕ) → ⟦<Sources as Tables<Block>>⟧.waits sources.old o i → ⟦<Sources as Tables<Block>>⟧.waits sources.new o i }
+    ensures sources_ahead { ⟦<Sources as Tables<Block>>⟧.ahead_costs sources.new ≡ ⟦<Sources as Tables<Block>>⟧.ahead_costs sources.old }
+    ensures sources_depth { length (⟦<Sources as Tables<Block>>⟧.costs sources.new) ≡ length (⟦<Sources as Tables<Block>>⟧.costs sources.old) }
+    ensures beside_marked { (c : Chain) → ⟦<HashesAndTotals as Tables<Block>>⟧.marked beside.old c → ⟦<HashesAndTotals as Tables<Block>>⟧.marked beside.new c }
+    ensures beside_waits { (o : Chain) (i : ℕ) → ⟦<HashesAndTotals as Tables<Block>>⟧.waits beside.old o i → ⟦<HashesAndTotals as Tables<Block>>⟧.waits beside.new o i }
+    ensures beside_ahead { ⟦<HashesAndTotals as Tables<Block>>⟧.ahead_costs beside.new ≡ ⟦<HashesAndTotals as Tables<Block>>⟧.ahead_costs beside.old }
+    ensures beside_depth { length (⟦<HashesAndTotals as Tables<Block>>⟧.costs beside.new) ≡ length (⟦<HashesAndTotals as Tables<Block>>⟧.costs beside.old) }
+    ensures facts_marked { (c : Chain) → ⟦<Facts as Tables<Block>>⟧.marked facts.old c → ⟦<Facts as Tables<Block>>⟧.marked facts.new c }
+    ensures facts_waits { (o : Chain) (i : ℕ) → ⟦<Facts as Tables<Block>>⟧.waits facts.old o i → ⟦<Facts as Tables<Block>>⟧.waits facts.new o i }
+    ensures facts_ahead { ⟦<Facts as Tables<Block>>⟧.ahead_costs facts.new ≡ ⟦<Facts as Tables<Block>>⟧.ahead_costs facts.old }
+    ensures facts_depth { length (⟦<Facts as Tables<Block>>⟧.costs facts.new) ≡ length (⟦<Facts as Tables<Block>>⟧.costs facts.old) }
+    ensures sources_costs { OnOk result ((c : Chain) → IsApplied c block.now head.now → ArePaid (block.now ∷ c) head.now members.now → before ≡ totals_of c → ⟦<Sources as Tables<Block>>⟧.at sources.old c → AtMostMore (5 * length (money_records c block.now)) (⟦<Sources as Tables<Block>>⟧.costs sources.old) (⟦<Sources as Tables<Block>>⟧.costs sources.new)) }
+    ensures beside_costs { OnOk result (AtMostMore (length hashes.now + 1) (⟦<HashesAndTotals as Tables<Block>>⟧.costs beside.old) (⟦<HashesAndTotals as Tables<Block>>⟧.costs beside.new)) }
+    ensures facts_costs { OnOk result (AtMostMore 2 (⟦<Facts as Tables<Block>>⟧.costs facts.old) (⟦<Facts as Tables<Block>>⟧.costs facts.new)) }
+    ensures steps { OnOk result ((c : Chain) → IsApplied c block.now head.now → ArePaid (block.now ∷ c) head.now members.now → before ≡ totals_of c → ⟦<Sources as Tables<Block>>⟧.at sources.old c → steps.new ≤ steps.old + (5 * length (money_records c block.now) + (length hashes.now + 3))) }
+{
+    let written = write_sources(
+        sources,
+        alloc,
+        block,
+        head,
+        members,
+        hashes,
+        before.made,
+        out,
+        steps,
+    )?;
+    let totals = totals_with(before.cleared, head, written)?;
+    write_beside(beside, hashes, totals, steps)?;
+    write_facts(facts, block, head, steps)?;
+    Ok(())
+}
