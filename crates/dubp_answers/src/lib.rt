@@ -1,0 +1,25 @@
+//! The texts of the answers to queries, over tables and heads alone.
+//!
+//! Each function gives the answer to one query. What stands behind it is that of the chain whose tables or heads are given, as
+//! `dubp_replay` defines it. A line lies in its value and takes no memory. The chapter on commands and answers in `docs/protocol`
+//! says the same in words.
+//!
+//! ```text
+//! let line = money_line(&money);
+//! let line = identity_line(&registry, key);
+//! let text = sources_text(alloc, &money, &cond)?;
+//! ```
+#![tactic(auto)]
+
+mod blocks;
+mod difficulties;
+mod money;
+mod people;
+mod sources;
+mod values;
+
+pub use blocks::show_text;
+pub use difficulties::diff_line;
+pub use money::{balance_line, money_line};
+pub use people::{identity_line, uid_line};
+pub use sources::sources_text;
