@@ -1,0 +1,4 @@
+pub mod Known
+pub mod First
+pub mod Moved
+pub mod Stands

@@ -1,0 +1,2 @@
+pub mod KeptChain
+pub mod Moves

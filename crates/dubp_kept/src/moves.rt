@@ -1,0 +1,75 @@
+ghost use Rattle.std.specs.Prelude.{◌≡◌, ◌+◌, ◌-◌, ◌≤◌, ◌<◌, ◌∷◌, ℕ, Some, cond, length, min, OnOk, OnErr};
+ghost use Rattle.dubp_block.specs.Text.{IsBlock};
+ghost use Rattle.dubp_chain.specs.Chains.{Chain};
+ghost use Rattle.dubp_chain.specs.Heads.{head_of};
+ghost use Rattle.dubp_validity.specs.Rules.{IsSound};
+ghost use Rattle.dubp_local.specs.Local.{all_hashes};
+ghost use Rattle.dubp_kept.specs.KeptChain.{most_steps};
+
+use crate::written::Written;
+use dubp_atoms::{NoMemory, Steps};
+use dubp_block::Block;
+use dubp_chain::Head;
+use dubp_docs::TxHashes;
+use dubp_undo::Tables;
+use std::alloc::Global;
+use std::sync::ledger::Ledger as StepBook;
+
+/// Marks the tables and writes the block into them; where that is refused, the tables stand for the chain as before.
+pub(crate) fn enter<T: Written, L: StepBook>(
+    tables: &mut T,
+    alloc: Global,
+    block: &Block,
+    head: &Head,
+    hashes: &[TxHashes],
+    steps: &mut Steps<L>,
+) -> Result<(), NoMemory>
+    requires text { IsBlock block.now }
+    requires hashes { hashes.now ≡ all_hashes block.now }
+    ensures stands { OnOk result ((c : Chain) → IsSound (block.now ∷ c) → IsBlock block.now → head_of (block.now ∷ c) ≡ Some head.now → T.stands tables.old c → T.stands tables.new (block.now ∷ c)) }
+    ensures steps { OnOk result ((c : Chain) → IsSound (block.now ∷ c) → IsBlock block.now → head_of (block.now ∷ c) ≡ Some head.now → T.stands tables.old c → steps.new ≤ steps.old + most_steps c block.now) }
+    ensures depth { OnOk result (length (T.costs tables.new) ≡ length (T.costs tables.old) + 1) }
+    ensures waits { (o : Chain) (i : ℕ) → T.waits tables.old o i → T.waits tables.new o i }
+    ensures ahead { T.ahead_costs tables.new ≡ T.ahead_costs tables.old }
+    ensures refused { OnErr result ((c : Chain) → T.stands tables.old c → T.stands tables.new c) }
+    ensures refused_depth { OnErr result (length (T.costs tables.new) ≡ length (T.costs tables.old)) }
+{
+    tables.laws();
+    tables.mark()?;
+    match tables.write(alloc, block, head, hashes, steps) {
+        Ok(()) => {
+            tables.laws();
+            Ok(())
+        }
+        Err(error) => {
+            tables.back(steps);
+            Err(error)
+        }
+    }
+}
+
+/// Forgets the oldest kept states, until no more than so many are kept.
+pub(crate) fn trim<T: Written>(tables: &mut T, most: usize)
+    ensures stands { (c : Chain) → T.stands tables.old c → T.stands tables.new c }
+    ensures depth { length (T.costs tables.new) ≡ min (length (T.costs tables.old)) most }
+    ensures waits { (o : Chain) (i : ℕ) → T.waits tables.old o i → T.waits tables.new o i }
+    ensures ahead { T.ahead_costs tables.new ≡ T.ahead_costs tables.old }
+{
+    while tables.depth() > most {
+        tables.drop_oldest();
+    }
+}
+
+/// The same, unless all states are to stay.
+pub(crate) fn trim_unless<T: Written>(tables: &mut T, all: bool, most: usize)
+    ensures stands { (c : Chain) → T.stands tables.old c → T.stands tables.new c }
+    ensures depth { length (T.costs tables.new) ≡ cond all (length (T.costs tables.old)) (min (length (T.costs tables.old)) most) }
+    ensures waits { (o : Chain) (i : ℕ) → T.waits tables.old o i → T.waits tables.new o i }
+    ensures ahead { T.ahead_costs tables.new ≡ T.ahead_costs tables.old }
+{
+    if all {
+        tables.laws();
+        return;
+    }
+    trim(tables, most);
+}

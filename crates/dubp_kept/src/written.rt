@@ -1,0 +1,39 @@
+ghost use Rattle.std.specs.Prelude.{◌≡◌, ◌+◌, ◌≤◌, ◌∷◌, ℕ, Some, length, OnOk};
+ghost use Rattle.dubp_block.specs.Text.{IsBlock};
+ghost use Rattle.dubp_chain.specs.Chains.{Chain};
+ghost use Rattle.dubp_chain.specs.Heads.{head_of};
+ghost use Rattle.dubp_validity.specs.Rules.{IsSound};
+ghost use Rattle.dubp_local.specs.Local.{all_hashes};
+ghost use Rattle.dubp_kept.specs.KeptChain.{most_steps};
+
+use dubp_atoms::{NoMemory, Steps};
+use dubp_block::Block;
+use dubp_chain::Head;
+use dubp_docs::TxHashes;
+use dubp_undo::Tables;
+use std::alloc::Global;
+use std::sync::ledger::Ledger as StepBook;
+
+/// Tables of a chain that blocks are written into.
+pub trait Written: Tables<Block> {
+    /// Writes the block, whose head this is, behind the chain: it breaks no rule there but such as read verdicts. `hashes` are those of its
+    /// transactions, in order.
+    ///
+    /// `NoMemory` where there is no room: what was written until then stands in the tables, and what is marked stays so.
+    fn write<L: StepBook>(
+        &mut self,
+        alloc: Global,
+        block: &Block,
+        head: &Head,
+        hashes: &[TxHashes],
+        steps: &mut Steps<L>,
+    ) -> Result<(), NoMemory>
+        requires text { IsBlock block.now }
+        requires hashes { hashes.now ≡ all_hashes block.now }
+        ensures at { OnOk result ((c : Chain) → IsSound (block.now ∷ c) → IsBlock block.now → head_of (block.now ∷ c) ≡ Some head.now → Self.at self.old c → Self.at self.new (block.now ∷ c)) }
+        ensures steps { OnOk result ((c : Chain) → IsSound (block.now ∷ c) → IsBlock block.now → head_of (block.now ∷ c) ≡ Some head.now → Self.at self.old c → steps.new ≤ steps.old + most_steps c block.now) }
+        ensures marked { (c : Chain) → Self.marked self.old c → Self.marked self.new c }
+        ensures waits { (o : Chain) (i : ℕ) → Self.waits self.old o i → Self.waits self.new o i }
+        ensures ahead { Self.ahead_costs self.new ≡ Self.ahead_costs self.old }
+        ensures depth { length (Self.costs self.new) ≡ length (Self.costs self.old) };
+}
