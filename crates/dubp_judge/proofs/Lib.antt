@@ -1,0 +1,5 @@
+pub mod Chains
+pub mod Sizes
+pub mod Orders
+pub mod Early
+pub mod Heads

@@ -1,0 +1,24 @@
+//! What the rules say of a block behind the blocks that are kept: the first of the table that it breaks, or its head.
+//!
+//! The parts of the table are asked in its order: the local rules, the number, the place in the chain, the limits, the rules on the
+//! header, and those that `Judges` answers from tables. The laws of the first failing rule join the parts, so no proof goes over all rules
+//! at once. The chapter on rules in `docs/protocol` has each rule in words.
+//!
+//! ```text
+//! match judge(alloc, &kept, &block, &verdicts)? {
+//!     Judgement::Breaks(rule) => refuse(rule),
+//!     Judgement::Keeps(head, params, hashes) => kept.add(block, head, &params, hashes.as_slice(), &mut steps),
+//! }
+//! ```
+#![tactic(auto)]
+
+mod checks;
+mod judgement;
+mod judges;
+mod judging;
+mod laws;
+
+pub use judgement::Judgement;
+pub use judges::Judges;
+pub use judging::judge;
+pub use laws::parts_are_the_table;
