@@ -1,0 +1,83 @@
+use Rattle.std.proofs.Common.{◌∷◌, refl, sym, subst}
+use Rattle.dubp_registry.specs.contracts.registry.RegistryTablesBlock.TheImpl as people
+use Rattle.dubp_money.specs.contracts.money.MoneyTablesBlock.TheImpl as money
+use Rattle.dubp_undo.specs.Numbers.{plus}
+use Rattle.dubp_people.specs.Applied as people_words
+use Rattle.dubp_money.specs.Applied as money_words
+use Rattle.dubp_people.proofs.Beside.{two_depth}
+use Rattle.dubp_books.proofs.Asked.{whole_hashes_are}
+use Rattle.dubp_books.proofs.Records.{steps_of_both}
+use Rattle.dubp_books.proofs.writing.BooksWritten.write.Goals as goal
+
+pub returns-in_err-apply-clause-depth : goal.returns-in_err-apply-clause-depth
+returns-in_err-apply-clause-depth g c =
+    two_depth ((people.ghosts).costs c.args.self.now.tables.first) ((people.ghosts).costs c.apply.new.people) ((money.ghosts).costs c.args.self.now.tables.second) ((money.ghosts).costs c.args.self.now.tables.second)
+    c.args.self.now.tables.even c.in_err-apply.ensures.depth refl
+
+pub returns-in_err-members-clause-depth : goal.returns-in_err-members-clause-depth
+returns-in_err-members-clause-depth g c =
+    two_depth ((people.ghosts).costs c.args.self.now.tables.first) ((people.ghosts).costs c.apply.new.people) ((money.ghosts).costs c.args.self.now.tables.second) ((money.ghosts).costs c.args.self.now.tables.second)
+    c.args.self.now.tables.even c.in_ok-apply.ensures.depth refl
+
+pub apply-requires-2-clause-hashes : goal.apply-requires-2-clause-hashes
+apply-requires-2-clause-hashes g c = whole_hashes_are c.args.block.now c.args.hashes.now c.requires.hashes
+
+pub returns-in_err-apply-2-clause-marked : goal.returns-in_err-apply-2-clause-marked
+returns-in_err-apply-2-clause-marked g c = λ chain m. (c.in_ok-apply.ensures.marked chain m.0, c.in_err-apply-2.ensures.marked chain m.1)
+
+pub returns-in_err-apply-2-clause-depth : goal.returns-in_err-apply-2-clause-depth
+returns-in_err-apply-2-clause-depth g c =
+    two_depth ((people.ghosts).costs c.args.self.now.tables.first) ((people.ghosts).costs c.apply.new.people) ((money.ghosts).costs c.args.self.now.tables.second) ((money.ghosts).costs c.apply-2.new.self)
+    c.args.self.now.tables.even c.in_ok-apply.ensures.depth c.in_err-apply-2.ensures.depth
+
+pub returns-clause-marked : goal.returns-clause-marked
+returns-clause-marked g c = λ chain m. (c.in_ok-apply.ensures.marked chain m.0, c.in_ok-apply-2.ensures.marked chain m.1)
+
+pub returns-clause-depth : goal.returns-clause-depth
+returns-clause-depth g c =
+    two_depth ((people.ghosts).costs c.args.self.now.tables.first) ((people.ghosts).costs c.apply.new.people) ((money.ghosts).costs c.args.self.now.tables.second) ((money.ghosts).costs c.apply-2.new.self)
+    c.args.self.now.tables.even c.in_ok-apply.ensures.depth c.in_ok-apply-2.ensures.depth
+
+pub returns-clause-at : goal.returns-clause-at
+returns-clause-at g c = λ chain sound text head at.
+    let b = c.args.block.now in
+    let h = c.args.head.now in
+    let first : people_words.IsApplied chain b h = record { sound = sound; block = text; head = head } in
+    let second : money_words.IsApplied chain b h = record { sound = sound; block = text; head = head } in
+    let people_at = c.in_ok-apply.ensures.at chain first at.0 in
+    let paid = subst (λ keys. money_words.ArePaid (b ∷ chain) h keys) (sym c.as_slice.ensures.value) (c.in_ok-members.ensures (b ∷ chain) people_at sound) in
+    (people_at, c.in_ok-apply-2.ensures.at chain second paid at.1)
+
+pub returns-clause-steps : goal.returns-clause-steps
+returns-clause-steps g c = λ chain sound text head at.
+    let b = c.args.block.now in
+    let h = c.args.head.now in
+    let first : people_words.IsApplied chain b h = record { sound = sound; block = text; head = head } in
+    let second : money_words.IsApplied chain b h = record { sound = sound; block = text; head = head } in
+    let people_at = c.in_ok-apply.ensures.at chain first at.0 in
+    let paid = subst (λ keys. money_words.ArePaid (b ∷ chain) h keys) (sym c.as_slice.ensures.value) (c.in_ok-members.ensures (b ∷ chain) people_at sound) in
+    steps_of_both chain b c.args.steps.now c.apply.new.steps c.apply-2.new.steps (c.in_ok-apply.ensures.steps chain first at.0) (c.in_ok-apply-2.ensures.steps chain second paid at.1)
+
+pub returns-in_err-apply-clause-waits : goal.returns-in_err-apply-clause-waits
+returns-in_err-apply-clause-waits g c = λ o i w. (c.in_err-apply.ensures.waits o i w.0, w.1)
+
+pub returns-in_err-members-clause-waits : goal.returns-in_err-members-clause-waits
+returns-in_err-members-clause-waits g c = λ o i w. (c.in_ok-apply.ensures.waits o i w.0, w.1)
+
+pub returns-in_err-apply-2-clause-waits : goal.returns-in_err-apply-2-clause-waits
+returns-in_err-apply-2-clause-waits g c = λ o i w. (c.in_ok-apply.ensures.waits o i w.0, c.in_err-apply-2.ensures.waits o i w.1)
+
+pub returns-clause-waits : goal.returns-clause-waits
+returns-clause-waits g c = λ o i w. (c.in_ok-apply.ensures.waits o i w.0, c.in_ok-apply-2.ensures.waits o i w.1)
+
+pub returns-in_err-apply-clause-ahead : goal.returns-in_err-apply-clause-ahead
+returns-in_err-apply-clause-ahead g c = (λ j. plus (c.in_err-apply.ensures.ahead j) ((money.ghosts).ahead_costs c.args.self.now.tables.second))
+
+pub returns-in_err-members-clause-ahead : goal.returns-in_err-members-clause-ahead
+returns-in_err-members-clause-ahead g c = (λ j. plus (c.in_ok-apply.ensures.ahead j) ((money.ghosts).ahead_costs c.args.self.now.tables.second))
+
+pub returns-in_err-apply-2-clause-ahead : goal.returns-in_err-apply-2-clause-ahead
+returns-in_err-apply-2-clause-ahead g c = (λ j. plus (c.in_ok-apply.ensures.ahead j) (c.in_err-apply-2.ensures.ahead j))
+
+pub returns-clause-ahead : goal.returns-clause-ahead
+returns-clause-ahead g c = (λ j. plus (c.in_ok-apply.ensures.ahead j) (c.in_ok-apply-2.ensures.ahead j))

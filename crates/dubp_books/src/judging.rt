@@ -1,0 +1,46 @@
+use crate::books::Books;
+use dubp_atoms::{Key, NoMemory};
+use dubp_block::Block;
+use dubp_chain::Head;
+use dubp_docs::TxHashes;
+use dubp_judge::Judges;
+use dubp_left::Next;
+use dubp_money_checks::first_broken_of_money;
+use dubp_params::Params;
+use dubp_people_checks::first_broken_of_people;
+use dubp_people_count::members_with;
+use dubp_rules::Rule;
+use dubp_undo::Tables;
+use dubp_verdict::Verdicts;
+use std::alloc::Global;
+
+impl Judges for Books {
+    fn is_member(&self, key: Key) -> bool {
+        self.people().is_member(key)
+    }
+
+    fn members_with(&self, alloc: Global, block: &Block) -> Result<u64, NoMemory> {
+        let count = members_with(alloc, self.people(), block)?;
+        Ok(count)
+    }
+
+    fn first_broken(
+        &self,
+        alloc: Global,
+        block: &Block,
+        head: &Head,
+        params: &Params,
+        hashes: &[TxHashes],
+        verdicts: &Verdicts,
+    ) -> Result<Option<Rule>, NoMemory> {
+        let next = Next {
+            params: *params,
+            time: head.median_time,
+        };
+        if let Some(rule) = first_broken_of_people(alloc, self.people(), block, &next, verdicts)? {
+            return Ok(Some(rule));
+        }
+        let found = first_broken_of_money(alloc, self.money(), head, &next, block, hashes)?;
+        Ok(found)
+    }
+}

@@ -1,0 +1,19 @@
+//! People and money of a chain as one: its tables, behind which a block is written, and the rules that are asked of them.
+//!
+//! `Books` moves people and money together, as one pair of tables. It judges a block by the rules on people and then by those on money,
+//! and writes one into both: the records of people come first. Contracts see the chain that the tables stand for.
+//!
+//! ```text
+//! let mut books = Books::new(alloc);
+//! let broken = books.first_broken(alloc, &block, &head, &params, &verdicts)?;
+//! books.write(alloc, &block, &head, &mut steps)?;
+//! ```
+#![tactic(auto)]
+
+mod books;
+mod judging;
+mod writing;
+
+pub use books::Books;
+pub use dubp_money::Money;
+pub use dubp_people::People;
