@@ -1,0 +1,22 @@
+//! The chain of accepted blocks.
+//!
+//! Contracts see a `Ledger` as its chain, newest block first, and how many of its blocks can be reversed. `submit` accepts a block exactly
+//! where it breaks no rule of the table on the chain with the verdicts given, and else names the first that it breaks; a refusal hands
+//! the block back and changes nothing. `revert` takes the last blocks off again, of which a hundred are kept so. Nothing is computed
+//! twice: the hash of a block stands in its head. The program has the ledger of `dubp_ledger` so far, whose place this one is to take.
+//! Protocol: chains; rules.
+//!
+//! ```text
+//! let mut ledger = Ledger::new(alloc);
+//! let stamp = ledger.submit(block, &verdicts, &mut steps)?;
+//! let head = ledger.head();
+//! ledger.revert(1, &mut steps)?;
+//! ```
+#![tactic(auto)]
+
+mod ledger;
+mod refusal;
+
+pub use dubp_books::{Money, People};
+pub use ledger::Ledger;
+pub use refusal::{SubmitRefusal, TooDeep};
