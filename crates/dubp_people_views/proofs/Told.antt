@@ -23,7 +23,7 @@ use Rattle.dubp_left.specs.Left.{identity_entry, identity_left, member_entry, me
 use Rattle.dubp_left.proofs.Lines.{last_line-in}
 use Rattle.dubp_people_views.specs.Views.{expiry_of, state_text}
 use Rattle.dubp_people_views.specs.declared.identities.IdentityState.{IdentityState}
-use Rattle.dubp_people_views.proofs.Small.{membership_small, membership_short}
+use Rattle.dubp_people_views.proofs.Small.{membership_small, params_short}
 
 -- ---- the state
 
@@ -70,7 +70,7 @@ pub expiry_told : (c : Chain) → IsSound c → (k : Text) → expiry_of (member
 expiry_told [] sound k = refl
 expiry_told (b ∷ d) sound k =
     let c : Chain = b ∷ d in
-    ends _ _ (membership c k) (membership_made c k) (λ x. refl) (some_membership c sound k ∙ sym (some_map _ (entry c k))) (membership_small c sound k) (membership_short c sound)
+    ends _ _ (membership c k) (membership_made c k) (λ x. refl) (some_membership c sound k ∙ sym (some_map _ (entry c k))) (membership_small c sound k) (params_short c sound).memberships
 
 -- ---- the whole
 

@@ -1,1 +1,3 @@
 pub mod Views
+pub mod Certifications
+pub mod Nearness

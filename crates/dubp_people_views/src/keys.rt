@@ -29,7 +29,7 @@ pub fn kicked(alloc: Global, registry: &Registry) -> Result<Vec<Key>, NoMemory>
 }
 
 /// Appends the key.
-fn push(keys: &mut Vec<Key>, key: Key) -> Result<(), NoMemory>
+pub(crate) fn push(keys: &mut Vec<Key>, key: Key) -> Result<(), NoMemory>
     ensures { OnOk result (keys.new.items ≡ keys.old.items ++ key ∷ []) }
 {
     keys.push(key).map_err(|_| NoMemory)
