@@ -1,3 +1,5 @@
 pub mod Accounts
 pub mod Identities
 pub mod Rows
+pub mod Certs
+pub mod Distances

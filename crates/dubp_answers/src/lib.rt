@@ -7,19 +7,25 @@
 //! ```text
 //! let line = money_line(&money);
 //! let line = identity_line(&registry, key);
+//! let line = distance_line(alloc, &registry, key)?;
 //! let text = sources_text(alloc, &money, &cond)?;
+//! let text = certs_text(alloc, &registry, key)?;
 //! ```
 #![tactic(auto)]
 
 mod blocks;
+mod certifications;
 mod difficulties;
+mod distance;
 mod money;
 mod people;
 mod sources;
 mod values;
 
 pub use blocks::show_text;
+pub use certifications::certs_text;
 pub use difficulties::diff_line;
+pub use distance::distance_line;
 pub use money::{balance_line, money_line};
 pub use people::{identity_line, uid_line};
 pub use sources::sources_text;
