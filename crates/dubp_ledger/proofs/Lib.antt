@@ -1,3 +1,3 @@
-pub mod Orders
-pub mod Chains
-pub mod Growing
+pub mod Difficulties
+pub mod Stamps
+pub mod Found

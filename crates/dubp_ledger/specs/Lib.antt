@@ -1,3 +1,1 @@
-pub mod ReadRules
 pub mod States
-pub mod KeptChain

@@ -1,54 +1,48 @@
-ghost use Rattle.std.specs.Prelude.{◌≡◌, ◌≤◌, ◌<◌, ◌+◌, ◌∷◌, [], IfOk, IfErr, OnOk, MatchOption, Some, None};
-ghost use Rattle.dubp_block.specs.Text.{IsBlock};
-ghost use Rattle.dubp_chain.specs.Chains.{block_of_number, params as params_of};
-ghost use Rattle.dubp_chain.specs.Heads.{head_of};
-ghost use Rattle.dubp_ledger.specs.ReadRules.{Keeps};
-ghost use Rattle.dubp_ledger.specs.States.{Accepted, HandedBack, IsTooDeep, without_last};
+ghost use Rattle.std.specs.Prelude.{◌≡◌, ◌+◌, ◌≤◌, ◌<◌, ◌∷◌, [], IfOk, IfErr, OnOk, OnErr, MatchOption, None, Some, drop, length, min, reverse, take};
+ghost use Rattle.dubp_block.specs.Text.{IsBlock, block_text};
+ghost use Rattle.dubp_chain.specs.Chains.{block_of_number};
+ghost use Rattle.dubp_chain.specs.Heads.{difficulty as difficulty_of, head_of};
+ghost use Rattle.dubp_validity.specs.Rules.{FirstBroken, IsSound, longest_block};
+ghost use Rattle.dubp_local.specs.Local.{all_hashes};
+ghost use Rattle.dubp_kept.specs.KeptChain.{IsAsBefore, IsAsHeld, IsHeldBy, MayJoin, most_kept, most_steps, without_last};
+ghost use Rattle.dubp_ledger.specs.States.{Accepted, HandedBack, IsTooDeep};
 
-use crate::judgement::Judgement;
-use crate::judging::judge;
 use crate::refusal::{SubmitRefusal, TooDeep};
-use dubp_atoms::{NoMemory, Stamp, Steps};
+use dubp_atoms::{Key, NoMemory, Stamp, Steps};
 use dubp_block::Block;
+use dubp_books::{Books, Money, People};
 use dubp_chain::Head;
-use dubp_head::Heads;
+use dubp_docs::TxHashes;
+use dubp_head::difficulty;
+use dubp_judge::{Judgement, judge};
+use dubp_kept::{Held, Kept};
 use dubp_params::Params;
+use dubp_undo::Tables;
 use dubp_verdict::Verdicts;
 use std::alloc::Global;
 use std::marker::Model;
 use std::sync::ledger::Ledger as StepBook;
 
-/// How many blocks can be reversed at most.
-const MOST_KEPT: usize = 100;
-
-/// The chain of accepted blocks, with its heads.
+/// The chain of accepted blocks, with its heads and the tables of its people and its money.
 ///
-/// Contracts see it as a record with the chain, newest block first, and how many of its blocks can be reversed. Each block of the chain keeps the rules that are read on the
-/// blocks before it.
+/// Contracts see a record with the chain, newest block first, and how many of its blocks can be reversed.
 #[derive(Drop)]
 pub struct Ledger {
     alloc: Global,
-    // Oldest first.
-    blocks: Vec<Block>,
-    heads: Heads,
-    kept: usize,
+    kept: Kept<Books>,
 }
 
 impl Model for Ledger {
-    ghost use Rattle.std.specs.Prelude.{◌≤◌, length, reverse};
-    ghost use Rattle.dubp_ledger.specs.States.{LedgerState};
-    ghost use Rattle.dubp_ledger.specs.KeptChain.{IsKept};
+    ghost use Rattle.dubp_kept.specs.KeptChain.{KeptChain};
 
-    ghost Value = { LedgerState };
+    ghost Value = { KeptChain };
 
     ghost use Rattle.std.specs.Coded.{codes};
     ghost use Rattle.dubp_block.specs.contracts.block.Block as block;
 
     ghost coded = { Prim.hlevel (codes, block.the_row.coded) };
 
-    ghost view = { λ s. record { chain = reverse s.blocks.items; kept = s.kept } };
-
-    ghost invariant = { λ s. IsKept (reverse s.blocks.items) s.heads × (s.kept ≤ length s.blocks.items) × (s.kept ≤ 100) };
+    ghost view = { λ l. l.kept };
 }
 
 impl Ledger {
@@ -56,12 +50,11 @@ impl Ledger {
     pub fn new(alloc: Global) -> Ledger
         ensures chain { result.chain ≡ [] }
         ensures kept { result.kept ≡ 0 }
+        ensures out { result.out ≡ None }
     {
         Ledger {
             alloc,
-            blocks: Vec::new(alloc),
-            heads: Heads::new(alloc),
-            kept: 0,
+            kept: Kept::new(alloc, Books::new(alloc)),
         }
     }
 
@@ -69,85 +62,120 @@ impl Ledger {
     pub fn kept(&self) -> usize
         ensures { result ≡ self.now.kept }
     {
-        self.kept
+        self.kept.kept()
     }
 
     /// The head of the chain. None exactly where the chain is empty. It takes no memory.
     pub fn head(&self) -> Option<Head>
         ensures { result ≡ head_of self.now.chain }
     {
-        self.heads.last().copied()
+        self.kept.heads().last().copied()
     }
 
     /// The block of this number. None exactly where the chain has none. It takes no memory.
     pub fn block_at(&self, number: u64) -> Option<&Block>
-        ensures { MatchOption result (block_of_number self.now.chain number ≡ None) (λ b. block_of_number self.now.chain number ≡ Some b.now) }
+        ensures { MatchOption result (block_of_number self.now.chain number ≡ None) (λ b. IsBlock b.now × (block_of_number self.now.chain number ≡ Some b.now)) }
     {
-        self.blocks.get(number as usize)
+        self.kept.heads();
+        self.kept.blocks().get(number as usize)
     }
 
-    /// Accepts the block exactly where it breaks no rule that is read on the chain and is of the form that is built; else names
-    /// the first rule that it breaks, or says that its form is not built, which is asked behind `G51`.
+    /// The difficulty of the key for the next block. None exactly where the chain is empty. `NoMemory` where there is no room to count
+    /// the issuers of the last frame.
+    pub fn difficulty(&self, key: Key) -> Result<Option<u128>, NoMemory>
+        ensures { IfOk result (λ found. found ≡ difficulty_of self.now.chain key) }
+    {
+        match self.people().first() {
+            Some(first) => {
+                let found = difficulty(self.alloc, self.kept.heads(), &first.params, key)?;
+                Ok(Some(found))
+            }
+            None => Ok(None),
+        }
+    }
+
+    /// The people of the chain. It takes no memory.
+    pub fn people(&self) -> &People
+        ensures { ⟦<People as Tables<Block>>⟧.at result.now self.now.chain }
+    {
+        self.kept.tables().people()
+    }
+
+    /// The money of the chain. It takes no memory.
+    pub fn money(&self) -> &Money
+        ensures { ⟦<Money as Tables<Block>>⟧.at result.now self.now.chain }
+    {
+        self.kept.tables().money()
+    }
+
+    /// Does nothing. Its clauses say that each block of the chain breaks no rule on those before it but such as read verdicts, and how many
+    /// can be reversed where none is held.
+    pub fn laws(&self)
+        ensures sound { IsSound self.now.chain }
+        ensures few { self.now.out ≡ None → self.now.kept ≤ 100 }
+    {
+        self.kept.laws();
+        let _heads = self.kept.heads();
+    }
+
+    /// Accepts the block, whose text has at most 1,048,576 bytes, exactly where it breaks no rule on the chain; else names the first rule of
+    /// the table that it breaks.
     ///
     /// On each refusal the block is handed back and the ledger is as before. `NoMemory` where there is no memory to check the block
-    /// or to keep it. Nothing is counted of the steps yet.
+    /// or to keep it. An accepted block adds at most eight steps for each of its records and sixteen.
     pub fn submit<L: StepBook>(
         &mut self,
         block: Block,
         verdicts: &Verdicts,
-        _steps: &mut Steps<L>,
+        steps: &mut Steps<L>,
     ) -> Result<Stamp, SubmitRefusal>
-        requires { IsBlock block }
+        requires text { IsBlock block }
+        requires short { length (block_text block) ≤ longest_block }
         ensures accepted { IfOk result (λ stamp. Accepted verdicts.now self.old block stamp self.new) }
         ensures refused { IfErr result (λ refusal. HandedBack verdicts.now self.old block refusal self.new) }
+        ensures steps { OnOk result (steps.new ≤ steps.old + most_steps self.old.chain block) }
     {
-        match judge(self.alloc, &self.blocks, &self.heads, &block, verdicts) {
+        match judge(self.alloc, &self.kept, &block, verdicts) {
             Ok(Judgement::Breaks(rule)) => Err(SubmitRefusal::Refused { rule, block }),
-            Ok(Judgement::Unbuilt) => Err(SubmitRefusal::Unbuilt { block }),
-            Ok(Judgement::Keeps(head, params)) => self.join(block, head, &params, verdicts),
+            Ok(Judgement::Keeps(head, params, hashes)) => {
+                self.join(block, head, &params, hashes.as_slice(), verdicts, steps)
+            }
             Err(NoMemory) => Err(SubmitRefusal::NoMemory { block }),
         }
     }
 
-    // The block, which breaks no rule, joins the chain, and its head the heads.
-    fn join(
+    // The block, which breaks no rule, joins the chain.
+    fn join<L: StepBook>(
         &mut self,
         block: Block,
         head: Head,
         params: &Params,
+        hashes: &[TxHashes],
         verdicts: &Verdicts,
+        steps: &mut Steps<L>,
     ) -> Result<Stamp, SubmitRefusal>
-        requires text { IsBlock block }
-        requires keeps { Keeps verdicts.now self.old.chain block }
-        requires head { Some head ≡ head_of (block ∷ self.old.chain) }
-        requires params { params.now ≡ params_of (block ∷ self.old.chain) }
+        requires joins { MayJoin self.old.chain block head params.now }
+        requires keeps { FirstBroken verdicts.now self.old.chain block None }
+        requires hashes { hashes.now ≡ all_hashes block }
         ensures accepted { IfOk result (λ stamp. Accepted verdicts.now self.old block stamp self.new) }
         ensures refused { IfErr result (λ refusal. HandedBack verdicts.now self.old block refusal self.new) }
+        ensures steps { OnOk result (steps.new ≤ steps.old + most_steps self.old.chain block) }
     {
         let stamp = head.stamp();
-        if let Err(_) = self.blocks.reserve(1) {
+        if let Err(block) = self.kept.add(block, head, params, hashes, steps) {
             return Err(SubmitRefusal::NoMemory { block });
         }
-        match self.heads.push(head, params) {
-            Ok(()) => {
-                self.blocks.push_reserved(block);
-                self.kept = (self.kept + 1).min(MOST_KEPT);
-                Ok(stamp)
-            }
-            Err(_) => Err(SubmitRefusal::NoMemory { block }),
-        }
+        Ok(stamp)
     }
 
-    /// Takes the last block off the chain and hands it out. One can be reversed. It takes no memory. Nothing is counted of the steps
-    /// yet.
-    pub fn withdraw<L: StepBook>(&mut self, _steps: &mut Steps<L>) -> Block
+    /// Takes the last block off the chain and hands it out. One can be reversed. It takes no memory.
+    pub fn withdraw<L: StepBook>(&mut self, steps: &mut Steps<L>) -> Block
         requires { 0 < self.old.kept }
         ensures chain { self.old.chain ≡ result ∷ self.new.chain }
         ensures kept { self.old.kept ≡ self.new.kept + 1 }
+        ensures out { self.new.out ≡ self.old.out }
     {
-        self.heads.pop();
-        self.kept -= 1;
-        self.blocks.pop().unwrap()
+        self.kept.withdraw(steps)
     }
 
     /// Takes the last `count` blocks off the chain. `TooDeep` exactly where fewer can be reversed; then the ledger is as before. It takes no
@@ -156,19 +184,53 @@ impl Ledger {
         ensures reverted { OnOk result ((count ≤ self.old.kept) × (self.new ≡ without_last count self.old)) }
         ensures refused { IfErr result (λ refusal. IsTooDeep self.old count refusal self.new) }
     {
-        if count > self.kept as u64 {
-            return Err(TooDeep { kept: self.kept });
+        let kept = self.kept();
+        if count > kept as u64 {
+            return Err(TooDeep { kept });
         }
-        self.take_off(count, steps);
+        self.kept.take_off(count, steps);
         Ok(())
     }
 
-    fn take_off<L: StepBook>(&mut self, count: u64, steps: &mut Steps<L>)
-        requires { count ≤ self.old.kept }
-        ensures { self.new ≡ without_last count self.old }
+    /// Takes the last `count` blocks off and holds them. So many can be reversed, and none is held. What was before can be put back by
+    /// `restore`, and is given up by `settle`; until then no accepted block makes one that can be reversed cease to be so.
+    ///
+    /// `NoMemory` where there is no room for them; then all is as before.
+    pub fn hold<L: StepBook>(
+        &mut self,
+        count: usize,
+        steps: &mut Steps<L>,
+    ) -> Result<Held, NoMemory>
+        requires alone { self.old.out ≡ None }
+        requires few { count ≤ self.old.kept }
+        ensures held { IfOk result (λ held. held ≡ take count self.old.chain) }
+        ensures chain { OnOk result (self.new.chain ≡ drop count self.old.chain) }
+        ensures kept { OnOk result (self.new.kept + count ≡ self.old.kept) }
+        ensures out { OnOk result (self.new.out ≡ Some (record { chain = self.old.chain; kept = self.old.kept; taken = count })) }
+        ensures refused { OnErr result (self.new ≡ self.old) }
     {
-        for _ in 0..count {
-            self.withdraw(steps);
-        }
+        self.kept.hold(count, steps)
+    }
+
+    /// Gives up what was before these blocks were held, and hands them out in ascending number. The chain stays, and of its last hundred
+    /// blocks those that could be reversed still can. It takes no memory.
+    pub fn settle(&mut self, held: Held) -> Vec<Block>
+        requires { IsHeldBy held self.old.out }
+        ensures blocks { result.items ≡ reverse held }
+        ensures chain { self.new.chain ≡ self.old.chain }
+        ensures kept { self.new.kept ≡ min self.old.kept most_kept }
+        ensures out { self.new.out ≡ None }
+    {
+        self.kept.settle(held)
+    }
+
+    /// Puts these blocks back, which are held. The chain is as right after they were taken off; then all is as before that. It takes no
+    /// memory.
+    pub fn restore<L: StepBook>(&mut self, held: Held, steps: &mut Steps<L>)
+        requires held { IsHeldBy held self.old.out }
+        requires chain { IsAsHeld self.old.chain self.old.out }
+        ensures { IsAsBefore self.new self.old.out }
+    {
+        self.kept.restore(held, steps);
     }
 }

@@ -1,9 +1,9 @@
 //! The chain of accepted blocks.
 //!
-//! Contracts see a `Ledger` as its chain, newest block first. `submit` accepts a block exactly where it breaks no rule that is
-//! read on the chain with the verdicts given, and else names the first rule that it breaks; a refusal hands the block back and changes
-//! nothing. `revert` takes the last blocks off again, of which a hundred are kept so. Nothing is computed twice: the hash of a block stands
-//! in its head. Protocol: chains; rules.
+//! Contracts see a `Ledger` as its chain, newest block first, and how many of its blocks can be reversed. `submit` accepts a block exactly
+//! where it breaks no rule of the table on the chain with the verdicts given, and else names the first that it breaks; a refusal hands
+//! the block back and changes nothing. `revert` takes the last blocks off again, of which a hundred are kept so. Nothing is computed
+//! twice: the hash of a block stands in its head. Protocol: chains; rules.
 //!
 //! ```text
 //! let mut ledger = Ledger::new(alloc);
@@ -13,13 +13,10 @@
 //! ```
 #![tactic(auto)]
 
-mod checks;
-mod judgement;
-mod judging;
-mod laws;
 mod ledger;
 mod refusal;
 
-pub use laws::rules_that_are_read;
+pub use dubp_books::{Money, People};
+pub use dubp_kept::Held;
 pub use ledger::Ledger;
 pub use refusal::{SubmitRefusal, TooDeep};

@@ -6,8 +6,6 @@ use dubp_rules::Rule;
 pub enum SubmitRefusal {
     /// The first rule of the table that the block breaks.
     Refused { rule: Rule, block: Block },
-    /// The block keeps the rules up to `G51`, and is of a form that is not built yet.
-    Unbuilt { block: Block },
     /// There was no memory to check the block, or to keep it.
     NoMemory { block: Block },
 }

@@ -1,53 +1,40 @@
 -- What `submit` of the ledger said, as a decision of the node; and a decision on a block as one on its text.
-use Rattle.std.proofs.Common.{◌≡◌, ◌≤◌, [], ◌∷◌, ◌++◌, length, inl, inr, List, Option, Some, None, Result, Ok, Err, subst, ◌∙◌, ap, refl, ℕ}
+use Rattle.std.proofs.Common.{◌≡◌, ◌≤◌, ◌+◌, [], ◌∷◌, length, drop, inl, inr, List, Option, Some, None, Result, Ok, Err, subst, ◌∙◌, ap, refl, ℕ}
 use Rattle.std.specs.Prelude.{IfOk, IfErr, MatchOption}
 use Rattle.dubp_atoms.specs.declared.stamp.Stamp.{Stamp}
 use Rattle.dubp_block.specs.declared.block.Block.{Block}
 use Rattle.dubp_block.specs.RefusedLine.{IsRefusedLine}
-use Rattle.dubp_local.specs.Local.{local_rules}
-use Rattle.dubp_ledger.specs.ReadRules.{Breaks, opening_rules}
-use Rattle.dubp_ledger.specs.States.{LedgerState, Accepted, HandedBack, with_block}
+use Rattle.dubp_kept.specs.KeptChain.{KeptChain, Out, kept_of, with_block}
+use Rattle.dubp_ledger.specs.States.{Accepted, HandedBack}
 use Rattle.dubp_ledger.specs.declared.refusal.SubmitRefusal.{SubmitRefusal}
 use Rattle.dubp_ledger.specs.declared.refusal.SubmitRefusal.TheVariants as refusal
 use Rattle.dubp_rules.specs.declared.rule.Rule.{Rule}
-use Rattle.dubp_rules.specs.declared.rule.Rule.TheVariants.{X01, P01, G51}
-use Rattle.dubp_rules.specs.First.{IsFirst}
-use Rattle.dubp_rules.specs.Table.{code_text}
+use Rattle.dubp_rules.specs.declared.rule.Rule.TheVariants.{X01, P01}
+use Rattle.dubp_rules.specs.Table.{code_text, table_rules}
 use Rattle.dubp_rules.proofs.FirstLaws.{IsFirst_from_FirstOf, FirstOf_from_IsFirst, FirstOf_same}
 use Rattle.dubp_verdict.specs.Verdicts.{Verdicts}
 use Rattle.dubp_chain.specs.Chains.{Chain}
-use Rattle.dubp_validity.specs.Rules.{Holds, HoldsRaw, IsTextOf, longest_block}
+use Rattle.dubp_validity.specs.Rules.{FirstBroken, FirstBrokenRaw, Holds, HoldsRaw, IsTextOf, longest_block}
 use Rattle.dubp_replay.specs.Answers.{accepted_answer, unread_answer, refused_answer}
-use Rattle.dubp_replay.specs.Turns.{State, Only, RefusedBy, accepted}
-use Rattle.dubp_node.specs.BuiltTurns.{JudgedAs, JudgedTurn}
+use Rattle.dubp_replay.specs.Turns.{Accepts, State, Only, RefusedBy, accepted}
 use Rattle.dubp_node.specs.NodeStates.{node_state}
-use Rattle.dubp_node.specs.Deciding.{Decided, ShortBlockActs, outcome_text}
+use Rattle.dubp_node.specs.Deciding.{Decided, Joins, ShortBlockActs, outcome_text}
 
--- the chain that grows gives the state in which the block is accepted
-state_grows : (v : Verdicts) (old : LedgerState) (b : Block) → node_state v (with_block b old) ≡ accepted (node_state v old) b
-state_grows v old b = refl
+-- the chain that grows, where no blocks are held, gives the state in which the block is accepted
+state_grows : (v : Verdicts) (old : KeptChain) (b : Block) → old.out ≡ None → node_state v (with_block b old) ≡ accepted (node_state v old) b
+state_grows v old b none =
+    ap (λ (o : Option Out). node_state v (record { chain = b ∷ old.chain; kept = kept_of o (old.kept + 1); out = o })) none
 
-refused_by : (v : Verdicts) (old new : LedgerState) (b : Block) (rule : Rule) (answer : List ℕ) → Breaks v old.chain b rule → new ≡ old → answer ≡ refused_answer (code_text rule) → Decided (node_state v old) b answer (node_state v new)
-refused_by v old new b rule answer (inl opening) same e =
-    inl (record { broken = Some rule; first = opening; decides = (e, ap (node_state v) same) })
-refused_by v old new b rule answer (inr later) same e =
+pub decided : (v : Verdicts) (old new : KeptChain) (b : Block) (r : Result Stamp SubmitRefusal) (answer : List ℕ) → old.out ≡ None → IfOk r (λ stamp. Accepted v old b stamp new) → IfErr r (λ refusal. HandedBack v old b refusal new) → answer ≡ outcome_text r → Decided (node_state v old) b answer (node_state v new)
+decided v old new b (Ok stamp) answer none a h e =
     inl (record {
       broken = None;
-      first = later.0.opening;
-      decides = inr (later.0.built, record { broken = Some rule; first = later.1; decides = (e, ap (node_state v) same) });
+      first = a.keeps;
+      decides = (e ∙ ap accepted_answer a.stamp_is, ap (node_state v) a.joins ∙ state_grows v old b none);
     })
-
-pub decided : (v : Verdicts) (old new : LedgerState) (b : Block) (r : Result Stamp SubmitRefusal) (answer : List ℕ) → IfOk r (λ stamp. Accepted v old b stamp new) → IfErr r (λ refusal. HandedBack v old b refusal new) → answer ≡ outcome_text r → Decided (node_state v old) b answer (node_state v new)
-decided v old new b (Ok stamp) answer a h e =
-    inl (record {
-      broken = None;
-      first = a.keeps.judged.opening;
-      decides = inr (a.keeps.judged.built, record { broken = None; first = a.keeps.following; decides = (e ∙ ap accepted_answer a.stamp_is, ap (node_state v) a.joins ∙ state_grows v old b) });
-    })
-decided v old new b (Err (refusal.Refused rule back)) answer a h e = refused_by v old new b rule answer h.0 h.2 e
-decided v old new b (Err (refusal.Unbuilt back)) answer a h e =
-    inl (record { broken = None; first = h.0.opening; decides = inl (h.0.other, (e, ap (node_state v) h.2)) })
-decided v old new b (Err (refusal.NoMemory back)) answer a h e = inr (e, ap (node_state v) h.1)
+decided v old new b (Err (refusal.Refused rule back)) answer none a h e =
+    inl (record { broken = Some rule; first = h.0; decides = (e, ap (node_state v) h.2) })
+decided v old new b (Err (refusal.NoMemory back)) answer none a h e = inr (e, ap (node_state v) h.1)
 
 -- what is said of a block, and what of its text
 module _ (v : Verdicts) (c : Chain) (bytes : List ℕ) (b : Block) (text : IsTextOf bytes b) (only : (d : Block) → IsTextOf bytes d → b ≡ d) (short : length bytes ≤ longest_block) where
@@ -61,18 +48,18 @@ module _ (v : Verdicts) (c : Chain) (bytes : List ℕ) (b : Block) (text : IsTex
   from_raw P01 h = tt
   from_raw r h = h b text
 
-  pub first_raw : (answer : Option Rule) → IsFirst (Holds v c b) opening_rules answer → IsFirst (HoldsRaw v c bytes) opening_rules answer
+  pub first_raw : (answer : Option Rule) → FirstBroken v c b answer → FirstBrokenRaw v c bytes answer
   first_raw answer f =
-      IsFirst_from_FirstOf (HoldsRaw v c bytes) opening_rules answer
-      (FirstOf_same (Holds v c b) (HoldsRaw v c bytes) to_raw from_raw opening_rules answer (FirstOf_from_IsFirst (Holds v c b) opening_rules answer f))
+      IsFirst_from_FirstOf (HoldsRaw v c bytes) table_rules answer
+      (FirstOf_same (Holds v c b) (HoldsRaw v c bytes) to_raw from_raw table_rules answer (FirstOf_from_IsFirst (Holds v c b) table_rules answer f))
 
 -- no block breaks the rule that its bytes are a block
-names_rule : (v : Verdicts) (c : Chain) (old new : State) (bytes answer : List ℕ) (b : Block) (rule : Rule) → IsFirst (Holds v c b) opening_rules (Some rule) → Only (refused_answer (code_text rule)) old answer new → RefusedBy bytes rule old answer new
+names_rule : (v : Verdicts) (c : Chain) (old new : State) (bytes answer : List ℕ) (b : Block) (rule : Rule) → FirstBroken v c b (Some rule) → Only (refused_answer (code_text rule)) old answer new → RefusedBy bytes rule old answer new
 names_rule v c old new bytes answer b P01 f only = absurd (f.fails tt)
 names_rule v c old new bytes answer b rule f only = only
 
-decides_raw : (old new : State) (bytes answer : List ℕ) (b : Block) → IsTextOf bytes b → (broken : Option Rule) → IsFirst (Holds old.verdicts old.chain b) opening_rules broken → MatchOption broken (JudgedTurn old b answer new) (λ rule. Only (refused_answer (code_text rule)) old answer new) → MatchOption broken (JudgedAs bytes old answer new) (λ rule. RefusedBy bytes rule old answer new)
-decides_raw old new bytes answer b text None f judged = (b, text, judged)
+decides_raw : (old new : State) (bytes answer : List ℕ) (b : Block) → IsTextOf bytes b → (broken : Option Rule) → FirstBroken old.verdicts old.chain b broken → MatchOption broken (Joins old b answer new) (λ rule. Only (refused_answer (code_text rule)) old answer new) → MatchOption broken (Accepts bytes old answer new) (λ rule. RefusedBy bytes rule old answer new)
+decides_raw old new bytes answer b text None f joins = (b, text, joins.0, joins.1)
 decides_raw old new bytes answer b text (Some rule) f only = names_rule old.verdicts old.chain old new bytes answer b rule f only
 
 pub decided_raw : (old new : State) (bytes answer : List ℕ) (b : Block) → IsTextOf bytes b → ((d : Block) → IsTextOf bytes d → b ≡ d) → length bytes ≤ longest_block → Decided old b answer new → ShortBlockActs old bytes answer new
@@ -89,6 +76,6 @@ pub unread_raw : (old : State) (bytes answer : List ℕ) (line : ℕ) → ((d : 
 unread_raw old bytes answer line none short refused e =
     inl (record {
       broken = Some P01;
-      first = record { before = X01 ∷ []; after = local_rules ++ G51 ∷ []; stands = refl; passed = (short, tt); fails = λ h. none h.0 h.1 };
+      first = record { before = X01 ∷ []; after = drop 2 table_rules; stands = refl; passed = (short, tt); fails = λ h. none h.0 h.1 };
       decides = (line, refused, (e, refl));
     })

@@ -1,11 +1,10 @@
 -- The steps of a whole session.
-use Rattle.std.proofs.Common.{◌≡◌, ◌⊎◌, inl, inr, ℕ, ◌+◌, ◌<◌, ◌≤◌, Bool, true, false, List, [], ◌∷◌, ◌++◌, length, Option, refl, sym, ◌∙◌, ap, subst, arith, append_assoc, append-nil, length-append}
+use Rattle.std.proofs.Common.{◌≡◌, ◌⊎◌, inl, inr, ℕ, ◌+◌, ◌<◌, ◌≤◌, List, [], ◌∷◌, ◌++◌, length, Option, refl, sym, ◌∙◌, ap, subst, arith, append_assoc, append-nil, length-append}
 use Rattle.std.proofs.lemmas.List.{nil_from_length}
 use Rattle.std.specs.Io.KnownBytes.{Consumes, Keeps, IsAtEnd}
 use Rattle.dubp_outside.proofs.Known.{consumes_nothing, consumes_then, consumes_kept, appends_then}
 use Rattle.dubp_atoms.specs.Letters.{LF}
-use Rattle.dubp_node.specs.Entries.{Entry}
-use Rattle.dubp_node.specs.Cut.{Cut, lacking, texts}
+use Rattle.dubp_node.specs.Cut.{lacking, texts}
 use Rattle.dubp_node.specs.Turns.{joined}
 use Rattle.dubp_replay.specs.Turns.{State}
 use Rattle.dubp_node.specs.Session.{Broke}

@@ -1,10 +1,10 @@
 -- What the bytes at hand begin with, case by case.
-use Rattle.std.proofs.Common.{inl, ◌≡◌, ℕ, ◌+◌, ◌-◌, ◌<◌, ◌≤◌, List, [], ◌∷◌, ◌++◌, length, get_or, take, drop, refl, sym, ◌∙◌, ap, subst, arith, None, Some, append_assoc, append-nil, length-append, take-append-drop, drop-drop}
+use Rattle.std.proofs.Common.{◌≡◌, ℕ, ◌+◌, ◌-◌, ◌<◌, ◌≤◌, List, [], ◌∷◌, ◌++◌, length, get_or, take, drop, refl, sym, ◌∙◌, ap, subst, arith, None, Some, append_assoc, append-nil, length-append, take-append-drop, drop-drop}
 use Rattle.std.proofs.lemmas.List.{drop_more, length-take-le, drop_all}
 use Rattle.dubp_atoms.specs.Letters.{LF}
 use Rattle.dubp_validity.specs.Rules.{longest_block}
-use Rattle.dubp_node.specs.Entries.{Line, Frame, text_of, IsText, longest_line, HeadsFrame, IsBad}
-use Rattle.dubp_node.proofs.Wholes.{frame_len, whole_line, whole_frame, heads_len, len_heads, heads_none_no_len, heads_short}
+use Rattle.dubp_node.specs.Entries.{Line, Frame, text_of, IsText, longest_line, HeadsFrame}
+use Rattle.dubp_node.proofs.Wholes.{frame_len, whole_line, heads_len, heads_none_no_len, heads_short}
 use Rattle.dubp_node.specs.Cut.{BeginsNone}
 use Rattle.dubp_node.specs.Reading.{InLongLine, InLongFrame, TakesOne}
 use Rattle.dubp_node.specs.declared.item.Item.TheVariants.{LongLine, LongFrame as LongFramePast}

@@ -1,5 +1,5 @@
 -- How a session ends.
-use Rattle.std.specs.Prelude.{◌≡◌, ◌⊎◌, ℕ, List, ◌++◌, Option}
+use Rattle.std.specs.Prelude.{◌≡◌, ℕ, List, ◌++◌, Option}
 use Rattle.dubp_outside.specs.Causes.{Rose}
 use Rattle.dubp_replay.specs.Turns.{State}
 use Rattle.dubp_node.specs.Cut.{lacking}

@@ -1,4 +1,4 @@
-pub mod BuiltTurns
+pub mod Commands
 pub mod Entries
 pub mod NodeStates
 pub mod Cut

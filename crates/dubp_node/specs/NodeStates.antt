@@ -2,7 +2,7 @@
 use Rattle.std.specs.Prelude.{[]}
 use Rattle.dubp_verdict.specs.Verdicts.{Verdicts}
 use Rattle.dubp_replay.specs.Turns.{State}
-use Rattle.dubp_ledger.specs.States.{LedgerState}
+use Rattle.dubp_kept.specs.KeptChain.{KeptChain}
 
-abbrev pub node_state : Verdicts → LedgerState → State
+abbrev pub node_state : Verdicts → KeptChain → State
 node_state v s = record { verdicts = v; chain = s.chain; kept = s.kept; store = [] }

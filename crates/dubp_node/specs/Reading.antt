@@ -1,5 +1,5 @@
 -- What the bytes at hand are of the bytes of the input.
-use Rattle.std.specs.Prelude.{◌≡◌, ◌≢◌, ℕ, ◌+◌, ◌<◌, ◌≤◌, List, ◌∷◌, ◌++◌, length, drop}
+use Rattle.std.specs.Prelude.{◌≡◌, ℕ, ◌+◌, ◌<◌, ◌≤◌, List, ◌∷◌, ◌++◌, length, drop}
 use Rattle.dubp_atoms.specs.Letters.{LF}
 use Rattle.dubp_validity.specs.Rules.{longest_block}
 use Rattle.dubp_node.specs.Entries.{Entry, Line, Frame, text_of, IsWhole, IsText, HeadsFrame, longest_line}

@@ -1,5 +1,5 @@
 -- What the calls that answer commands ensure.
-use Rattle.std.specs.Prelude.{◌≡◌, ℕ, ◌<◌, List, [], ◌++◌, length, Option}
+use Rattle.std.specs.Prelude.{ℕ, List, ◌++◌, Option}
 use Rattle.std.specs.Io.KnownBytes.{Appends}
 use Rattle.dubp_outside.specs.Parts.{AppendsPart}
 use Rattle.dubp_replay.specs.Turns.{State}

@@ -4,8 +4,7 @@ use Rattle.std.specs.Option.{MatchOption}
 use Rattle.std.specs.List.{flat_map}
 use Rattle.dubp_validity.specs.Rules.{longest_block}
 use Rattle.dubp_replay.specs.declared.command.Command.{Command}
-use Rattle.dubp_node.specs.BuiltTurns.{IsServed, frame_of}
-use Rattle.dubp_replay.specs.Turns.{State, Asked}
+use Rattle.dubp_replay.specs.Turns.{State, Asked, IsServed, frame_of}
 use Rattle.dubp_node.specs.Entries.{Entry, Means}
 
 -- from a state an entry may be answered so, and lead there

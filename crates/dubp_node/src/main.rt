@@ -4,6 +4,7 @@
 #![tactic(auto)]
 
 mod buffer;
+mod commands;
 mod item;
 mod laws;
 mod node;
@@ -20,6 +21,7 @@ pub use run::{NO_ROOM, USAGE, run as run_program};
 use std::alloc::{AllocError, Global};
 use std::env;
 use std::io::ErrorKind;
+use std::mem::forget;
 use std::process::ExitCode;
 
 fn main(rt: HostRuntime) -> ExitCode {
@@ -41,13 +43,16 @@ fn status(rt: &HostRuntime) -> u8 {
     let mut source = ReadSource::new(rt.stdin());
     let mut sink = WriteSink::new(rt.stdout());
     let mut node = Node::new(rt.alloc());
-    run_program(
+    let status = run_program(
         rt.alloc(),
         words.as_slice(),
         &mut source,
         &mut sink,
         &mut node,
-    )
+    );
+    // the process ends, and its memory with it: no table has to be taken apart
+    forget(node);
+    status
 }
 
 // Words that are no text have no form of the program's.

@@ -1,19 +1,20 @@
-ghost use Rattle.std.specs.Prelude.{◌≡◌, ◌++◌, [], codes, length, ◌≤◌, ℕ, List};
+ghost use Rattle.std.specs.Prelude.{◌≡◌, ◌++◌, [], codes, length, ◌≤◌, ℕ, List, None};
+ghost use Rattle.dubp_node.specs.Commands.{IsThere};
 ghost use Rattle.dubp_node.specs.Turns.{Acts};
 ghost use Rattle.dubp_query.specs.AnswerBytes.{answer_bytes};
 ghost use Rattle.dubp_replay.specs.Answers.{accepted_answer, bad_answer, no_memory_answer, refused_answer, reverted_answer, too_deep_answer, unread_answer};
-ghost use Rattle.dubp_block.specs.Text.{IsBlock};
+ghost use Rattle.dubp_block.specs.Text.{IsBlock, block_text};
 ghost use Rattle.dubp_validity.specs.Rules.{longest_block};
 ghost use Rattle.dubp_node.specs.Deciding.{ShortBlockActs, Decided, outcome_text};
 ghost use Rattle.dubp_replay.specs.Turns.{start};
-ghost use Rattle.dubp_replay.specs.declared.command.Command.TheVariants.{Block as BlockCommand, Revert as RevertCommand, Verdict as VerdictCommand};
+ghost use Rattle.dubp_replay.specs.declared.command.Command.TheVariants.{Ask as AskCommand, Block as BlockCommand, Revert as RevertCommand, Verdict as VerdictCommand};
 ghost use Rattle.dubp_rules.specs.Table.{code_text};
 
 use arrayvec::ArrayVec;
 use dubp_atoms::{Hash, Key, Line, Sig, Stamp, Steps, put_bytes, put_number};
 use dubp_block::{Block, ReadRefusal, read_block};
 use dubp_ledger::{Ledger, SubmitRefusal, TooDeep};
-use dubp_query::{Answer, Query, head_line};
+use dubp_query::{Answer, Query, answer};
 use dubp_replay::Command;
 use dubp_rules::{Rule, code};
 use dubp_verdict::Verdicts;
@@ -48,6 +49,10 @@ impl Model for Node {
     ghost use Rattle.dubp_node.specs.NodeStates.{node_state};
 
     ghost view = { λ n. node_state n.verdicts n.ledger };
+
+    ghost use Rattle.std.specs.Prelude.{◌≡◌, None};
+
+    ghost invariant = { λ n. n.ledger.out ≡ None };
 }
 
 impl Node {
@@ -66,21 +71,42 @@ impl Node {
     ///
     /// `frame` has the raw bytes that follow a BLOCK whose LEN is at most 1,048,576, and is empty otherwise. A BLOCK of a
     /// greater LEN is answered `REFUSED X01`. `NOMEM` leaves the node as before; only a command that takes memory is
-    /// answered so. A command that is not built is answered `BAD`.
+    /// answered so. The command is one that the program has (`is_there`).
     pub fn act<L: StepBook>(
         &mut self,
         command: &Command,
         frame: &[u8],
         steps: &mut Steps<L>,
     ) -> Answer
+        requires { IsThere command.now }
         ensures { Acts self.old command.now frame.now (answer_bytes result) self.new }
     {
         match command {
             Command::Verdict { key, hash, sig } => self.note(*key, *hash, *sig),
             Command::Block { len } => self.act_block(*len, frame, steps),
             Command::Revert { count } => self.revert(*count, steps),
-            Command::Ask(Query::Head) => Answer::One(head_line(&self.ledger)),
+            Command::Ask(query) => self.ask(query),
             _ => bad(),
+        }
+    }
+
+    /// The ledger. It takes no memory.
+    pub fn ledger(&self) -> &Ledger
+        ensures chain { result.now.chain ≡ self.now.chain }
+        ensures kept { result.now.kept ≡ self.now.kept }
+        ensures out { result.now.out ≡ None }
+    {
+        &self.ledger
+    }
+
+    // The query is answered, and nothing changes.
+    fn ask(&self, query: &Query) -> Answer
+        requires { IsThere (AskCommand query.now) }
+        ensures { (frame : List ℕ) → Acts self.now (AskCommand query.now) frame (answer_bytes result) self.now }
+    {
+        match answer(self.alloc, &self.ledger, query) {
+            Ok(answer) => answer,
+            Err(_) => one(b"NOMEM\n"),
         }
     }
 
@@ -116,6 +142,9 @@ impl Node {
     fn act_short_block<L: StepBook>(&mut self, frame: &[u8], steps: &mut Steps<L>) -> Answer
         ensures { length frame.now ≤ longest_block → ShortBlockActs self.old frame.now (answer_bytes result) self.new }
     {
+        if frame.len() > LONGEST_BLOCK {
+            return refused(b"X01");
+        }
         match read_block(self.alloc, frame) {
             Ok(block) => self.submit(block, steps),
             Err(ReadRefusal::NotABlock { line }) => unread(line),
@@ -124,22 +153,21 @@ impl Node {
     }
 
     fn submit<L: StepBook>(&mut self, block: Block, steps: &mut Steps<L>) -> Answer
-        requires { IsBlock block }
+        requires text { IsBlock block }
+        requires short { length (block_text block) ≤ longest_block }
         ensures { Decided self.old block (answer_bytes result) self.new }
     {
         outcome_answer(self.ledger.submit(block, &self.verdicts, steps))
     }
 }
 
-// `ACCEPTED` and the stamp, the code of the rule that the block breaks, `U01` where its form is not built, or `NOMEM`. The block
-// is let go.
+// `ACCEPTED` and the stamp, the code of the rule that the block breaks, or `NOMEM`. The block is let go.
 fn outcome_answer(outcome: Result<Stamp, SubmitRefusal>) -> Answer
     ensures { answer_bytes result ≡ outcome_text outcome }
 {
     match outcome {
         Ok(stamp) => accepted(&stamp),
         Err(SubmitRefusal::Refused { rule, block: _ }) => refused(code(rule).as_slice()),
-        Err(SubmitRefusal::Unbuilt { block: _ }) => refused(b"U01"),
         Err(SubmitRefusal::NoMemory { block: _ }) => one(b"NOMEM\n"),
     }
 }

@@ -1,6 +1,7 @@
 ghost use Rattle.std.specs.Prelude.{◌≡◌, ◌↔◌, IsTrue, ◌<◌, ◌≤◌, [], List, ℕ, length, IfOk, OnOk, OnErr};
 ghost use Rattle.std.specs.Io.KnownBytes.{Keeps};
 ghost use Rattle.dubp_outside.specs.Causes.{HasCause};
+ghost use Rattle.dubp_laws.specs.Laws.{IsConserved};
 ghost use Rattle.dubp_node.specs.Ends.{Ends, Faults, LastEnds};
 ghost use Rattle.dubp_node.specs.Run.{at, AnsweredSome, AnsweredMost, AnsweredToEnd, BrokeOff, IsRun};
 ghost use Rattle.dubp_node.specs.Cut.{BeginsNone};
@@ -15,6 +16,7 @@ use crate::node::Node;
 use crate::reading::Phase;
 use crate::serving::{InputEnd, finish, serve};
 use dubp_atoms::Steps;
+use dubp_laws::conserved;
 use dubp_outside::{Failed, Sink, Source};
 use std::alloc::Global;
 use std::marker::Brand;
@@ -61,6 +63,33 @@ const MOST_TAKEN: u64 = 1 << 40;
 /// `run`, 3 where a read failed, 4 where the input ended inside a frame, 5 where a write failed, 6 where there was no room
 /// to begin, and 7 where 2^40 bytes were taken and more would be needed.
 pub fn run<S: Source, K: Sink>(
+    alloc: Global,
+    words: &[&str],
+    source: &mut S,
+    sink: &mut K,
+    node: &mut Node,
+) -> u8
+    ensures usage { (result ≡ USAGE) ↔ ¬ (IsRun words.now) }
+    ensures statuses { IsStatus result }
+    ensures unread { result ≡ USAGE → at node.new (S.left source.new) (K.held sink.new) ≡ at node.old (S.left source.old) (K.held sink.old) }
+    ensures no_room { IsRun words.now → result ≡ NO_ROOM → at node.new (S.left source.new) (K.held sink.new) ≡ at node.old (S.left source.old) (K.held sink.old) }
+    ensures ended { IsRun words.now → result ≡ ENDED → AnsweredToEnd OnBoundary (at node.old (S.left source.old) (K.held sink.old)) (at node.new (S.left source.new) (K.held sink.new)) }
+    ensures cut_short { result ≡ CUT_SHORT → AnsweredToEnd InsideFrame (at node.old (S.left source.old) (K.held sink.old)) (at node.new (S.left source.new) (K.held sink.new)) }
+    ensures read_fault { result ≡ READ_FAULT → AnsweredSome (at node.old (S.left source.old) (K.held sink.old)) (at node.new (S.left source.new) (K.held sink.new)) }
+    ensures write_fault { IsRun words.now → result ≡ WRITE_FAULT → BrokeOff (at node.old (S.left source.old) (K.held sink.old)) (at node.new (S.left source.new) (K.held sink.new)) }
+    ensures too_much { result ≡ TOO_MUCH → AnsweredMost (at node.old (S.left source.old) (K.held sink.old)) (at node.new (S.left source.new) (K.held sink.new)) }
+    ensures faults { StatusFaults (S.faults source.old) (S.faults source.new) (K.faults sink.old) (K.faults sink.new) result }
+    ensures last_read { result ≡ READ_FAULT → (before : S) × (S.faults before ≡ S.faults source.old) × Keeps (S.left before) (S.left source.new) }
+    ensures conserved { IsConserved node.new.chain }
+{
+    let status = run_words(alloc, words, source, sink, node);
+    node.ledger().laws();
+    conserved();
+    status
+}
+
+// The same, of which the chain that it leaves needs no law.
+fn run_words<S: Source, K: Sink>(
     alloc: Global,
     words: &[&str],
     source: &mut S,

@@ -10,6 +10,7 @@ ghost use Rattle.dubp_node.specs.Session.{Broke};
 ghost use Rattle.dubp_node.specs.Reading.{Shows, Stands, most_at_hand};
 ghost use Rattle.dubp_node.specs.Serving.{TurnWritten, TurnBroke, ServedAll, Finished};
 
+use crate::commands::is_there;
 use crate::item::Item;
 use crate::node::{Node, bad, refused};
 use crate::reading::{Found, LONGEST_LINE, Phase, frame_len, line_end, take_one};
@@ -54,8 +55,8 @@ fn answer_line<L: StepBook>(node: &mut Node, line: &[u8], steps: &mut Steps<L>) 
         return bad();
     }
     match read_command(line) {
-        None => bad(),
-        Some(command) => node.act(&command, b"".as_slice(), steps),
+        Some(command) if is_there(&command) => node.act(&command, b"".as_slice(), steps),
+        _ => bad(),
     }
 }
 

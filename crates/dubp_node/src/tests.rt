@@ -1,6 +1,7 @@
 use crate::{Node, run_program};
 use dubp_outside::{MemSink, MemSource};
 use std::alloc::Global;
+use std::mem::forget;
 use std::test::Fail;
 
 // A block of number 0, whose hashes were computed by another program.
@@ -74,6 +75,7 @@ fn run_on(
     let mut sink = MemSink::new(alloc, 4096, most, writes)?;
     let mut node = Node::new(alloc);
     let status = run_program(alloc, words, &mut source, &mut sink, &mut node);
+    forget(node);
     Ok(Ran {
         status,
         left: source.left().len(),

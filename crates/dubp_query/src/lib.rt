@@ -1,7 +1,7 @@
 //! The texts of the answers to queries.
 //!
 //! ```text
-//! let answer = answer(&ledger, &Query::Head)?;
+//! let answer = answer(alloc, &ledger, &Query::Head)?;
 //! sink.write(answer.as_bytes())?;
 //! ```
 #![tactic(auto)]
@@ -9,10 +9,9 @@
 mod asking;
 mod bytes;
 mod lines;
-#[cfg(test)]
-mod tests;
 
 pub use asking::answer;
 pub use bytes::Answer;
+pub use dubp_answers::{balance_line, identity_line, money_line, uid_line};
 pub use dubp_replay::Query;
 pub use lines::head_line;

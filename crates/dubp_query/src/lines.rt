@@ -24,7 +24,7 @@ pub fn head_line(ledger: &Ledger) -> Line
     line
 }
 
-/// The answer to a query that is not built, as to a line that is no command. It takes no memory.
+/// The answer to a line that is no command, as that of RECORDS is. It takes no memory.
 pub fn bad_line() -> Line
     ensures { result.items ≡ bad_answer }
 {

@@ -1,4 +1,4 @@
-use Rattle.std.proofs.Common.{◌≡◌, ◌+◌, ◌<◌, ◌≤◌, ◌-◌, ◌∷◌, ◌++◌, ap, sym, subst, ◌∙◌, arith, rules, length, take, drop, get_or, length-drop, length-take-le, Some}
+use Rattle.std.proofs.Common.{◌≡◌, ◌+◌, ◌<◌, ◌≤◌, ◌-◌, ◌∷◌, ◌++◌, ap, sym, subst, ◌∙◌, arith, rules, length, take, drop, get_or, length-drop, length-take-le}
 use Rattle.std.proofs.lemmas.List.{take_all}
 use Rattle.dubp_node.specs.Entries.{Frame, HeadsFrame}
 use Rattle.dubp_node.proofs.Wholes.{heads_len, heads_short}

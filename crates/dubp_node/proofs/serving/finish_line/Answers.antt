@@ -1,4 +1,4 @@
-use Rattle.std.proofs.Common.{◌≡◌, [], refl, sym, subst, arith}
+use Rattle.std.proofs.Common.{◌≡◌, [], subst, arith}
 use Rattle.std.proofs.lemmas.List.{nil_from_length}
 use Rattle.dubp_node.specs.Cut.{BeginsNone}
 use Rattle.dubp_node.proofs.Wholes.{heads_len}

@@ -1,6 +1,5 @@
-use Rattle.std.proofs.Common.{subst, sym}
+use Rattle.std.proofs.Common.{subst}
 use Rattle.dubp_block.specs.Refusals.{NamesLine}
-use Rattle.dubp_block.specs.declared.refusal.ReadRefusal.{ReadRefusal}
 use Rattle.dubp_node.proofs.Decisions.{decided_raw, unread_raw}
 use Rattle.dubp_node.proofs.node.Node.act_short_block.Goals as goal
 

@@ -1,0 +1,50 @@
+-- What the heads of a chain and its parameters say of the difficulty of a key.
+use Rattle.std.proofs.Common.{◌≡◌, ◌<◌, List, [], ◌∷◌, length, Some, None, refl, ap, subst, ◌∙◌, arith}
+use Rattle.dubp_atoms.specs.Same.{Text}
+use Rattle.dubp_params.specs.declared.params.Params.{Params}
+use Rattle.dubp_params.specs.Ranges.{IsInRange}
+use Rattle.dubp_chain.specs.declared.head.Head.{Head}
+use Rattle.dubp_chain.specs.Chains.{Chain, params}
+use Rattle.dubp_chain.specs.Heads.{difficulty, difficulty_of}
+use Rattle.dubp_facts.specs.declared.facts.First.{First}
+use Rattle.dubp_facts.specs.Facts.{first_at}
+use Rattle.dubp_head.specs.HeadsStates.{HeadsState, AreOver}
+use Rattle.dubp_head.specs.Following.{AreHeads}
+use Rattle.dubp_head.specs.NextHead.{difficulty_for}
+use Rattle.dubp_kept.specs.KeptChain.{IsKnown}
+use Rattle.dubp_kept.proofs.Moved.{length_heads}
+
+-- what a difficulty over these heads asks for
+pub record MayCount (heads : HeadsState) (p : Params) : Type 0 where
+  pub valid : IsInRange p
+  pub over : AreOver heads p
+  pub follow : AreHeads p heads.list
+  pub some : 0 < length heads.list
+
+pub may_count : (c : Chain) (heads : HeadsState) (f : First) → IsKnown c heads → Some f ≡ first_at c tt → MayCount heads f.params
+may_count [] heads f known is = absurd cc
+may_count (b ∷ c) heads f known is =
+    let same : params (b ∷ c) ≡ f.params = cc in
+    record {
+      valid = subst IsInRange same known.steered;
+      over = subst (AreOver heads) same known.over;
+      follow = subst (λ p. AreHeads p heads.list) same known.follow;
+      some = omega (arith, ap length known.are, length_heads (b ∷ c));
+    }
+
+over_heads : (c : Chain) (hs : List Head) (k : Text) → 0 < length hs → Some (difficulty_for (params c) hs 0 k) ≡ difficulty_of c hs k
+over_heads c [] k some = absurd (omega (arith, some))
+over_heads c (h ∷ hs) k some = refl
+
+pub difficulty_is : (c : Chain) (heads : HeadsState) (f : First) (k : Text) → IsKnown c heads → Some f ≡ first_at c tt → Some (difficulty_for f.params heads.list 0 k) ≡ difficulty c k
+difficulty_is [] heads f k known is = absurd cc
+difficulty_is (b ∷ c) heads f k known is =
+    let same : f.params ≡ params (b ∷ c) = cc in
+    let some : 0 < length heads.list = (may_count (b ∷ c) heads f known is).some in
+    ap (λ p. Some (difficulty_for p heads.list 0 k)) same
+    ∙ over_heads (b ∷ c) heads.list k some
+    ∙ ap (λ hs. difficulty_of (b ∷ c) hs k) known.are
+
+pub no_difficulty : (c : Chain) (k : Text) → None ≡ first_at c tt → None ≡ difficulty c k
+no_difficulty [] k is = refl
+no_difficulty (b ∷ c) k is = absurd cc

@@ -1,0 +1,28 @@
+use Rattle.std.proofs.Common.{ap, subst, Some, ◌∙◌}
+use Rattle.dubp_kept.specs.KeptChain.{IsKnown}
+use Rattle.dubp_ledger.proofs.Difficulties.{may_count, difficulty_is, no_difficulty}
+use Rattle.dubp_ledger.proofs.ledger.Ledger.difficulty.Goals as goal
+
+pub difficulty-requires-clause-valid : goal.difficulty-requires-clause-valid
+difficulty-requires-clause-valid c =
+    (may_count c.args.self.now.chain c.heads.result.now c.in-Some.first (subst (λ s. IsKnown s.chain c.heads.result.now) c.self.view_is c.heads.ensures) (c.in-Some.ensures c.args.self.now.chain c.people.ensures)).valid
+
+pub difficulty-requires-clause-over : goal.difficulty-requires-clause-over
+difficulty-requires-clause-over c =
+    (may_count c.args.self.now.chain c.heads.result.now c.in-Some.first (subst (λ s. IsKnown s.chain c.heads.result.now) c.self.view_is c.heads.ensures) (c.in-Some.ensures c.args.self.now.chain c.people.ensures)).over
+
+pub difficulty-requires-clause-heads : goal.difficulty-requires-clause-heads
+difficulty-requires-clause-heads c =
+    (may_count c.args.self.now.chain c.heads.result.now c.in-Some.first (subst (λ s. IsKnown s.chain c.heads.result.now) c.self.view_is c.heads.ensures) (c.in-Some.ensures c.args.self.now.chain c.people.ensures)).follow
+
+pub difficulty-requires-clause-some : goal.difficulty-requires-clause-some
+difficulty-requires-clause-some c =
+    (may_count c.args.self.now.chain c.heads.result.now c.in-Some.first (subst (λ s. IsKnown s.chain c.heads.result.now) c.self.view_is c.heads.ensures) (c.in-Some.ensures c.args.self.now.chain c.people.ensures)).some
+
+pub returns-in_ok-found-in-Some : goal.returns-in_ok-found-in-Some
+returns-in_ok-found-in-Some c =
+    ap Some c.in_ok-found-in-Some.ensures
+    ∙ difficulty_is c.args.self.now.chain c.heads.result.now c.in-Some.first c.args.key (subst (λ s. IsKnown s.chain c.heads.result.now) c.self.view_is c.heads.ensures) (c.in-Some.ensures c.args.self.now.chain c.people.ensures)
+
+pub returns-in-None : goal.returns-in-None
+returns-in-None c = no_difficulty c.args.self.now.chain c.args.key (c.in-None.ensures c.args.self.now.chain c.people.ensures)

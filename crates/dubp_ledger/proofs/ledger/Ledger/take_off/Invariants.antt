@@ -1,8 +1,0 @@
-use Rattle.std.proofs.Common.{◌≡◌, ◌≤◌, ◌+◌, drop}
-use Rattle.dubp_ledger.proofs.ledger.Ledger.take_off.Given as goal
-
-abbrev pub invariant-loop : goal.invariant-loop
-invariant-loop g l = record {
-  chain : l.self.chain ≡ drop l.counter l.initial.self.chain;
-  kept : l.self.kept + l.counter ≡ l.initial.self.kept;
-}

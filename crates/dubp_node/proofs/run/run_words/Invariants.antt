@@ -1,0 +1,4 @@
+use Rattle.dubp_node.proofs.run.run_words.Given as goal
+
+abbrev pub ghosts-session_from : goal.ghosts-session_from
+ghosts-session_from g a = record { name = a.blank.name; parts = a.blank.parts }
