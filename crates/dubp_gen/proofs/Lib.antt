@@ -1,0 +1,5 @@
+pub mod Reading
+pub mod ByNumber
+pub mod Signatures
+pub mod Hashed
+pub mod Examples

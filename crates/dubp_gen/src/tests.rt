@@ -1,0 +1,61 @@
+use crate::{key_of, next_number, seal, uid_of};
+use dubp_block::read_block;
+use std::test::Fail;
+
+// A draft by the key of number 7. What it is sealed with was computed by another program.
+const DRAFT: &[u8] = b"Version: 10\n\
+Type: Block\n\
+Currency: test_currency\n\
+Number: 0\n\
+PoWMin: 0\n\
+Time: 1488987127\n\
+MedianTime: 1488987127\n\
+UnitBase: 0\n\
+Issuer: 1111111111111111111111111111111111111111118\n\
+IssuersFrame: 1\n\
+IssuersFrameVar: 0\n\
+DifferentIssuersCount: 0\n\
+Parameters: 0.0488:86400:1000:432000:100:5259600:63115200:5:5259600:5259600:0.8:31557600:5:24:300:12:0.67:1488970800:1490094000:15778800\n\
+MembersCount: 0\n\
+Identities:\n\
+Joiners:\n\
+Actives:\n\
+Leavers:\n\
+Revoked:\n\
+Excluded:\n\
+Certifications:\n\
+Transactions:\n\
+InnerHash: 9880AB695793A40B4291DC5A5FB6FB082B901AFAD5E758E3B1B90168CFFB80B0\n\
+Nonce: 7\n\
+AAAAAAAAAAAAAAAAAAAAAAAAAAAAAAAAAAAAAAAAAAAAAAAAAAAAAAAAAAAAAAAAAAAAAAAAAAAAAAAAAAAAAA==\n";
+
+const INNER_HASH: &[u8] = b"CDDE90FDD60895E6F552FA87A6BE34C315A5DED686EFF9AABA60858CA3BCF2FC";
+
+const MESSAGE: &[u8] = b"CC91D5A4ABA34A546AEDB10B3ED529EE723FC53F7F6A16035B189BD23E370054";
+
+const SIG: &[u8] =
+    b"F160456511EC91FA2FD44F311B4439F60F239F1BE4472293999BC5D52F6B76F2F160456511EC91FA2FD44F==";
+
+#[test]
+fn seals_a_first_block(rt: HostRuntime) -> Result<(), Fail> {
+    let sealed = seal(read_block(rt.alloc(), DRAFT)?, 24)?;
+    assert_eq!(rt; sealed.block.inner_hash.as_bytes(), INNER_HASH);
+    assert_eq!(rt; sealed.block.nonce, 45);
+    assert_eq!(rt; sealed.key, key_of(7));
+    assert_eq!(rt; sealed.message.as_bytes(), MESSAGE);
+    assert_eq!(rt; sealed.sig.as_bytes(), SIG);
+    Ok(())
+}
+
+#[test]
+fn makes_keys_names_and_numbers(rt: HostRuntime) {
+    assert_eq!(rt;
+        key_of(123_456).as_bytes(),
+        b"1111111111111111111111111111111111111111dhZ".as_slice()
+    );
+    assert_eq!(rt; uid_of(123_456).as_bytes(), b"user123456".as_slice());
+    assert_eq!(rt;
+        next_number(1_442_695_040_888_963_407),
+        1_876_011_003_808_476_466
+    );
+}
