@@ -76,7 +76,7 @@ module _ (h : Head) (list : List Head) (is : IssuersState) (ts : TimesState) (sp
 -- Reads.
 
 -- the last n of a list, from its reverse
-pub drop-reverse : (n : ℕ) (r : List Head) → drop (length r - n) (reverse r) ≡ reverse (take n r)
+pub drop-reverse : {X : Type 0} → (n : ℕ) (r : List X) → drop (length r - n) (reverse r) ≡ reverse (take n r)
 drop-reverse n r =
     let parts : reverse r ≡ reverse (drop n r) ++ reverse (take n r) = sym (ap reverse (take-append-drop n r)) ∙ reverse-append (take n r) (drop n r) in
     let behind : length r - n ≡ length (reverse (drop n r)) = omega (arith, length-reverse (drop n r), length-drop n r) in

@@ -2,6 +2,7 @@ pub mod Bounds
 pub mod Counting
 pub mod Doubling
 pub mod Entries
+pub mod FramePlaces
 pub mod KeptHeads
 pub mod LastBlocks
 pub mod LastTimes

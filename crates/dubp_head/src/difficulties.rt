@@ -46,19 +46,20 @@ pub(crate) fn difficulty_over(
         return Ok(first as u128);
     };
     let least = least_difficulty(heads, before, params);
-    let handicap = handicap_in(alloc, frame, key)?;
+    let handicap = handicap_in(alloc, heads, frame, key)?;
     let issuers = issuers_at_last(heads, key);
     let since = blocks_since(heads, key);
     Ok(issuer_diff(least, params.percent_rot, issuers, since, handicap))
 }
 
-// The handicap of the key in a frame.
-fn handicap_in(alloc: Global, frame: &Frame, key: &Key) -> Result<u64, NoMemory>
-    requires { length frame.now ≤ 2 ^ 40 }
+// The handicap of the key in the last frame of the heads.
+fn handicap_in(alloc: Global, heads: &Heads, frame: &Frame, key: &Key) -> Result<u64, NoMemory>
+    requires frame { frame.now ≡ frame_issuers heads.now.list }
+    requires few { length frame.now ≤ 2 ^ 40 }
     ensures { IfOk result (λ handicap. handicap ≡ handicap_among frame.now key.now) }
 {
     let median = frame.doubled_median(alloc)?;
-    Ok(handicap(frame.blocks_of(key), median))
+    Ok(handicap(frame.blocks_of(heads, key), median))
 }
 
 // How many issuers were counted at the last block of the key; 0 where it has none.

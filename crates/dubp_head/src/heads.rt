@@ -2,6 +2,7 @@ ghost use Rattle.std.specs.Prelude.{◌≡◌, [], ◌∷◌, ◌<◌, ◌≤◌
 ghost use Rattle.std.specs.Option.{option_map};
 ghost use Rattle.dubp_params.specs.Ranges.{IsInRange};
 ghost use Rattle.dubp_chain.specs.Heads.{newest, last_issued};
+ghost use Rattle.dubp_head.specs.LastBlocks.{last_place, places_before};
 ghost use Rattle.dubp_head.specs.HeadsStates.{AreOver, KeepsRoom, median_over};
 
 use crate::issuers::Issuers;
@@ -152,6 +153,22 @@ impl Heads {
             Some(place) => Some(&self.heads[place]),
             None => None,
         }
+    }
+
+    /// The place of the last block that the key issued, counted from the oldest. None exactly where it issued none. It takes no
+    /// memory, and looks the key up.
+    pub(crate) fn last_place(&self, key: &Key) -> Option<usize>
+        ensures { result ≡ last_place (map (λ h. h.issuer) self.now.list) key.now }
+    {
+        self.issuers.last_of(key)
+    }
+
+    /// For each of the last so many blocks, or of all where there are fewer, the place of the block that its issuer issued before,
+    /// oldest first. It takes no memory.
+    pub(crate) fn places_before(&self, count: u64) -> &[Option<usize>]
+        ensures { result.now ≡ reverse (take count (places_before (map (λ h. h.issuer) self.now.list))) }
+    {
+        self.issuers.newest(count)
     }
 
     // Takes memory for one more head.

@@ -1,4 +1,4 @@
-ghost use Rattle.std.specs.Prelude.{◌≡◌, ◌<◌, ◌≤◌, List, [], ◌∷◌, length, OnOk, IsSome};
+ghost use Rattle.std.specs.Prelude.{◌≡◌, ◌-◌, ◌<◌, ◌≤◌, List, [], ◌∷◌, drop, length, OnOk, IsSome};
 ghost use Rattle.std.specs.Map.{lookup};
 ghost use Rattle.dubp_atoms.specs.Same.{Text, same_text};
 ghost use Rattle.dubp_head.specs.LastBlocks.{AreIssuers};
@@ -87,5 +87,14 @@ impl Issuers {
         ensures { result ≡ lookup (same_text key.now) self.now.last }
     {
         self.last.get(key)
+    }
+
+    /// For each of the last so many blocks, or of all where there are fewer, the place of the block that its issuer issued before,
+    /// oldest first. It takes no memory.
+    pub(crate) fn newest(&self, count: u64) -> &[Option<usize>]
+        ensures { result.now ≡ drop (length self.now.before - count) self.now.before }
+    {
+        let len = self.before.len();
+        &self.before[len.saturating_sub(count as usize)..]
     }
 }

@@ -13,6 +13,7 @@
 #![tactic(auto)]
 
 mod augmenting;
+mod counts;
 mod difficulties;
 mod frame;
 mod heads;

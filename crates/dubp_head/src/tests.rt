@@ -1,9 +1,10 @@
 ghost use Rattle.std.specs.Prelude.{◌≡◌};
 
-use crate::Heads;
-use dubp_atoms::{Hash, Key};
+use crate::{Frame, Heads};
+use dubp_atoms::{Hash, Key, NoMemory};
 use dubp_chain::Head;
 use dubp_params::{Params, in_range, read_params};
+use std::alloc::Global;
 use std::test::Fail;
 
 const PARAMS: &[u8] =
@@ -23,7 +24,7 @@ fn head(number: u64, issuer: Key, time: u64) -> Head
         issuer,
         time,
         median_time: 0,
-        frame: 1,
+        frame: 3,
         frame_var: 0,
         issuers: 0,
         pow_min: 0,
@@ -77,6 +78,42 @@ fn five_heads_of_two_issuers(rt: HostRuntime) -> Result<(), Fail> {
         assert_eq!(rt;
             summary(&heads, &key, &other),
             (Some(3), Some(4), Some(600), 5)
+        );
+    }
+    Ok(())
+}
+
+// How many issuers the last frame has, how many of its blocks are of each key, and twice the median.
+fn frame_summary(
+    alloc: Global,
+    heads: &Heads,
+    key: &Key,
+    other: &Key,
+) -> Result<(u64, u64, u64, u64), NoMemory> {
+    let frame = Frame::of(alloc, heads)?;
+    let median = frame.doubled_median(alloc)?;
+    Ok((
+        frame.issuers(),
+        frame.blocks_of(heads, key),
+        frame.blocks_of(heads, other),
+        median,
+    ))
+}
+
+#[test]
+fn frame_of_three_blocks(rt: HostRuntime) -> Result<(), Fail> {
+    let params = read_params(PARAMS).ok_or("parameters")?;
+    let key = Key::read(KEY).ok_or("a key")?;
+    let other = Key::read(OTHER_KEY).ok_or("another key")?;
+    let mut heads = Heads::new(rt.alloc());
+    if in_range(&params) {
+        heads.push(head(0, other, 100), &params)?;
+        heads.push(head(1, key, 200), &params)?;
+        heads.push(head(2, key, 300), &params)?;
+        heads.push(head(3, other, 400), &params)?;
+        assert_eq!(rt;
+            frame_summary(rt.alloc(), &heads, &key, &other)?,
+            (2, 2, 1, 3)
         );
     }
     Ok(())

@@ -1,14 +1,51 @@
-use Rattle.std.proofs.Common.{List, map, reverse, take, arith}
-use Rattle.dubp_atoms.specs.Same.{Text}
-use Rattle.dubp_head.proofs.Counting.{found_count, blocks_of-le, length_so_far, counted_step}
+use Rattle.std.proofs.Common.{◌-◌, ◌<◌, ◌^◌, length, reverse, take, ap, subst, sym, IfSome, ◌∙◌, arith, rules}
+use Rattle.dubp_head.specs.LastBlocks.{places_before}
+use Rattle.dubp_head.specs.Frames.{frame_issuers, IsCountedAt, AreCounted}
+use Rattle.dubp_head.proofs.KeptHeads.{issuers_of}
+use Rattle.dubp_head.proofs.FramePlaces.{so_far, places_seen, length-frame, earlier_counted, room_left, counted_more, all_counted}
 use Rattle.dubp_head.proofs.frame.count.Goals as goal
 
-pub count_one-requires : goal.count_one-requires
-count_one-requires c =
-    let issuers : List Text = map (λ h. h.issuer) (reverse (take c.loop-head.head-index c.args.heads.now)) in
-    let issuer : Text = c.head-item.result.issuer in
-    omega (arith, found_count c.loop-head.blocks.entries issuers issuer c.loop-head.invariant, blocks_of-le issuers issuer, length_so_far c.args.heads.now c.loop-head.head-index)
+pub overflow_sub-start : goal.overflow_sub-start
+overflow_sub-start c =
+    omega (arith, c.len.ensures, places_seen c.args.heads.now.list c.last_frame.result c.places_before-before.result.now c.places_before-before.ensures)
 
-pub loop-head-preserved : goal.loop-head-preserved
-loop-head-preserved c =
-    counted_step c.args.heads.now c.loop-head.head-index c.head-item.result c.loop-head.blocks.entries c.count_one.new.blocks.entries (omega arith) c.head-item.is c.loop-head.invariant c.in_ok-count_one.ensures
+pub add-requires-clause-earlier : goal.add-requires-clause-earlier
+add-requires-clause-earlier c =
+    let before = c.places_before-before.result.now in
+    let start = c.len.result - length before in
+    let are = c.places_before-before.ensures ∙ ap (λ n. reverse (take n (places_before (issuers_of c.args.heads.now.list)))) c.last_frame.ensures in
+    let starts = ap (λ n. n - length before) c.len.ensures in
+    let few : length before < 2 ^ 63 = search rules in
+    subst (λ o. IfSome o (IsCountedAt c.loop-place.counts)) (sym c.place_behind.ensures) (earlier_counted c.args.heads.now.list before start are starts
+    c.loop-place.counts c.loop-place.place-index _ (omega arith) few c.loop-place.invariant.counted)
+
+pub add-requires-clause-counts : goal.add-requires-clause-counts
+add-requires-clause-counts c =
+    omega (arith, room_left c.loop-place.counts c.args.heads.now.list c.loop-place.place-index c.loop-place.invariant.counted, c.loop-place.invariant.room)
+
+pub loop-place-preserved : goal.loop-place-preserved
+loop-place-preserved c =
+    let before = c.places_before-before.result.now in
+    let start = c.len.result - length before in
+    let are = c.places_before-before.ensures ∙ ap (λ n. reverse (take n (places_before (issuers_of c.args.heads.now.list)))) c.last_frame.ensures in
+    let starts = ap (λ n. n - length before) c.len.ensures in
+    record {
+      counted =
+          counted_more c.args.heads.now.list before start are starts c.loop-place.counts c.add.new.self c.loop-place.place-index _ (omega arith) c.loop-place.invariant.counted
+          (λ issuers k is. c.add.ensures.counted issuers k (c.place_behind.ensures ∙ is));
+      room = omega (arith, c.add.ensures.room, c.loop-place.invariant.room);
+    }
+
+pub returns : goal.returns
+returns c =
+    let before = c.places_before-before.result.now in
+    let start = c.len.result - length before in
+    let are = c.places_before-before.ensures ∙ ap (λ n. reverse (take n (places_before (issuers_of c.args.heads.now.list)))) c.last_frame.ensures in
+    let starts = ap (λ n. n - length before) c.len.ensures in
+    let few : length before < 2 ^ 63 = search rules in
+    record {
+      counted =
+          all_counted c.args.heads.now.list before start are starts c.loop-place.counts
+          (subst (λ i. AreCounted c.loop-place.counts (so_far (frame_issuers c.args.heads.now.list) i)) (omega arith) c.loop-place.invariant.counted);
+      few = omega (arith, few, length-frame c.args.heads.now.list before start are starts);
+    }

@@ -1,7 +1,11 @@
-use Rattle.std.proofs.Common.{◌≡◌, map, reverse, take}
-use Rattle.dubp_head.specs.Frames.{counted}
+use Rattle.std.proofs.Common.{◌≤◌, length}
+use Rattle.dubp_head.specs.Frames.{frame_issuers, AreCounted}
+use Rattle.dubp_head.proofs.FramePlaces.{so_far}
 use Rattle.dubp_head.proofs.frame.count.Given as goal
 
--- the rows are those of the heads so far
-abbrev pub invariant-loop-head : goal.invariant-loop-head
-invariant-loop-head l = l.blocks.entries ≡ counted (map (λ h. h.issuer) (reverse (take l.head-index l.heads)))
+-- the blocks so far are counted, and there is room for all
+abbrev pub invariant-loop-place : goal.invariant-loop-place
+invariant-loop-place l = record {
+  counted : AreCounted l.counts (so_far (frame_issuers l.heads.list) l.place-index);
+  room : length l.before ≤ l.counts.room;
+}

@@ -1,11 +1,22 @@
-use Rattle.std.proofs.Common.{ap, ◌∙◌}
+use Rattle.std.proofs.Common.{◌≡◌, ◌-◌, length, List, ap, ◌∙◌, arith}
+use Rattle.dubp_atoms.specs.Same.{Text}
 use Rattle.dubp_chain.specs.Heads.{blocks_of}
+use Rattle.dubp_head.specs.LastBlocks.{last_place}
 use Rattle.dubp_head.specs.Frames.{frame_issuers}
-use Rattle.dubp_head.proofs.Counting.{found_count}
+use Rattle.dubp_head.proofs.Counting.{counted_at}
+use Rattle.dubp_head.proofs.FramePlaces.{length-frame-le, place_in_frame}
 use Rattle.dubp_head.proofs.frame.Frame.blocks_of.Goals as goal
+
+pub of_last-requires : goal.of_last-requires
+of_last-requires c =
+    let issuers : List Text = frame_issuers c.self.inside.heads.value.list in
+    let same : issuers ≡ frame_issuers c.args.heads.now.list = c.self.view_is ∙ c.requires in
+    let place : c.place_behind.result ≡ last_place issuers c.args.key.now = place_in_frame c.args.heads.now.list issuers c.args.key.now (c.len.result - c.blocks-2.result) c.last_place.result c.place_behind.result same (omega (arith, c.len.ensures, c.blocks-2.ensures, c.self.invariant.counted.length, ap length same, length-frame-le c.args.heads.now.list)) c.last_place.ensures c.place_behind.ensures in
+    counted_at c.self.inside.counts issuers c.args.key.now c.place_behind.result c.self.invariant.counted place c.self.invariant.few
 
 pub returns : goal.returns
 returns c =
-    c.count_of.ensures
-    ∙ found_count c.self.inside.blocks.entries (frame_issuers c.self.inside.heads.value.list) c.args.key.now c.self.invariant.rows_are
-    ∙ ap (λ l. blocks_of l c.args.key.now) c.self.view_is
+    let issuers : List Text = frame_issuers c.self.inside.heads.value.list in
+    let same : issuers ≡ frame_issuers c.args.heads.now.list = c.self.view_is ∙ c.requires in
+    let place : c.place_behind.result ≡ last_place issuers c.args.key.now = place_in_frame c.args.heads.now.list issuers c.args.key.now (c.len.result - c.blocks-2.result) c.last_place.result c.place_behind.result same (omega (arith, c.len.ensures, c.blocks-2.ensures, c.self.invariant.counted.length, ap length same, length-frame-le c.args.heads.now.list)) c.last_place.ensures c.place_behind.ensures in
+    c.of_last.ensures issuers c.args.key.now place c.self.invariant.counted ∙ ap (λ l. blocks_of l c.args.key.now) c.self.view_is

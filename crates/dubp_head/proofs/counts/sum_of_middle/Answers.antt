@@ -1,6 +1,6 @@
 use Rattle.std.proofs.Common.{sym, arith, ◌≡◌, ◌-◌, ◌<◌, length}
 use Rattle.dubp_head.proofs.Doubling.{doubled_median-rising}
-use Rattle.dubp_head.proofs.frame.sum_of_middle.Goals as goal
+use Rattle.dubp_head.proofs.counts.sum_of_middle.Goals as goal
 
 pub returns : goal.returns
 returns c =
