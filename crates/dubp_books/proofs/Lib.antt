@@ -1,2 +1,4 @@
 pub mod Records
 pub mod Asked
+pub mod Filtered
+pub mod Chosen

@@ -1,17 +1,19 @@
 //! People and money of a chain as one: its tables, behind which a block is written, and the rules that are asked of them.
 //!
 //! `Books` moves people and money together, as one pair of tables. It judges a block by the rules on people and then by those on money,
-//! and writes one into both: the records of people come first. Contracts see the chain that the tables stand for.
+//! and writes one into both: the records of people come first. Of the records it hands out those that tell what ended and what was
+//! cleared, and beside them who was paid. Contracts see the chain that the tables stand for.
 //!
 //! ```text
 //! let mut books = Books::new(alloc);
 //! let broken = books.first_broken(alloc, &block, &head, &params, &verdicts)?;
-//! books.write(alloc, &block, &head, &mut steps)?;
+//! let left = books.write(alloc, &block, &head, hashes, &mut steps)?;
 //! ```
 #![tactic(auto)]
 
 mod books;
 mod judging;
+mod leaving;
 mod writing;
 
 pub use books::Books;

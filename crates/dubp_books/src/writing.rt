@@ -1,14 +1,15 @@
-ghost use Rattle.std.specs.Prelude.{◌≡◌, ◌∷◌, IfOk, IfSome};
+ghost use Rattle.std.specs.Prelude.{◌≡◌, IfOk};
 ghost use Rattle.dubp_chain.specs.Chains.{Chain};
-ghost use Rattle.dubp_chain.specs.Members.{members};
 ghost use Rattle.dubp_validity.specs.Rules.{IsSound};
+ghost use Rattle.dubp_books.specs.Paid.{paid_keys};
 
 use crate::books::Books;
+use crate::leaving::left_of;
 use dubp_atoms::{Key, NoMemory, Steps};
 use dubp_block::Block;
 use dubp_chain::Head;
 use dubp_docs::TxHashes;
-use dubp_kept::Written;
+use dubp_kept::{LeftBehind, Written};
 use dubp_people::{People, apply};
 use dubp_people_count::member_keys;
 use dubp_undo::Tables;
@@ -23,10 +24,11 @@ impl Written for Books {
         head: &Head,
         hashes: &[TxHashes],
         steps: &mut Steps<L>,
-    ) -> Result<(), NoMemory> {
-        let mut records = Vec::new(alloc);
+    ) -> Result<LeftBehind, NoMemory> {
+        let mut of_people = Vec::new(alloc);
+        let mut of_money = Vec::new(alloc);
         let tables = &mut self.tables;
-        apply(alloc, &mut tables.first, block, head, &mut records, steps)?;
+        apply(alloc, &mut tables.first, block, head, &mut of_people, steps)?;
         let members = paid_members(alloc, &tables.first, head)?;
         tables.second.apply(
             alloc,
@@ -34,16 +36,16 @@ impl Written for Books {
             head,
             members.as_slice(),
             hashes,
-            &mut records,
+            &mut of_money,
             steps,
         )?;
-        Ok(())
+        Ok(left_of(of_people, members, of_money))
     }
 }
 
-/// The members, where the head has a dividend, which is paid to them; else none are looked up.
+/// The members, where the head has a dividend, which is paid to them; else none, and none are looked up.
 fn paid_members(alloc: Global, people: &People, head: &Head) -> Result<Vec<Key>, NoMemory>
-    ensures { IfOk result (λ keys. (c : Chain) → ⟦<People as Tables<Block>>⟧.at people.now c → IsSound c → IfSome head.now.ud (λ amount. keys.items ≡ members c)) }
+    ensures { IfOk result (λ keys. (c : Chain) → ⟦<People as Tables<Block>>⟧.at people.now c → IsSound c → keys.items ≡ paid_keys c head.now) }
 {
     match head.ud {
         Some(_) => member_keys(alloc, people),

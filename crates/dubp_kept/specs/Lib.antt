@@ -1,2 +1,3 @@
 pub mod KeptChain
+pub mod LeftBehind
 pub mod Moves

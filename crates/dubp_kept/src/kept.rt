@@ -1,8 +1,10 @@
 ghost use Rattle.std.specs.Prelude.{◌≡◌, ◌+◌, ◌≤◌, ◌<◌, ◌∷◌, [], None, Some, drop, min, reverse, take, OnOk, OnErr, IfOk, IfErr};
 ghost use Rattle.dubp_local.specs.Local.{all_hashes};
+ghost use Rattle.dubp_kept.specs.LeftBehind.{left_behind};
 ghost use Rattle.dubp_kept.specs.KeptChain.{IsKnown, MayJoin, most_kept, most_steps, with_block, without_last, HandsBack, IsHeldBy, IsAsHeld, IsAsBefore};
 
 use crate::held::{Before, Held};
+use crate::left_behind::LeftBehind;
 use crate::moves::{enter, trim, trim_unless};
 use crate::switch::{make_ready, move_off, put_back};
 use crate::written::Written;
@@ -105,9 +107,9 @@ impl<T: Written> Kept<T> {
         &self.blocks
     }
 
-    /// Adds the block, whose head this is and which breaks no rule on the chain but such as read verdicts. The parameters are those of
-    /// the chain with it, and `hashes` those of its transactions, in order. Of the last hundred blocks each can be taken off; while
-    /// blocks are held, no block that can be ceases to be so.
+    /// Adds the block, whose head this is and which breaks no rule on the chain but such as read verdicts, and hands out what it leaves
+    /// behind. The parameters are those of the chain with it, and `hashes` those of its transactions, in order. Of the last hundred
+    /// blocks each can be taken off; while blocks are held, no block that can be ceases to be so.
     ///
     /// Where there is no memory, the block is handed back, and all is as before.
     pub fn add<L: StepBook>(
@@ -117,10 +119,11 @@ impl<T: Written> Kept<T> {
         params: &Params,
         hashes: &[TxHashes],
         steps: &mut Steps<L>,
-    ) -> Result<(), Block>
+    ) -> Result<LeftBehind, Block>
         requires joins { MayJoin self.old.chain block head params.now }
         requires hashes { hashes.now ≡ all_hashes block }
         ensures added { OnOk result (self.new ≡ with_block block self.old) }
+        ensures left { IfOk result (λ left. left ≡ left_behind self.old.chain block) }
         ensures steps { OnOk result (steps.new ≤ steps.old + most_steps self.old.chain block) }
         ensures refused { IfErr result (λ back. HandsBack block back self.old self.new) }
     {
@@ -130,13 +133,13 @@ impl<T: Written> Kept<T> {
         if let Err(_) = self.heads.push(head, params) {
             return Err(block);
         }
-        if let Err(_) = enter(&mut self.tables, self.alloc, &block, &head, hashes, steps) {
+        let Ok(left) = enter(&mut self.tables, self.alloc, &block, &head, hashes, steps) else {
             self.heads.pop();
             return Err(block);
-        }
+        };
         self.blocks.push_reserved(block);
         trim_unless(&mut self.tables, self.out.is_some(), MOST_KEPT);
-        Ok(())
+        Ok(left)
     }
 
     /// Takes the last block off and hands it out. One can be taken off. It takes no memory.

@@ -10,7 +10,7 @@
 //!
 //! ```text
 //! let mut kept = Kept::new(alloc, tables);
-//! kept.add(block, head, &params, &mut steps)?;
+//! let left = kept.add(block, head, &params, hashes, &mut steps)?;
 //! let block = kept.withdraw(&mut steps);
 //!
 //! let held = kept.hold(2, &mut steps)?;
@@ -20,10 +20,12 @@
 
 mod held;
 mod kept;
+mod left_behind;
 mod moves;
 mod switch;
 mod written;
 
 pub use held::Held;
 pub use kept::Kept;
+pub use left_behind::LeftBehind;
 pub use written::Written;

@@ -1,11 +1,13 @@
-ghost use Rattle.std.specs.Prelude.{◌≡◌, ◌+◌, ◌-◌, ◌≤◌, ◌<◌, ◌∷◌, ℕ, Some, cond, length, min, OnOk, OnErr};
+ghost use Rattle.std.specs.Prelude.{◌≡◌, ◌+◌, ◌-◌, ◌≤◌, ◌<◌, ◌∷◌, ℕ, Some, cond, length, min, IfOk, OnOk, OnErr};
 ghost use Rattle.dubp_block.specs.Text.{IsBlock};
 ghost use Rattle.dubp_chain.specs.Chains.{Chain};
 ghost use Rattle.dubp_chain.specs.Heads.{head_of};
 ghost use Rattle.dubp_validity.specs.Rules.{IsSound};
 ghost use Rattle.dubp_local.specs.Local.{all_hashes};
 ghost use Rattle.dubp_kept.specs.KeptChain.{most_steps};
+ghost use Rattle.dubp_kept.specs.LeftBehind.{left_behind};
 
+use crate::left_behind::LeftBehind;
 use crate::written::Written;
 use dubp_atoms::{NoMemory, Steps};
 use dubp_block::Block;
@@ -15,7 +17,8 @@ use dubp_undo::Tables;
 use std::alloc::Global;
 use std::sync::ledger::Ledger as StepBook;
 
-/// Marks the tables and writes the block into them; where that is refused, the tables stand for the chain as before.
+/// Marks the tables and writes the block into them, and hands out what the block leaves behind; where that is refused, the tables stand
+/// for the chain as before.
 pub(crate) fn enter<T: Written, L: StepBook>(
     tables: &mut T,
     alloc: Global,
@@ -23,10 +26,11 @@ pub(crate) fn enter<T: Written, L: StepBook>(
     head: &Head,
     hashes: &[TxHashes],
     steps: &mut Steps<L>,
-) -> Result<(), NoMemory>
+) -> Result<LeftBehind, NoMemory>
     requires text { IsBlock block.now }
     requires hashes { hashes.now ≡ all_hashes block.now }
     ensures stands { OnOk result ((c : Chain) → IsSound (block.now ∷ c) → IsBlock block.now → head_of (block.now ∷ c) ≡ Some head.now → T.stands tables.old c → T.stands tables.new (block.now ∷ c)) }
+    ensures left { IfOk result (λ left. (c : Chain) → IsSound (block.now ∷ c) → IsBlock block.now → head_of (block.now ∷ c) ≡ Some head.now → T.stands tables.old c → left ≡ left_behind c block.now) }
     ensures steps { OnOk result ((c : Chain) → IsSound (block.now ∷ c) → IsBlock block.now → head_of (block.now ∷ c) ≡ Some head.now → T.stands tables.old c → steps.new ≤ steps.old + most_steps c block.now) }
     ensures depth { OnOk result (length (T.costs tables.new) ≡ length (T.costs tables.old) + 1) }
     ensures waits { (o : Chain) (i : ℕ) → T.waits tables.old o i → T.waits tables.new o i }
@@ -37,9 +41,9 @@ pub(crate) fn enter<T: Written, L: StepBook>(
     tables.laws();
     tables.mark()?;
     match tables.write(alloc, block, head, hashes, steps) {
-        Ok(()) => {
+        Ok(left) => {
             tables.laws();
-            Ok(())
+            Ok(left)
         }
         Err(error) => {
             tables.back(steps);

@@ -1,11 +1,13 @@
-ghost use Rattle.std.specs.Prelude.{◌≡◌, ◌+◌, ◌≤◌, ◌∷◌, ℕ, Some, length, OnOk};
+ghost use Rattle.std.specs.Prelude.{◌≡◌, ◌+◌, ◌≤◌, ◌∷◌, ℕ, Some, length, IfOk, OnOk};
 ghost use Rattle.dubp_block.specs.Text.{IsBlock};
 ghost use Rattle.dubp_chain.specs.Chains.{Chain};
 ghost use Rattle.dubp_chain.specs.Heads.{head_of};
 ghost use Rattle.dubp_validity.specs.Rules.{IsSound};
 ghost use Rattle.dubp_local.specs.Local.{all_hashes};
 ghost use Rattle.dubp_kept.specs.KeptChain.{most_steps};
+ghost use Rattle.dubp_kept.specs.LeftBehind.{left_behind};
 
+use crate::left_behind::LeftBehind;
 use dubp_atoms::{NoMemory, Steps};
 use dubp_block::Block;
 use dubp_chain::Head;
@@ -17,7 +19,7 @@ use std::sync::ledger::Ledger as StepBook;
 /// Tables of a chain that blocks are written into.
 pub trait Written: Tables<Block> {
     /// Writes the block, whose head this is, behind the chain: it breaks no rule there but such as read verdicts. `hashes` are those of its
-    /// transactions, in order.
+    /// transactions, in order. Hands out what the block leaves behind.
     ///
     /// `NoMemory` where there is no room: what was written until then stands in the tables, and what is marked stays so.
     fn write<L: StepBook>(
@@ -27,10 +29,11 @@ pub trait Written: Tables<Block> {
         head: &Head,
         hashes: &[TxHashes],
         steps: &mut Steps<L>,
-    ) -> Result<(), NoMemory>
+    ) -> Result<LeftBehind, NoMemory>
         requires text { IsBlock block.now }
         requires hashes { hashes.now ≡ all_hashes block.now }
         ensures at { OnOk result ((c : Chain) → IsSound (block.now ∷ c) → IsBlock block.now → head_of (block.now ∷ c) ≡ Some head.now → Self.at self.old c → Self.at self.new (block.now ∷ c)) }
+        ensures left { IfOk result (λ left. (c : Chain) → IsSound (block.now ∷ c) → IsBlock block.now → head_of (block.now ∷ c) ≡ Some head.now → Self.at self.old c → left ≡ left_behind c block.now) }
         ensures steps { OnOk result ((c : Chain) → IsSound (block.now ∷ c) → IsBlock block.now → head_of (block.now ∷ c) ≡ Some head.now → Self.at self.old c → steps.new ≤ steps.old + most_steps c block.now) }
         ensures marked { (c : Chain) → Self.marked self.old c → Self.marked self.new c }
         ensures waits { (o : Chain) (i : ℕ) → Self.waits self.old o i → Self.waits self.new o i }

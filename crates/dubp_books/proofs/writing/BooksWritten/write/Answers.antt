@@ -1,11 +1,15 @@
-use Rattle.std.proofs.Common.{◌∷◌, refl, sym, subst}
+use Rattle.std.proofs.Common.{◌∷◌, ◌++◌, ◌∙◌, filter, refl, ap}
 use Rattle.dubp_registry.specs.contracts.registry.RegistryTablesBlock.TheImpl as people
 use Rattle.dubp_money.specs.contracts.money.MoneyTablesBlock.TheImpl as money
 use Rattle.dubp_undo.specs.Numbers.{plus}
 use Rattle.dubp_people.specs.Applied as people_words
 use Rattle.dubp_money.specs.Applied as money_words
 use Rattle.dubp_people.proofs.Beside.{two_depth}
+use Rattle.dubp_steps.specs.Steps.{people_records}
+use Rattle.dubp_money.specs.Applied.{money_records}
+use Rattle.dubp_books.specs.Kinds.{is_ended, is_cleared}
 use Rattle.dubp_books.proofs.Asked.{whole_hashes_are}
+use Rattle.dubp_books.proofs.Chosen.{ended_of_people, cleared_of_money, are_paid, paid_by_head}
 use Rattle.dubp_books.proofs.Records.{steps_of_both}
 use Rattle.dubp_books.proofs.writing.BooksWritten.write.Goals as goal
 
@@ -45,7 +49,7 @@ returns-clause-at g c = λ chain sound text head at.
     let first : people_words.IsApplied chain b h = record { sound = sound; block = text; head = head } in
     let second : money_words.IsApplied chain b h = record { sound = sound; block = text; head = head } in
     let people_at = c.in_ok-apply.ensures.at chain first at.0 in
-    let paid = subst (λ keys. money_words.ArePaid (b ∷ chain) h keys) (sym c.as_slice.ensures.value) (c.in_ok-members.ensures (b ∷ chain) people_at sound) in
+    let paid = are_paid (b ∷ chain) h c.as_slice.result.now (c.as_slice.ensures.value ∙ c.in_ok-members.ensures (b ∷ chain) people_at sound) in
     (people_at, c.in_ok-apply-2.ensures.at chain second paid at.1)
 
 pub returns-clause-steps : goal.returns-clause-steps
@@ -55,8 +59,24 @@ returns-clause-steps g c = λ chain sound text head at.
     let first : people_words.IsApplied chain b h = record { sound = sound; block = text; head = head } in
     let second : money_words.IsApplied chain b h = record { sound = sound; block = text; head = head } in
     let people_at = c.in_ok-apply.ensures.at chain first at.0 in
-    let paid = subst (λ keys. money_words.ArePaid (b ∷ chain) h keys) (sym c.as_slice.ensures.value) (c.in_ok-members.ensures (b ∷ chain) people_at sound) in
+    let paid = are_paid (b ∷ chain) h c.as_slice.result.now (c.as_slice.ensures.value ∙ c.in_ok-members.ensures (b ∷ chain) people_at sound) in
     steps_of_both chain b c.args.steps.now c.apply.new.steps c.apply-2.new.steps (c.in_ok-apply.ensures.steps chain first at.0) (c.in_ok-apply-2.ensures.steps chain second paid at.1)
+
+pub returns-clause-left : goal.returns-clause-left
+returns-clause-left g c = λ chain sound text head at.
+    let b = c.args.block.now in
+    let h = c.args.head.now in
+    let first : people_words.IsApplied chain b h = record { sound = sound; block = text; head = head } in
+    let second : money_words.IsApplied chain b h = record { sound = sound; block = text; head = head } in
+    let people_at = c.in_ok-apply.ensures.at chain first at.0 in
+    let keys = c.in_ok-members.ensures (b ∷ chain) people_at sound in
+    let paid = are_paid (b ∷ chain) h c.as_slice.result.now (c.as_slice.ensures.value ∙ keys) in
+    let of_people = c.in_ok-apply.ensures.records chain first at.0 ∙ ap (λ l. l ++ people_records chain b) c.new-of_people.ensures.items in
+    let of_money = c.in_ok-apply-2.ensures.records chain second paid at.1 ∙ ap (λ l. l ++ money_records chain b) c.new-of_money.ensures.items in
+    let ended = c.left_of.ensures.ended ∙ ap (filter is_ended) of_people ∙ ended_of_people chain b in
+    let members = c.left_of.ensures.paid ∙ keys ∙ paid_by_head chain b h head in
+    let cleared = c.left_of.ensures.cleared ∙ ap (filter is_cleared) of_money ∙ cleared_of_money chain b in
+    λ i. record { ended = ended i; paid = members i; cleared = cleared i }
 
 pub returns-in_err-apply-clause-waits : goal.returns-in_err-apply-clause-waits
 returns-in_err-apply-clause-waits g c = λ o i w. (c.in_err-apply.ensures.waits o i w.0, w.1)

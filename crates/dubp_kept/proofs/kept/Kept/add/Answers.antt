@@ -13,7 +13,7 @@ invariant_of-self-2 g c =
     let joins = subst (λ x. MayJoin x b c.args.head c.args.params.now) (sym here) c.requires.joins in
     let known = known_more old b c.args.head c.args.params.now s.heads c.push.new.self joins c.self.invariant.known c.in_default-push.ensures.pushed c.in_default-push.ensures.span in
     let wide = room_more b old c.push.new.self c.args.params.now known.are c.in_default-push.ensures.room c.in_default-push.ensures.width joins.same in
-    let stands = c.trim_unless.ensures.stands (b ∷ old) (c.in_default-enter.ensures.stands old known.sound joins.text joins.head c.self.invariant.stands_is) in
+    let stands = c.trim_unless.ensures.stands (b ∷ old) (c.in-Ok.ensures.stands old known.sound joins.text joins.head c.self.invariant.stands_is) in
     let more : b ∷ old ≡ reverse c.push_reserved.new.self.items = turned s.blocks.items c.reserve.new.self.items c.push_reserved.new.self.items b c.reserve.ensures.items c.push_reserved.ensures.items in
     let before = length (g.T.Tables.costs s.tables) in
     let entered = length (g.T.Tables.costs c.enter.new.tables) in
@@ -21,10 +21,10 @@ invariant_of-self-2 g c =
     let trimmed = subst (λ all. depth ≡ cond all entered (min entered most_kept)) c.is_some.ensures c.trim_unless.ensures.depth in
     record {
       stands_is = subst (λ x. g.T.Tables.stands c.trim_unless.new.tables x) more stands;
-      fits = omega (arith, ap length (sym more), trimmed_most s.out entered depth trimmed, c.in_default-enter.ensures.depth, c.self.invariant.fits);
+      fits = omega (arith, ap length (sym more), trimmed_most s.out entered depth trimmed, c.in-Ok.ensures.depth, c.self.invariant.fits);
       known = subst (λ x. IsKnown x c.push.new.self) more known;
       heads_room = subst (HasRoom c.push.new.self) more wide;
       out_is = stands_on s.out (g.T.Tables.waits s.tables) (g.T.Tables.waits c.trim_unless.new.tables) before depth (length (g.T.Tables.ahead_costs s.tables)) (length (g.T.Tables.ahead_costs c.trim_unless.new.tables)) s.heads c.push.new.self s.behind.items old (reverse c.push_reserved.new.self.items) _ _
           c.self.invariant.out_is (λ o i w. c.trim_unless.ensures.waits o i (c.enter.ensures.waits o i w)) (ap length (c.trim_unless.ensures.ahead ∙ c.enter.ensures.ahead)) c.push.ensures.keeps
-          (omega (arith, c.reserve.ensures.capacity, c.push_reserved.ensures.capacity)) (trimmed_few s.out entered depth trimmed) (λ o e. omega (arith, ap length (sym more), trimmed_all s.out entered depth trimmed o e, c.in_default-enter.ensures.depth));
+          (omega (arith, c.reserve.ensures.capacity, c.push_reserved.ensures.capacity)) (trimmed_few s.out entered depth trimmed) (λ o e. omega (arith, ap length (sym more), trimmed_all s.out entered depth trimmed o e, c.in-Ok.ensures.depth));
     }

@@ -1,0 +1,14 @@
+use dubp_atoms::{Items, Key};
+use dubp_validity::Record;
+
+/// What a block leaves behind that its lines do not tell. With its fields and its head, its records are put together from it.
+/// Protocol: records.
+#[derive(Debug, Drop)]
+pub struct LeftBehind {
+    /// What ended with it, as records: memberships that expired, keys revoked by time, certifications that came to their end.
+    pub ended: Items<Record>,
+    /// Who was paid a dividend, by key.
+    pub paid: Items<Key>,
+    /// The sources that were cleared, as records, in the order of making.
+    pub cleared: Items<Record>,
+}
