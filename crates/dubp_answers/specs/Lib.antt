@@ -1,2 +1,3 @@
 pub mod RowLines
 pub mod CertificationLines
+pub mod RecordLines

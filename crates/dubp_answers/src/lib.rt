@@ -10,6 +10,7 @@
 //! let line = distance_line(alloc, &registry, key)?;
 //! let text = sources_text(alloc, &money, &cond)?;
 //! let text = certs_text(alloc, &registry, key)?;
+//! let text = records_text(alloc, Some(records.as_slice()))?;
 //! ```
 #![tactic(auto)]
 
@@ -19,6 +20,7 @@ mod difficulties;
 mod distance;
 mod money;
 mod people;
+mod records;
 mod sources;
 mod values;
 
@@ -28,4 +30,5 @@ pub use difficulties::diff_line;
 pub use distance::distance_line;
 pub use money::{balance_line, money_line};
 pub use people::{identity_line, uid_line};
+pub use records::records_text;
 pub use sources::sources_text;

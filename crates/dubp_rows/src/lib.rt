@@ -1,0 +1,18 @@
+//! The records of a block, put together again where they are asked for: no chain keeps them.
+//!
+//! Most follow from the lines of the block, from its head and from the facts of a chain that it is a block of. What does not is what the
+//! block left behind (`dubp_kept::LeftBehind`): what ended with it, whom it paid and what it cleared. The chapter on records in
+//! `docs/protocol` says the same in words.
+//!
+//! ```text
+//! let mut records = Vec::new(alloc);
+//! put_records(alloc, &block, &head, &facts, &left, &mut records)?;
+//! ```
+#![tactic(auto)]
+
+mod copying;
+mod lines;
+mod money;
+mod rows;
+
+pub use rows::put_records;

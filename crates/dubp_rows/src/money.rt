@@ -1,0 +1,73 @@
+//! The records of transactions and of dividends.
+ghost use Rattle.std.specs.Prelude.{◌≡◌, ◌++◌, Some, map, OnOk};
+ghost use Rattle.std.specs.List.{flat_map};
+ghost use Rattle.dubp_block.specs.Text.{IsBlock};
+ghost use Rattle.dubp_cond.specs.Transactions.{IsTx};
+ghost use Rattle.dubp_chain.specs.Chains.{Chain};
+ghost use Rattle.dubp_chain.specs.Money.{dividends_at};
+ghost use Rattle.dubp_validity.specs.Records.{input_of, transaction_records};
+ghost use Rattle.dubp_validity.specs.declared.record.Record.TheVariants.{Dividend};
+
+use dubp_atoms::{Key, NoMemory};
+use dubp_block::Block;
+use dubp_chain::Head;
+use dubp_cond::Tx;
+use dubp_docs::tx_hashes;
+use dubp_money::{Payment, put_dividends, put_makes, put_spends};
+use dubp_validity::Record;
+use std::alloc::Global;
+
+// What a transaction of the block spends, and then what it makes.
+fn put_transaction(
+    alloc: Global,
+    block: &Block,
+    tx: &Tx,
+    out: &mut Vec<Record>,
+) -> Result<(), NoMemory>
+    requires { IsTx tx.now }
+    ensures { OnOk result ((c : Chain) → out.new.items ≡ out.old.items ++ transaction_records c block.now tx.now) }
+{
+    let hash = tx_hashes(&block.currency, tx).whole;
+    put_spends(tx, out)?;
+    put_makes(alloc, tx, &hash, out)
+}
+
+/// Appends the records of the transactions of the block, one after the other.
+///
+/// `NoMemory` where there is no room for them; some may have been appended then.
+pub(crate) fn put_transactions(
+    alloc: Global,
+    block: &Block,
+    out: &mut Vec<Record>,
+) -> Result<(), NoMemory>
+    requires { IsBlock block.now }
+    ensures { OnOk result ((c : Chain) → out.new.items ≡ out.old.items ++ flat_map (transaction_records c block.now) block.now.transactions) }
+{
+    for tx in block.transactions.as_slice() {
+        put_transaction(alloc, block, tx, out)?;
+    }
+    Ok(())
+}
+
+/// Appends the records of what the block, whose head this is, pays to these members; none where it pays nothing.
+///
+/// `NoMemory` where there is no room for them; some may have been appended then.
+pub(crate) fn put_payments(
+    block: &Block,
+    head: &Head,
+    members: &[Key],
+    out: &mut Vec<Record>,
+) -> Result<(), NoMemory>
+    ensures { OnOk result (out.new.items ≡ out.old.items ++ map (λ s. Dividend (input_of s)) (dividends_at block.now.number (Some head.now) members.now)) }
+{
+    let Some(amount) = head.ud else {
+        return Ok(());
+    };
+    let payment = Payment {
+        amount,
+        base: head.unit_base,
+        number: block.number,
+        time: head.median_time,
+    };
+    put_dividends(payment, members, out)
+}
