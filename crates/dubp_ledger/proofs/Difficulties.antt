@@ -1,5 +1,5 @@
 -- What the heads of a chain and its parameters say of the difficulty of a key.
-use Rattle.std.proofs.Common.{◌≡◌, ◌<◌, List, [], ◌∷◌, length, Some, None, refl, ap, subst, ◌∙◌, arith}
+use Rattle.std.proofs.Common.{◌≡◌, ◌<◌, List, [], ◌∷◌, length, Option, Some, None, refl, ap, subst, ◌∙◌, arith}
 use Rattle.dubp_atoms.specs.Same.{Text}
 use Rattle.dubp_params.specs.declared.params.Params.{Params}
 use Rattle.dubp_params.specs.Ranges.{IsInRange}
@@ -13,6 +13,11 @@ use Rattle.dubp_head.specs.Following.{AreHeads}
 use Rattle.dubp_head.specs.NextHead.{difficulty_for}
 use Rattle.dubp_kept.specs.KeptChain.{IsKnown}
 use Rattle.dubp_kept.proofs.Moved.{length_heads}
+use Rattle.dubp_local.specs.Local.{AreParamsOf}
+use Rattle.dubp_rules.specs.declared.rule.Rule.{Rule}
+use Rattle.dubp_rules.specs.declared.rule.Rule.TheVariants.{X01, P01}
+use Rattle.dubp_rules.specs.First.{IsFirst}
+use Rattle.dubp_rules.proofs.FirstLaws.{IsFirst_from_FirstOf, FirstOf_from_IsFirst, FirstOf_append_none}
 
 -- what a difficulty over these heads asks for
 pub record MayCount (heads : HeadsState) (p : Params) : Type 0 where
@@ -48,3 +53,17 @@ difficulty_is (b ∷ c) heads f k known is =
 pub no_difficulty : (c : Chain) (k : Text) → None ≡ first_at c tt → None ≡ difficulty c k
 no_difficulty [] k is = refl
 no_difficulty (b ∷ c) k is = absurd cc
+
+-- the parameters that the facts tell are those of the chain
+pub params_here : (c : Chain) (heads : HeadsState) (f : First) → IsKnown c heads → Some f ≡ first_at c tt → AreParamsOf (Some f.params) c
+params_here [] heads f known is = absurd cc
+params_here (b ∷ c) heads f known is = let same : f.params ≡ params (b ∷ c) = cc in same
+
+pub no_params_here : (c : Chain) → None ≡ first_at c tt → AreParamsOf None c
+no_params_here [] is = refl
+no_params_here (b ∷ c) is = absurd cc
+
+-- the rules on raw bytes hold of a block
+pub before_the_rest : (Hold : Rule → Type 0) (rules : List Rule) (found : Option Rule) → Hold X01 → Hold P01 → IsFirst Hold rules found → IsFirst Hold (X01 ∷ P01 ∷ rules) found
+before_the_rest Hold rules found x p f =
+    IsFirst_from_FirstOf Hold (X01 ∷ P01 ∷ rules) found (FirstOf_append_none Hold (X01 ∷ P01 ∷ []) rules found (x, (p, tt)) (FirstOf_from_IsFirst Hold rules found f))

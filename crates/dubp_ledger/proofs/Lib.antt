@@ -1,3 +1,6 @@
 pub mod Difficulties
-pub mod Stamps
+pub mod Ends
 pub mod Found
+pub mod Places
+pub mod Stamps
+pub mod Tracing

@@ -1,39 +1,54 @@
-ghost use Rattle.std.specs.Prelude.{◌≡◌, ◌+◌, ◌≤◌, ◌<◌, ◌∷◌, [], IfOk, IfErr, OnOk, OnErr, MatchOption, None, Some, drop, length, min, reverse, take};
-ghost use Rattle.dubp_block.specs.Text.{IsBlock, block_text};
+ghost use Rattle.std.specs.Prelude.{◌≡◌, ◌↔◌, ◌+◌, ◌≤◌, ◌<◌, ◌∷◌, [], IsTrue, IfOk, IfErr, OnOk, OnErr, MatchOption, None, Some, drop, length, min, option_map, position, reverse, slice_get, take};
+ghost use Rattle.std.specs.List.{AllByRecursion};
+ghost use Rattle.dubp_atoms.specs.Same.{same_stamp};
+ghost use Rattle.dubp_block.specs.Text.{IsBlock, block_text, stamp_of};
 ghost use Rattle.dubp_chain.specs.Chains.{block_of_number};
+ghost use Rattle.dubp_chain.specs.HeadStamp.{head_stamp};
 ghost use Rattle.dubp_chain.specs.Heads.{difficulty as difficulty_of, head_of};
-ghost use Rattle.dubp_validity.specs.Rules.{FirstBroken, IsSound, longest_block};
-ghost use Rattle.dubp_local.specs.Local.{all_hashes};
+ghost use Rattle.dubp_rules.specs.First.{IsFirst};
+ghost use Rattle.dubp_rules.specs.declared.rule.Rule.TheVariants.{X01, P01};
+ghost use Rattle.dubp_validity.specs.Records.{records_at};
+ghost use Rattle.dubp_validity.specs.Rules.{FirstBroken, Holds, IsSound, longest_block};
+ghost use Rattle.dubp_local.specs.Local.{all_hashes, local_rules};
 ghost use Rattle.dubp_kept.specs.KeptChain.{IsAsBefore, IsAsHeld, IsHeldBy, MayJoin, most_kept, most_steps, without_last};
 ghost use Rattle.dubp_ledger.specs.States.{Accepted, HandedBack, IsTooDeep};
+ghost use Rattle.dubp_ledger.specs.Traces.{IsShort};
 
+use crate::books::PeopleAndMoney;
 use crate::refusal::{SubmitRefusal, TooDeep};
+use crate::traces::Traces;
 use dubp_atoms::{Key, NoMemory, Stamp, Steps};
 use dubp_block::Block;
-use dubp_books::{Books, Money, People};
+use dubp_books::{Money, People};
 use dubp_chain::Head;
 use dubp_docs::TxHashes;
-use dubp_head::difficulty;
+use dubp_head::{Heads, difficulty};
 use dubp_judge::{Judgement, judge};
 use dubp_kept::{Held, Kept};
+use dubp_local::check_local;
 use dubp_params::Params;
+use dubp_rows::put_records;
+use dubp_rules::Rule;
 use dubp_undo::Tables;
+use dubp_validity::Record;
 use dubp_verdict::Verdicts;
 use std::alloc::Global;
 use std::marker::Model;
 use std::sync::ledger::Ledger as StepBook;
 
-/// The chain of accepted blocks, with its heads and the tables of its people and its money.
+/// The chain of accepted blocks, with its heads, the tables of its people and its money, and what each block left behind.
 ///
 /// Contracts see a record with the chain, newest block first, and how many of its blocks can be reversed.
 #[derive(Drop)]
-pub struct Ledger {
+pub struct Ledger<T: PeopleAndMoney> {
     alloc: Global,
-    kept: Kept<Books>,
+    kept: Kept<T>,
+    traces: Traces,
 }
 
-impl Model for Ledger {
+impl<T: PeopleAndMoney> Model for Ledger<T> {
     ghost use Rattle.dubp_kept.specs.KeptChain.{KeptChain};
+    ghost use Rattle.dubp_ledger.specs.Traces.{AreTraces};
 
     ghost Value = { KeptChain };
 
@@ -43,18 +58,21 @@ impl Model for Ledger {
     ghost coded = { Prim.hlevel (codes, block.the_row.coded) };
 
     ghost view = { λ l. l.kept };
+
+    ghost invariant = { λ l. AreTraces l.traces l.kept };
 }
 
-impl Ledger {
+impl<T: PeopleAndMoney> Ledger<T> {
     /// The ledger of the empty chain. It takes no memory.
-    pub fn new(alloc: Global) -> Ledger
+    pub fn new(alloc: Global) -> Ledger<T>
         ensures chain { result.chain ≡ [] }
         ensures kept { result.kept ≡ 0 }
         ensures out { result.out ≡ None }
     {
         Ledger {
             alloc,
-            kept: Kept::new(alloc, Books::new(alloc)),
+            kept: Kept::new(alloc, T::empty(alloc)),
+            traces: Traces::new(alloc),
         }
     }
 
@@ -70,6 +88,38 @@ impl Ledger {
         ensures { result ≡ head_of self.now.chain }
     {
         self.kept.heads().last().copied()
+    }
+
+    /// How many blocks the chain has. It takes no memory.
+    pub fn len(&self) -> usize
+        ensures { result ≡ length self.now.chain }
+    {
+        self.kept.heads();
+        self.kept.blocks().len()
+    }
+
+    /// The stamp of the block behind which so many stand. None exactly where the chain has not so many. It takes no memory.
+    pub fn stamp_before(&self, count: u64) -> Option<Stamp>
+        ensures { result ≡ option_map stamp_of (slice_get self.now.chain count) }
+    {
+        stamp_in(self.kept.heads(), count)
+    }
+
+    /// How many blocks of the chain stand behind that of this stamp. None exactly where no block has it. It takes no memory.
+    pub fn place_of(&self, stamp: &Stamp) -> Option<usize>
+        ensures { result ≡ position (λ b. same_stamp stamp.now (stamp_of b)) self.now.chain }
+    {
+        self.laws();
+        let len = self.len() as u64;
+        if stamp.number >= len {
+            return None;
+        }
+        let count = len - 1 - stamp.number;
+        if is_stamp(self.stamp_before(count), stamp) {
+            Some(count as usize)
+        } else {
+            None
+        }
     }
 
     /// The block of this number. None exactly where the chain has none. It takes no memory.
@@ -108,10 +158,71 @@ impl Ledger {
         self.kept.tables().money()
     }
 
-    /// Does nothing. Its clauses say that each block of the chain breaks no rule on those before it but such as read verdicts, and how many
-    /// can be reversed where none is held.
+    /// The records of the block of this number, in the order of the protocol. None exactly where the chain has no such block.
+    ///
+    /// `NoMemory` where there is no room for them.
+    pub fn rows_at(&self, number: u64) -> Result<Option<Vec<Record>>, NoMemory>
+        ensures { IfOk result (λ rows. option_map (λ r. r.items) rows ≡ records_at self.now.chain number) }
+    {
+        let len = self.len() as u64;
+        if number >= len {
+            return Ok(None);
+        }
+        self.rows_before(number, len - 1 - number)
+    }
+
+    // The same, where so many blocks stand behind that block.
+    fn rows_before(&self, number: u64, count: u64) -> Result<Option<Vec<Record>>, NoMemory>
+        requires { number + (count + 1) ≡ length self.now.chain }
+        ensures { IfOk result (λ rows. option_map (λ r. r.items) rows ≡ records_at self.now.chain number) }
+    {
+        let Some(block) = self.block_at(number) else {
+            return Ok(None);
+        };
+        let Some(head) = self.kept.heads().before(count) else {
+            return Ok(None);
+        };
+        let Some(left) = self.traces.before(count as usize) else {
+            return Ok(None);
+        };
+        let mut rows = Vec::new(self.alloc);
+        put_records(
+            self.alloc,
+            block,
+            head,
+            self.people().facts(),
+            left,
+            &mut rows,
+        )?;
+        Ok(Some(rows))
+    }
+
+    /// The first of the rules before `G51` that the block breaks: those that look at the block, the parameters of the chain and the verdicts.
+    ///
+    /// `NoMemory` where there is no room to look for what stands twice, or for the hashes of the transactions.
+    pub fn first_local(&self, block: &Block, verdicts: &Verdicts) -> Result<Option<Rule>, NoMemory>
+        requires { IsBlock block.now }
+        ensures { IfOk result (IsFirst (Holds verdicts.now self.now.chain block.now) (X01 ∷ P01 ∷ local_rules)) }
+    {
+        self.kept.heads();
+        match self.people().first() {
+            Some(first) => {
+                let found = check_local(self.alloc, block, verdicts, Some(&first.params))?;
+                Ok(found)
+            }
+            None => {
+                let found = check_local(self.alloc, block, verdicts, None)?;
+                Ok(found)
+            }
+        }
+    }
+
+    /// Does nothing. Its clauses say that each block of the chain is one in range, whose text is no longer than blocks are read, and breaks no
+    /// rule on those before it but such as read verdicts; and how many can be reversed where none is held.
     pub fn laws(&self)
         ensures sound { IsSound self.now.chain }
+        ensures blocks { AllByRecursion IsBlock self.now.chain }
+        ensures short { AllByRecursion IsShort self.now.chain }
         ensures few { self.now.out ≡ None → self.now.kept ≤ 100 }
     {
         self.kept.laws();
@@ -157,15 +268,22 @@ impl Ledger {
         requires joins { MayJoin self.old.chain block head params.now }
         requires keeps { FirstBroken verdicts.now self.old.chain block None }
         requires hashes { hashes.now ≡ all_hashes block }
+        requires short { IsShort block }
         ensures accepted { IfOk result (λ stamp. Accepted verdicts.now self.old block stamp self.new) }
         ensures refused { IfErr result (λ refusal. HandedBack verdicts.now self.old block refusal self.new) }
         ensures steps { OnOk result (steps.new ≤ steps.old + most_steps self.old.chain block) }
     {
         let stamp = head.stamp();
-        if let Err(block) = self.kept.add(block, head, params, hashes, steps) {
+        if let Err(NoMemory) = self.traces.reserve() {
             return Err(SubmitRefusal::NoMemory { block });
         }
-        Ok(stamp)
+        match self.kept.add(block, head, params, hashes, steps) {
+            Ok(left) => {
+                self.traces.push(left);
+                Ok(stamp)
+            }
+            Err(block) => Err(SubmitRefusal::NoMemory { block }),
+        }
     }
 
     /// Takes the last block off the chain and hands it out. One can be reversed. It takes no memory.
@@ -175,6 +293,7 @@ impl Ledger {
         ensures kept { self.old.kept ≡ self.new.kept + 1 }
         ensures out { self.new.out ≡ self.old.out }
     {
+        self.traces.take_off(1);
         self.kept.withdraw(steps)
     }
 
@@ -188,6 +307,7 @@ impl Ledger {
         if count > kept as u64 {
             return Err(TooDeep { kept });
         }
+        self.traces.take_off(count as usize);
         self.kept.take_off(count, steps);
         Ok(())
     }
@@ -209,7 +329,10 @@ impl Ledger {
         ensures out { OnOk result (self.new.out ≡ Some (record { chain = self.old.chain; kept = self.old.kept; taken = count })) }
         ensures refused { OnErr result (self.new ≡ self.old) }
     {
-        self.kept.hold(count, steps)
+        self.traces.ready(count)?;
+        let held = self.kept.hold(count, steps)?;
+        self.traces.hold(count);
+        Ok(held)
     }
 
     /// Gives up what was before these blocks were held, and hands them out in ascending number. The chain stays, and of its last hundred
@@ -221,6 +344,7 @@ impl Ledger {
         ensures kept { self.new.kept ≡ min self.old.kept most_kept }
         ensures out { self.new.out ≡ None }
     {
+        self.traces.drop_held();
         self.kept.settle(held)
     }
 
@@ -231,6 +355,27 @@ impl Ledger {
         requires chain { IsAsHeld self.old.chain self.old.out }
         ensures { IsAsBefore self.new self.old.out }
     {
+        self.traces.put_back();
         self.kept.restore(held, steps);
+    }
+}
+
+// Whether there is one and it is this.
+fn is_stamp(found: Option<Stamp>, stamp: &Stamp) -> bool
+    ensures { IsTrue result ↔ (found ≡ Some stamp.now) }
+{
+    match found {
+        Some(found) => found == *stamp,
+        None => false,
+    }
+}
+
+// The stamp of the head that stands so many before the last.
+fn stamp_in(heads: &Heads, count: u64) -> Option<Stamp>
+    ensures { result ≡ option_map head_stamp (slice_get heads.now.list count) }
+{
+    match heads.before(count) {
+        Some(head) => Some(head.stamp()),
+        None => None,
     }
 }

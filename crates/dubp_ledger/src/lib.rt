@@ -6,17 +6,20 @@
 //! twice: the hash of a block stands in its head. Protocol: chains; rules.
 //!
 //! ```text
-//! let mut ledger = Ledger::new(alloc);
+//! let mut ledger: Ledger<Books> = Ledger::new(alloc);
 //! let stamp = ledger.submit(block, &verdicts, &mut steps)?;
 //! let head = ledger.head();
 //! ledger.revert(1, &mut steps)?;
 //! ```
 #![tactic(auto)]
 
+mod books;
 mod ledger;
 mod refusal;
+mod traces;
 
-pub use dubp_books::{Money, People};
+pub use books::PeopleAndMoney;
+pub use dubp_books::{Books, Money, People};
 pub use dubp_kept::Held;
 pub use ledger::Ledger;
 pub use refusal::{SubmitRefusal, TooDeep};

@@ -1,6 +1,5 @@
 use Rattle.std.proofs.Common.{subst}
-use Rattle.dubp_books.specs.contracts.books.BooksTablesBlock.TheImpl as books
 use Rattle.dubp_ledger.proofs.ledger.Ledger.people.Goals as goal
 
 pub returns : goal.returns
-returns c = c.people.ensures c.args.self.now.chain (subst (λ s. (books.ghosts).at c.tables.result.now s.chain) c.self.view_is c.tables.ensures)
+returns g c = c.people.ensures c.args.self.now.chain (subst (λ s. g.T.Tables.at c.tables.result.now s.chain) c.self.view_is c.tables.ensures)
