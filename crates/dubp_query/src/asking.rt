@@ -1,20 +1,24 @@
 ghost use Rattle.std.specs.Prelude.{◌≡◌, IfOk};
-ghost use Rattle.dubp_replay.specs.Answers.{diff_answer, show_answer};
+ghost use Rattle.dubp_replay.specs.Answers.{diff_answer, records_answer, show_answer};
 ghost use Rattle.dubp_query.specs.Asked.{IsAnswer};
 
 use crate::bytes::Answer;
-use crate::lines::{bad_line, head_line};
+use crate::lines::head_line;
 use dubp_answers::{
-    balance_line, certs_text, diff_line, distance_line, identity_line, money_line, show_text,
-    sources_text, uid_line,
+    balance_line, certs_text, diff_line, distance_line, identity_line, money_line, records_text,
+    show_text, sources_text, uid_line,
 };
 use dubp_atoms::{Key, Line, NoMemory};
-use dubp_ledger::Ledger;
+use dubp_ledger::{Ledger, PeopleAndMoney};
 use dubp_replay::Query;
 use std::alloc::Global;
 
-/// The answer to a query. HEAD, MONEY, IDENTITY, UID and BALANCE take no memory. RECORDS is answered as a line that is no command.
-pub fn answer(alloc: Global, ledger: &Ledger, query: &Query) -> Result<Answer, NoMemory>
+/// The answer to a query. HEAD, MONEY, IDENTITY, UID and BALANCE take no memory.
+pub fn answer<T: PeopleAndMoney>(
+    alloc: Global,
+    ledger: &Ledger<T>,
+    query: &Query,
+) -> Result<Answer, NoMemory>
     ensures { IsAnswer ledger.now.chain query.now result }
 {
     ledger.laws();
@@ -29,12 +33,12 @@ pub fn answer(alloc: Global, ledger: &Ledger, query: &Query) -> Result<Answer, N
         Query::Distance { key } => Ok(Answer::One(distance_line(alloc, ledger.people(), *key)?)),
         Query::Diff { key } => Ok(Answer::One(difficulty_line(ledger, *key)?)),
         Query::Show { number } => Ok(Answer::Many(block_text_of(alloc, ledger, *number)?)),
-        Query::Records { number: _ } => Ok(Answer::One(bad_line())),
+        Query::Records { number } => Ok(Answer::Many(records_of(alloc, ledger, *number)?)),
     }
 }
 
 // The difficulty of a member for the next block.
-fn difficulty_line(ledger: &Ledger, key: Key) -> Result<Line, NoMemory>
+fn difficulty_line<T: PeopleAndMoney>(ledger: &Ledger<T>, key: Key) -> Result<Line, NoMemory>
     ensures { IfOk result (λ line. line.items ≡ diff_answer ledger.now.chain key) }
 {
     ledger.laws();
@@ -46,9 +50,26 @@ fn difficulty_line(ledger: &Ledger, key: Key) -> Result<Line, NoMemory>
 }
 
 // The text of the block of this number.
-fn block_text_of(alloc: Global, ledger: &Ledger, number: u64) -> Result<Vec<u8>, NoMemory>
+fn block_text_of<T: PeopleAndMoney>(
+    alloc: Global,
+    ledger: &Ledger<T>,
+    number: u64,
+) -> Result<Vec<u8>, NoMemory>
     ensures { IfOk result (λ text. text.items ≡ show_answer ledger.now.chain number) }
 {
     let text = show_text(alloc, ledger.block_at(number))?;
+    Ok(text)
+}
+
+// The records of the block of this number.
+fn records_of<T: PeopleAndMoney>(
+    alloc: Global,
+    ledger: &Ledger<T>,
+    number: u64,
+) -> Result<Vec<u8>, NoMemory>
+    ensures { IfOk result (λ text. text.items ≡ records_answer ledger.now.chain number) }
+{
+    let rows = ledger.rows_at(number)?;
+    let text = records_text(alloc, rows.as_deref())?;
     Ok(text)
 }

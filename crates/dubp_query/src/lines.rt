@@ -2,17 +2,17 @@ ghost use Rattle.std.specs.Prelude.{◌≡◌, ◌+◌, ◌≤◌, ◌++◌, ◌
 ghost use Rattle.std.specs.Fmt.{signed_decimal};
 ghost use Rattle.arrayvec.specs.ArrayVec.{array_vec_len};
 ghost use Rattle.dubp_atoms.specs.Spelling.{stamp_text};
-ghost use Rattle.dubp_replay.specs.Answers.{bad_answer, head_answer, head_text, spaced};
+ghost use Rattle.dubp_replay.specs.Answers.{head_answer, head_text, spaced};
 ghost use Rattle.dubp_chain.specs.Heads.{head_of};
 ghost use Rattle.dubp_chain.specs.HeadStamp.{head_stamp};
 
 use arrayvec::ArrayVec;
 use dubp_atoms::{Line, Stamp, put_bytes, put_number, put_signed};
-use dubp_ledger::Ledger;
+use dubp_ledger::{Ledger, PeopleAndMoney};
 use dubp_replay::Head;
 
 /// The answer to HEAD: the values of the chain's head, or `NONE` where the chain is empty. It takes no memory.
-pub fn head_line(ledger: &Ledger) -> Line
+pub fn head_line<T: PeopleAndMoney>(ledger: &Ledger<T>) -> Line
     ensures { result.items ≡ head_answer (head_of ledger.now.chain) }
 {
     let mut line: Line = ArrayVec::new();
@@ -21,15 +21,6 @@ pub fn head_line(ledger: &Ledger) -> Line
         Some(head) => put_head(&head, &mut line),
     }
     put_bytes(&mut line, b"\n");
-    line
-}
-
-/// The answer to a line that is no command, as that of RECORDS is. It takes no memory.
-pub fn bad_line() -> Line
-    ensures { result.items ≡ bad_answer }
-{
-    let mut line: Line = ArrayVec::new();
-    put_bytes(&mut line, b"BAD\n");
     line
 }
 
