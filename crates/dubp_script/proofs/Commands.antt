@@ -208,15 +208,3 @@ says_once line c d p q =
 -- what a line says is what is read of it
 pub says_command : (line : List ℕ) (c : Command) → Says line c → command_of line ≡ Some c
 says_command line c p = ap command_of p.text ∙ command_again c p.is
-
--- a line that is a BLOCK, and no other
-pub block_found : (line : List ℕ) (read : Option ℕ) → read ≡ named (codes "BLOCK ") number_of line → IfSome read (λ len. Says line (command.Block len))
-block_found line None is = tt
-block_found line (Some len) is =
-    let n = named_found (codes "BLOCK ") number_of line len (sym is) in
-    let f = number_found n.0 len n.2 in
-    record { is = f.0; text = n.1 ∙ ap (λ t. codes "BLOCK " ++ t) f.1 }
-
-pub block_again : (line : List ℕ) (len : ℕ) → Says line (command.Block len) → named (codes "BLOCK ") number_of line ≡ Some len
-block_again line len says =
-    subst (λ l. named (codes "BLOCK ") number_of l ≡ Some len) (sym says.text) (named_again (codes "BLOCK ") number_of (decimal len) len (number_again len says.is))

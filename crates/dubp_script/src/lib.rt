@@ -9,10 +9,12 @@
 //! ```
 #![tactic(auto)]
 
+mod framed;
 mod reading;
 #[cfg(test)]
 mod tests;
 mod words;
 
 pub use dubp_replay::Command;
-pub use reading::{block_len, read_command};
+pub use framed::{Framed, read_framed};
+pub use reading::read_command;

@@ -1,8 +1,8 @@
-ghost use Rattle.std.specs.Prelude.{◌≡◌, ℕ, IfSome, Some, option_map};
-ghost use Rattle.dubp_script.specs.Spelling.{IsCommand, Says, command_text};
+ghost use Rattle.std.specs.Prelude.{◌≡◌, IfSome, Some, option_map};
+ghost use Rattle.dubp_script.specs.Spelling.{IsCommand, command_text};
 ghost use Rattle.dubp_script.specs.Reading.{command_of, other_of, query_of};
 ghost use Rattle.dubp_replay.specs.declared.command.Command.{Command as CommandValue};
-ghost use Rattle.dubp_replay.specs.declared.command.Command.TheVariants.{Ask as AskCommand, Block as BlockCommand};
+ghost use Rattle.dubp_replay.specs.declared.command.Command.TheVariants.{Ask as AskCommand};
 
 use crate::words::{
     SaidVerdict, cond_behind, filled, key_behind, number_behind, stamp_behind, uid_behind,
@@ -16,15 +16,6 @@ pub fn read_command(line: &[u8]) -> Option<Command>
     ensures only { (c : CommandValue) → IsCommand c → line.now ≡ command_text c → result ≡ Some c }
 {
     command(line)
-}
-
-/// How many raw bytes follow, where this line is a BLOCK. None exactly where it is none. It takes no memory, and looks at the number
-/// alone.
-pub fn block_len(line: &[u8]) -> Option<u64>
-    ensures found { IfSome result (λ len. Says line.now (BlockCommand len)) }
-    ensures only { (len : ℕ) → Says line.now (BlockCommand len) → result ≡ Some len }
-{
-    number_behind(b"BLOCK ", line)
 }
 
 // A command has room for the longest condition, so it is made where its line has been told, and nowhere before.
