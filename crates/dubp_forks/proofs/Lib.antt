@@ -1,0 +1,9 @@
+pub mod Marked
+pub mod Apart
+pub mod Stamps
+pub mod Offered
+pub mod Paths
+pub mod Kept
+pub mod Onward
+pub mod Lasting
+pub mod Whole

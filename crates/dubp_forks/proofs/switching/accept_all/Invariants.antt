@@ -1,0 +1,17 @@
+use Rattle.std.proofs.Common.{◌≡◌, ◌≤◌, List, drop, length}
+use Rattle.dubp_block.specs.declared.block.Block.{Block}
+use Rattle.indexmap.specs.IndexMap.{spare}
+use Rattle.dubp_forks.specs.Entries.{blocks_in}
+use Rattle.dubp_forks.specs.Switching.{IsLaid, IsOnward}
+use Rattle.dubp_forks.proofs.switching.accept_all.Given as goal
+
+abbrev pub invariant-loop-left : goal.invariant-loop-left
+invariant-loop-left g l = record {
+  within : l.left ≤ length l.stamps;
+  room : spare l.blocks ≡ spare l.fn.blocks;
+  on :
+      (path : List Block) → IsLaid (blocks_in l.fn.blocks.entries) l.stamps path → IsOnward l.verdicts l.fn.ledger (blocks_in l.fn.blocks.entries) (drop l.left path) l.blocks.entries l.ledger;
+}
+
+abbrev pub decreases-loop-left : goal.decreases-loop-left
+decreases-loop-left g l = l.left

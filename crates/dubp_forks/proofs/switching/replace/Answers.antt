@@ -1,0 +1,35 @@
+use Rattle.std.proofs.Common.{◌≡◌, ◌∙◌, ◌-◌, ◌+◌, ◌++◌, [], List, not, filter, is_some, take, drop, reverse, ap, sym, subst, length, min, arith}
+use Rattle.dubp_block.specs.declared.block.Block.{Block}
+use Rattle.dubp_block.specs.Text.{stamp_of}
+use Rattle.dubp_chain.specs.Chains.{Chain}
+use Rattle.dubp_atoms.specs.Same.{same_stamp}
+use Rattle.dubp_replay.specs.Turns.{IsAcceptedOn, is_on}
+use Rattle.dubp_forks.specs.Entries.{blocks_in, entries_of}
+use Rattle.dubp_forks.specs.Stores.{AreApart}
+use Rattle.dubp_forks.specs.Switching.{IsLaid, IsOnward}
+use Rattle.dubp_forks.proofs.Lasting.{left_apart}
+use Rattle.dubp_forks.proofs.Marked.{filter-marked}
+use Rattle.dubp_forks.proofs.Stamps.{stamps}
+use Rattle.dubp_forks.proofs.switching.replace.Goals as goal
+
+pub returns-clause-switched : goal.returns-clause-switched
+returns-clause-switched g c = λ path laid.
+    let count = c.args.count in
+    let chain = c.args.ledger.now.chain in
+    let store = blocks_in c.args.blocks.now.entries in
+    let same : c.reserve.new.self.entries ≡ c.args.blocks.now.entries = c.reserve.ensures.entries in
+    let on : IsOnward c.args.verdicts.now c.hold.new.self store path c.accept_all.new.blocks.entries c.accept_all.new.ledger =
+    subst (λ es. IsOnward c.args.verdicts.now c.hold.new.self (blocks_in es) path c.accept_all.new.blocks.entries c.accept_all.new.ledger) same
+    (c.in_default-accept_all.ensures.accepted path (subst (λ es. IsLaid (blocks_in es) c.args.stamps.now path) (sym same) laid)) in
+    let held = c.in-Ok.ensures in
+    let left = filter (λ b. not (is_on path b)) store in
+    let last : c.settle.result.items ≡ reverse (take count chain) = c.settle.ensures.blocks ∙ ap reverse held.held in
+    let rows : c.drop_lent.new.blocks.entries ≡ entries_of [] left = c.drop_lent.ensures.entries ∙ ap (filter (λ e. is_some e.1)) on.entries ∙ filter-marked same_stamp stamp_of stamps path store in
+    let apart = left_apart store path chain count c.requires.kept.stored c.requires.sound c.requires.outside in
+    record {
+      passed = subst (λ x. IsAcceptedOn c.args.verdicts.now x path) held.chain on.passed;
+      entries = c.put_last.ensures left rows (subst (λ l. AreApart (left ++ l)) (sym last) apart) ∙ ap (λ l. entries_of [] (left ++ l)) last;
+      chain = c.settle.ensures.chain ∙ on.chain ∙ ap (λ x. path ++ x) held.chain;
+      kept = c.settle.ensures.kept ∙ ap (λ n. min n 100) (on.kept ∙ ap (λ n. n + length path) (omega (arith, held.kept)));
+      out = c.settle.ensures.out;
+    }

@@ -1,0 +1,6 @@
+pub mod Stores
+pub mod Offers
+pub mod Switches
+pub mod Entries
+pub mod Offering
+pub mod Switching
