@@ -1,8 +1,9 @@
 -- What `submit` of the ledger said, as a decision of the node; and a decision on a block as one on its text.
-use Rattle.std.proofs.Common.{◌≡◌, ◌≤◌, ◌+◌, [], ◌∷◌, length, drop, inl, inr, List, Option, Some, None, Result, Ok, Err, subst, ◌∙◌, ap, refl, ℕ}
+use Rattle.std.proofs.Common.{◌≡◌, ◌≤◌, ◌+◌, [], ◌∷◌, length, drop, inl, inr, List, Option, Some, None, Result, Ok, Err, subst, sym, ◌∙◌, ap, refl, ℕ}
 use Rattle.std.specs.Prelude.{IfOk, IfErr, MatchOption}
 use Rattle.dubp_atoms.specs.declared.stamp.Stamp.{Stamp}
 use Rattle.dubp_block.specs.declared.block.Block.{Block}
+use Rattle.dubp_block.specs.Text.{stamp_of}
 use Rattle.dubp_block.specs.RefusedLine.{IsRefusedLine}
 use Rattle.dubp_kept.specs.KeptChain.{KeptChain, Out, kept_of, with_block}
 use Rattle.dubp_ledger.specs.States.{Accepted, HandedBack}
@@ -16,25 +17,35 @@ use Rattle.dubp_verdict.specs.Verdicts.{Verdicts}
 use Rattle.dubp_chain.specs.Chains.{Chain}
 use Rattle.dubp_validity.specs.Rules.{FirstBroken, FirstBrokenRaw, Holds, HoldsRaw, IsTextOf, longest_block}
 use Rattle.dubp_replay.specs.Answers.{accepted_answer, unread_answer, refused_answer}
-use Rattle.dubp_replay.specs.Turns.{Accepts, State, Only, RefusedBy, accepted}
-use Rattle.dubp_node.specs.NodeStates.{node_state}
-use Rattle.dubp_node.specs.Deciding.{Decided, Joins, ShortBlockActs, outcome_text}
+use Rattle.dubp_replay.specs.Turns.{Accepts, State, Only, RefusedBy, accepted, without}
+use Rattle.dubp_forks.specs.Stores.{AreOutside, state_of}
+use Rattle.dubp_node.proofs.Outside.{outside_joined}
+use Rattle.dubp_node.specs.Deciding.{Decided, Joins, ShortBlockActs, refusal_text}
 
--- the chain that grows, where no blocks are held, gives the state in which the block is accepted
-state_grows : (v : Verdicts) (old : KeptChain) (b : Block) → old.out ≡ None → node_state v (with_block b old) ≡ accepted (node_state v old) b
-state_grows v old b none =
-    ap (λ (o : Option Out). node_state v (record { chain = b ∷ old.chain; kept = kept_of o (old.kept + 1); out = o })) none
+-- the chain that grows, where no blocks are held, and the store that the block leaves give the state in which it is accepted
+state_grows : (v : Verdicts) (old : KeptChain) (store : List Block) (b : Block) → old.out ≡ None → state_of v (with_block b old) (without (stamp_of b) store) ≡ accepted (state_of v old store) b
+state_grows v old store b none =
+    ap (λ (o : Option Out). state_of v (record { chain = b ∷ old.chain; kept = kept_of o (old.kept + 1); out = o }) (without (stamp_of b) store)) none
 
-pub decided : (v : Verdicts) (old new : KeptChain) (b : Block) (r : Result Stamp SubmitRefusal) (answer : List ℕ) → old.out ≡ None → IfOk r (λ stamp. Accepted v old b stamp new) → IfErr r (λ refusal. HandedBack v old b refusal new) → answer ≡ outcome_text r → Decided (node_state v old) b answer (node_state v new)
-decided v old new b (Ok stamp) answer none a h e =
+pub joins_outside : (v : Verdicts) (old new : KeptChain) (store after : List Block) (b : Block) (stamp : Stamp) → old.out ≡ None → Accepted v old b stamp new → after ≡ without stamp store → AreOutside store old.chain → (new.out ≡ None) × AreOutside after new.chain
+joins_outside v old new store after b stamp none a left out =
+    let gone : after ≡ without (stamp_of b) store = left ∙ ap (λ s. without s store) a.stamp_is in
+    let chain : new.chain ≡ b ∷ old.chain = ap (λ k. k.chain) a.joins in
+    (ap (λ k. k.out) a.joins ∙ none, subst (λ x. AreOutside x new.chain) (sym gone) (subst (AreOutside (without (stamp_of b) store)) (sym chain) (outside_joined b store old.chain out)))
+
+pub decided_ok : (v : Verdicts) (old new : KeptChain) (store after : List Block) (b : Block) (stamp : Stamp) (answer : List ℕ) → old.out ≡ None → Accepted v old b stamp new → after ≡ without stamp store → answer ≡ accepted_answer stamp → Decided (state_of v old store) b answer (state_of v new after)
+decided_ok v old new store after b stamp answer none a left e =
+    let left_is : after ≡ without (stamp_of b) store = left ∙ ap (λ s. without s store) a.stamp_is in
     inl (record {
       broken = None;
       first = a.keeps;
-      decides = (e ∙ ap accepted_answer a.stamp_is, ap (node_state v) a.joins ∙ state_grows v old b none);
+      decides = (e ∙ ap accepted_answer a.stamp_is, ap (λ s. state_of v s after) a.joins ∙ ap (state_of v (with_block b old)) left_is ∙ state_grows v old store b none);
     })
-decided v old new b (Err (refusal.Refused rule back)) answer none a h e =
-    inl (record { broken = Some rule; first = h.0; decides = (e, ap (node_state v) h.2) })
-decided v old new b (Err (refusal.NoMemory back)) answer none a h e = inr (e, ap (node_state v) h.1)
+
+pub decided_err : (v : Verdicts) (old new : KeptChain) (store : List Block) (b : Block) (refusal : SubmitRefusal) (answer : List ℕ) → HandedBack v old b refusal new → answer ≡ refusal_text refusal → Decided (state_of v old store) b answer (state_of v new store)
+decided_err v old new store b (refusal.Refused rule back) answer h e =
+    inl (record { broken = Some rule; first = h.0; decides = (e, ap (λ s. state_of v s store) h.2) })
+decided_err v old new store b (refusal.NoMemory back) answer h e = inr (e, ap (λ s. state_of v s store) h.1)
 
 -- what is said of a block, and what of its text
 module _ (v : Verdicts) (c : Chain) (bytes : List ℕ) (b : Block) (text : IsTextOf bytes b) (only : (d : Block) → IsTextOf bytes d → b ≡ d) (short : length bytes ≤ longest_block) where

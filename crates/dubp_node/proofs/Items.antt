@@ -9,12 +9,14 @@ use Rattle.dubp_validity.specs.Rules.{longest_block}
 use Rattle.dubp_replay.specs.Answers.{bad_answer, refused_answer}
 use Rattle.dubp_replay.specs.declared.command.Command.{Command}
 use Rattle.dubp_replay.specs.declared.command.Command.TheVariants as command
-use Rattle.dubp_replay.specs.Turns.{BlockTurn, State, frame_of}
+use Rattle.dubp_replay.specs.Turns.{BlockTurn, OfferTurn, State, IsServed, frame_of, offer_rules}
 use Rattle.dubp_script.specs.Spelling.{Says}
-use Rattle.dubp_node.specs.Commands.{IsThere}
-use Rattle.dubp_node.proofs.Wholes.{block_says}
+use Rattle.dubp_script.specs.Framed.{framed_command, framed_len}
+use Rattle.dubp_script.specs.declared.framed.Framed.{Framed}
+use Rattle.dubp_script.specs.declared.framed.Framed.TheVariants as framed
+use Rattle.dubp_node.proofs.Wholes.{heads_framed}
 use Rattle.dubp_node.specs.Entries.{Line, Frame, IsWhole, IsBad, HeadsFrame, longest_line}
-use Rattle.dubp_node.specs.Turns.{EntryTurn, IsHanded, Acts}
+use Rattle.dubp_node.specs.Turns.{EntryServed, IsHanded, Acts}
 
 abbrev nothing : List ℕ
 nothing = []
@@ -31,25 +33,25 @@ handed_all : (c : Command) (frame : List ℕ) → frame_of c ≡ Some (length fr
 handed_all c frame some = rw some (refl, λ short. refl)
 
 -- a command whose line heads no frame has none
-no_frame : (text : List ℕ) (c : Command) → ((len : ℕ) → HeadsFrame text len → ⊥) → IsThere c → Says text c → frame_of c ≡ None
-no_frame text c none there says = none_by (frame_of c) refl
+no_frame : (text : List ℕ) (c : Command) → ((len : ℕ) → HeadsFrame text len → ⊥) → Says text c → frame_of c ≡ None
+no_frame text c none says = none_by (frame_of c) refl
   where
     none_by : (o : Option ℕ) → frame_of c ≡ o → o ≡ None
     none_by None e = refl
-    none_by (Some len) e = absurd (none len (record { command = c; there = there; says = says; frame_is = e }))
+    none_by (Some len) e = absurd (none len (record { command = c; says = says; frame_is = e }))
 
-pub line_turn : (old new : State) (text answer frame : List ℕ) (c : Command) → IsWhole (Line text) → length text ≤ longest_line → IsThere c → Says text c → frame ≡ [] → Acts old c frame answer new → EntryTurn old (Line text) answer new
-line_turn old new text answer frame c whole fits there says empty acts = record {
+pub line_turn : (old new : State) (text answer frame : List ℕ) (c : Command) → IsWhole (Line text) → length text ≤ longest_line → Says text c → frame ≡ [] → Acts old c frame answer new → EntryServed old (Line text) answer new
+line_turn old new text answer frame c whole fits says empty acts = record {
   asked = Some (c, []);
-  means = (fits, there, says, refl);
-  served = acts [] (handed_none c frame (no_frame text c whole.1 there says) empty);
+  means = (fits, says, refl);
+  served = acts [] (handed_none c frame (no_frame text c whole.1 says) empty);
 }
 
-pub frame_turn : (old new : State) (head frame answer : List ℕ) (last : ℕ) → last ≡ LF → HeadsFrame head (length frame) → Acts old (command.Block (length frame)) frame answer new → EntryTurn old (Frame head frame last) answer new
-frame_turn old new head frame answer last ends h acts = record {
-  asked = Some (command.Block (length frame), frame);
-  means = (ends, tt, block_says head (length frame) h, refl);
-  served = acts frame (handed_all (command.Block (length frame)) frame refl);
+pub frame_turn : (old new : State) (head frame answer : List ℕ) (last : ℕ) (c : Command) → last ≡ LF → Says head c → frame_of c ≡ Some (length frame) → Acts old c frame answer new → EntryServed old (Frame head frame last) answer new
+frame_turn old new head frame answer last c ends says of acts = record {
+  asked = Some (c, frame);
+  means = (ends, says, refl);
+  served = acts frame (handed_all c frame of);
 }
 
 -- a frame that is too long is refused
@@ -60,12 +62,26 @@ long_block_turn old bytes answer long is = record {
   decides = (is, refl);
 }
 
-pub long_frame_turn : (old : State) (head frame answer : List ℕ) (last : ℕ) → last ≡ LF → HeadsFrame head (length frame) → longest_block < length frame → answer ≡ refused_answer (codes "X01") → EntryTurn old (Frame head frame last) answer old
-long_frame_turn old head frame answer last ends h long is = record {
-  asked = Some (command.Block (length frame), frame);
-  means = (ends, tt, block_says head (length frame) h, refl);
-  served = inl (long_block_turn old frame answer long is);
+pub long_offer_turn : (old : State) (bytes answer : List ℕ) → longest_block < length bytes → answer ≡ refused_answer (codes "X01") → OfferTurn old bytes answer old
+long_offer_turn old bytes answer long is = record {
+  broken = Some X01;
+  first = record { before = []; after = drop 1 offer_rules; stands = refl; passed = tt; fails = λ short. omega (arith, long, short) };
+  decides = (is, refl);
 }
 
-pub bad_turn : (old : State) (text answer : List ℕ) → IsBad text → answer ≡ bad_answer → EntryTurn old (Line text) answer old
+-- whichever command heads it
+long_by : (old : State) (bytes answer : List ℕ) (f : Framed) → longest_block < length bytes → answer ≡ refused_answer (codes "X01") → IsServed old (Some (framed_command f, bytes)) answer old
+long_by old bytes answer (framed.Block len) long is = inl (long_block_turn old bytes answer long is)
+long_by old bytes answer (framed.Offer len) long is = inl (long_offer_turn old bytes answer long is)
+
+pub long_frame_turn : (old : State) (head frame answer : List ℕ) (last : ℕ) → last ≡ LF → HeadsFrame head (length frame) → longest_block < length frame → answer ≡ refused_answer (codes "X01") → EntryServed old (Frame head frame last) answer old
+long_frame_turn old head frame answer last ends h long is =
+    let f = heads_framed head (length frame) h in
+    record {
+      asked = Some (framed_command f.0, frame);
+      means = (ends, f.1, refl);
+      served = long_by old frame answer f.0 long is;
+    }
+
+pub bad_turn : (old : State) (text answer : List ℕ) → IsBad text → answer ≡ bad_answer → EntryServed old (Line text) answer old
 bad_turn old text answer bad e = record { asked = None; means = bad; served = (e, refl) }

@@ -2,7 +2,9 @@ pub mod Cuts
 pub mod Decisions
 pub mod Exists
 pub mod Buffers
+pub mod Branches
 pub mod Lines
+pub mod Outside
 pub mod RunSteps
 pub mod Serves
 pub mod Sessions

@@ -7,10 +7,14 @@ use Rattle.dubp_block.specs.Text.{stamp_of}
 use Rattle.dubp_rules.specs.declared.rule.Rule.{Rule}
 use Rattle.dubp_rules.specs.Table.{code_text}
 use Rattle.dubp_validity.specs.Rules.{FirstBroken}
-use Rattle.dubp_replay.specs.Answers.{accepted_answer, no_memory_answer, refused_answer}
-use Rattle.dubp_replay.specs.Turns.{State, Only, BlockTurn, accepted}
+use Rattle.dubp_replay.specs.Answers.{accepted_answer, branch_refused_answer, detached_answer, full_answer, known_answer, no_memory_answer, refused_answer, stored_answer, switched_answer, too_deep_answer, unknown_answer, unread_answer}
+use Rattle.dubp_replay.specs.Turns.{State, Only, BlockTurn, OfferTurn, accepted}
 use Rattle.dubp_ledger.specs.declared.refusal.SubmitRefusal.{SubmitRefusal}
 use Rattle.dubp_ledger.specs.declared.refusal.SubmitRefusal.TheVariants.{Refused, NoMemory}
+use Rattle.dubp_forks.specs.declared.refusals.OfferRefusal.{OfferRefusal}
+use Rattle.dubp_forks.specs.declared.refusals.OfferRefusal.TheVariants as offer
+use Rattle.dubp_forks.specs.declared.refusals.SwitchRefusal.{SwitchRefusal}
+use Rattle.dubp_forks.specs.declared.refusals.SwitchRefusal.TheVariants as switch
 
 -- the block joins the chain
 abbrev pub Joins : State → Block → List ℕ → State → Type 0
@@ -26,12 +30,34 @@ pub record Decision (old : State) (b : Block) (answer : List ℕ) (new : State) 
 abbrev pub Decided : State → Block → List ℕ → State → Type 0
 Decided old b answer new = Decision old b answer new ⊎ Only no_memory_answer old answer new
 
--- the answer to what `submit` of the ledger said
-abbrev pub outcome_text : Result Stamp SubmitRefusal → List ℕ
-outcome_text (Ok stamp) = accepted_answer stamp
-outcome_text (Err (Refused rule block)) = refused_answer (code_text rule)
-outcome_text (Err (NoMemory block)) = no_memory_answer
+-- the answer where `submit` of the ledger refused the block
+abbrev pub refusal_text : SubmitRefusal → List ℕ
+refusal_text (Refused rule block) = refused_answer (code_text rule)
+refusal_text (NoMemory block) = no_memory_answer
 
 -- BLOCK with these raw bytes, which are not too many, or memory ran out
 abbrev pub ShortBlockActs : State → List ℕ → List ℕ → State → Type 0
 ShortBlockActs old frame answer new = BlockTurn old frame answer new ⊎ Only no_memory_answer old answer new
+
+-- the answer to what `offer` of the store said
+abbrev pub offer_text : Result Stamp OfferRefusal → List ℕ
+offer_text (Ok stamp) = stored_answer stamp
+offer_text (Err (offer.Unread line)) = unread_answer line
+offer_text (Err (offer.Local rule)) = refused_answer (code_text rule)
+offer_text (Err (offer.Known stamp)) = known_answer stamp
+offer_text (Err (offer.Full held)) = full_answer
+offer_text (Err offer.NoMemory) = no_memory_answer
+
+-- OFFER with these raw bytes, which are not too many, or memory ran out
+abbrev pub ShortOfferActs : State → List ℕ → List ℕ → State → Type 0
+ShortOfferActs old frame answer new = OfferTurn old frame answer new ⊎ Only no_memory_answer old answer new
+
+-- the answer to what `switch` of the store said
+abbrev pub switch_text : Stamp → Result (Unit {0}) SwitchRefusal → List ℕ
+switch_text stamp (Ok done) = switched_answer stamp
+switch_text stamp (Err switch.Unknown) = unknown_answer
+switch_text stamp (Err (switch.Detached at)) = detached_answer at
+switch_text stamp (Err (switch.TooDeep kept)) = too_deep_answer kept
+switch_text stamp (Err (switch.Full held)) = full_answer
+switch_text stamp (Err (switch.Refused at rule)) = branch_refused_answer at (code_text rule)
+switch_text stamp (Err switch.NoMemory) = no_memory_answer

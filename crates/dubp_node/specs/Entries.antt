@@ -5,7 +5,6 @@ use Rattle.dubp_atoms.specs.Letters.{LF}
 use Rattle.dubp_replay.specs.declared.command.Command.{Command}
 use Rattle.dubp_replay.specs.Turns.{Asked, frame_of}
 use Rattle.dubp_script.specs.Spelling.{Says}
-use Rattle.dubp_node.specs.Commands.{IsThere}
 
 -- the longest line that is read
 abbrev pub longest_line : ℕ
@@ -19,7 +18,6 @@ IsText (b ∷ bs) = (b ≢ LF) × IsText bs
 -- the line is a command, behind which so many raw bytes stand
 pub record HeadsFrame (line : List ℕ) (len : ℕ) : Type 0 where
   pub command : Command
-  pub there : IsThere command
   pub says : Says line command
   pub frame_is : frame_of command ≡ Some len
 
@@ -43,12 +41,12 @@ AllWhole (entry ∷ entries) = IsWhole entry × AllWhole entries
 
 -- the line is longer than lines are read, or no command
 abbrev pub IsBad : List ℕ → Type 0
-IsBad line = (longest_line < length line) ⊎ ((command : Command) → IsThere command → Says line command → ⊥)
+IsBad line = (longest_line < length line) ⊎ ((command : Command) → Says line command → ⊥)
 
 -- What an entry is: a command with the raw bytes of its frame, or none. A line that is too long is none, and a frame whose last byte
 -- is not LF.
 abbrev pub Means : Entry → Asked → Type 0
 Means (Line text) None = IsBad text
-Means (Line text) (Some (command, frame)) = (length text ≤ longest_line) × IsThere command × Says text command × (frame ≡ [])
+Means (Line text) (Some (command, frame)) = (length text ≤ longest_line) × Says text command × (frame ≡ [])
 Means (Frame head payload last) None = last ≢ LF
-Means (Frame head payload last) (Some (command, frame)) = (last ≡ LF) × IsThere command × Says head command × (frame ≡ payload)
+Means (Frame head payload last) (Some (command, frame)) = (last ≡ LF) × Says head command × (frame ≡ payload)

@@ -1,6 +1,4 @@
-pub mod Commands
 pub mod Entries
-pub mod NodeStates
 pub mod Cut
 pub mod Turns
 pub mod Deciding

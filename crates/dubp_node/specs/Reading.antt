@@ -3,6 +3,8 @@ use Rattle.std.specs.Prelude.{◌≡◌, ℕ, ◌+◌, ◌<◌, ◌≤◌, List,
 use Rattle.dubp_atoms.specs.Letters.{LF}
 use Rattle.dubp_validity.specs.Rules.{longest_block}
 use Rattle.dubp_node.specs.Entries.{Entry, Line, Frame, text_of, IsWhole, IsText, HeadsFrame, longest_line}
+use Rattle.dubp_script.specs.Framed.{framed_command, framed_len}
+use Rattle.dubp_script.specs.Spelling.{Says}
 use Rattle.dubp_node.specs.Cut.{BeginsNone}
 use Rattle.dubp_node.specs.declared.item.Item.{Item}
 use Rattle.dubp_node.specs.declared.item.Item.TheVariants as item
@@ -39,7 +41,8 @@ Stands (LongFrame left) hand bytes = InLongFrame left hand bytes
 abbrev pub Shows : Item → Entry → Type 0
 Shows item.LongLine entry = (text : List ℕ) × (entry ≡ Line text) × (longest_line < length text)
 Shows (item.Line text) entry = entry ≡ Line text.now
-Shows (item.Frame payload last) entry = (head : List ℕ) × (entry ≡ Frame head payload.now last) × HeadsFrame head (length payload.now) × (length payload.now ≤ longest_block)
+Shows (item.Frame framed payload last) entry =
+    (head : List ℕ) × (entry ≡ Frame head payload.now last) × Says head (framed_command framed) × (framed_len framed ≡ length payload.now) × (length payload.now ≤ longest_block)
 Shows (item.LongFrame last) entry = (head : List ℕ) × (payload : List ℕ) × (entry ≡ Frame head payload last) × HeadsFrame head (length payload) × (longest_block < length payload)
 
 -- the bytes begin with the entry that the item shows

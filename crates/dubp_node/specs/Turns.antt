@@ -3,15 +3,21 @@ use Rattle.std.specs.Prelude.{◌≡◌, ℕ, ◌≤◌, List, [], length, Some}
 use Rattle.std.specs.Option.{MatchOption}
 use Rattle.std.specs.List.{flat_map}
 use Rattle.dubp_validity.specs.Rules.{longest_block}
+use Rattle.dubp_laws.specs.Laws.{IsConserved}
 use Rattle.dubp_replay.specs.declared.command.Command.{Command}
 use Rattle.dubp_replay.specs.Turns.{State, Asked, IsServed, frame_of}
 use Rattle.dubp_node.specs.Entries.{Entry, Means}
 
 -- from a state an entry may be answered so, and lead there
-pub record EntryTurn (old : State) (entry : Entry) (answer : List ℕ) (new : State) : Type 0 where
+pub record EntryServed (old : State) (entry : Entry) (answer : List ℕ) (new : State) : Type 0 where
   pub asked : Asked
   pub means : Means entry asked
   pub served : IsServed old asked answer new
+
+-- the same, and behind it the money of the chain adds up: what was issued is unspent or cleared
+pub record EntryTurn (old : State) (entry : Entry) (answer : List ℕ) (new : State) : Type 0 where
+  pub served : EntryServed old entry answer new
+  pub conserved : IsConserved new.chain
 
 -- Behind the line of this command these raw bytes may stand, of which the node is handed those: all of them, or none where they are
 -- more than a block has.

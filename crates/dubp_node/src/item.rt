@@ -1,3 +1,5 @@
+use dubp_script::Framed;
+
 /// An entry of the input as it stands in the bytes at hand, or what is left of one that was read past.
 #[derive(Drop)]
 pub enum Item<'a> {
@@ -5,8 +7,8 @@ pub enum Item<'a> {
     LongLine,
     /// A line behind which no frame stands, without its LF.
     Line(&'a [u8]),
-    /// The raw bytes of the frame of a BLOCK, and the byte behind them.
-    Frame(&'a [u8], u8),
+    /// The command that heads a frame, its raw bytes, and the byte behind them.
+    Frame(Framed, &'a [u8], u8),
     /// The byte behind a frame that is longer than frames are read.
     LongFrame(u8),
 }

@@ -4,7 +4,6 @@
 #![tactic(auto)]
 
 mod buffer;
-mod commands;
 mod item;
 mod laws;
 mod node;
@@ -12,8 +11,12 @@ mod reading;
 mod run;
 mod serving;
 #[cfg(test)]
+mod session;
+#[cfg(test)]
 mod tests;
+mod texts;
 
+use dubp_ledger::Books;
 use dubp_outside::{ReadSource, WriteSink};
 pub use laws::cutting;
 pub use node::Node;
@@ -42,7 +45,7 @@ fn status(rt: &HostRuntime) -> u8 {
     };
     let mut source = ReadSource::new(rt.stdin());
     let mut sink = WriteSink::new(rt.stdout());
-    let mut node = Node::new(rt.alloc());
+    let mut node = Node::<Books>::new(rt.alloc());
     let status = run_program(
         rt.alloc(),
         words.as_slice(),

@@ -2,11 +2,13 @@ ghost use Rattle.std.specs.Prelude.{◌≡◌, ◌+◌, ◌<◌, ◌≤◌, ℕ,
 ghost use Rattle.dubp_atoms.specs.Letters.{LF};
 ghost use Rattle.dubp_validity.specs.Rules.{longest_block};
 ghost use Rattle.dubp_node.specs.Entries.{HeadsFrame, IsText};
+ghost use Rattle.dubp_script.specs.Framed.{framed_command, framed_len};
+ghost use Rattle.dubp_script.specs.Spelling.{Says};
 ghost use Rattle.dubp_node.specs.Reading.{Takes};
 
 use crate::item::Item;
 use crate::node::LONGEST_BLOCK;
-use dubp_script::block_len;
+use dubp_script::{Framed, read_framed};
 use memchr::memchr;
 
 /// The longest line that is read, without its LF.
@@ -41,11 +43,11 @@ pub fn line_end(hand: &[u8]) -> Option<usize>
     memchr(b'\n', hand)
 }
 
-/// How many raw bytes stand behind this line, where it heads a frame.
-pub fn frame_len(line: &[u8]) -> Option<u64>
-    ensures { MatchOption result ((len : ℕ) → HeadsFrame line.now len → ⊥) (HeadsFrame line.now) }
+/// The command that this line is, where it heads a frame.
+pub fn frame_head(line: &[u8]) -> Option<Framed>
+    ensures { MatchOption result ((len : ℕ) → HeadsFrame line.now len → ⊥) (λ f. Says line.now (framed_command f)) }
 {
-    block_len(line)
+    read_framed(line)
 }
 
 /// What the bytes at hand begin with.
@@ -69,28 +71,30 @@ fn take_first<'a>(hand: &'a [u8]) -> Found<'a>
         return Found::Wait;
     };
     let line = &hand[..end];
-    match frame_len(line) {
+    match frame_head(line) {
         None => Found::Got(end + 1, Item::Line(line)),
-        Some(len) => take_frame(hand, end, len),
+        Some(framed) => take_frame(hand, end, framed),
     }
 }
 
-fn take_frame<'a>(hand: &'a [u8], end: usize, len: u64) -> Found<'a>
+fn take_frame<'a>(hand: &'a [u8], end: usize, framed: Framed) -> Found<'a>
     requires line { IsText (take end hand.now) × (hand.now ≡ take end hand.now ++ LF ∷ drop (end + 1) hand.now) }
     requires within { end < length hand.now }
-    requires head { HeadsFrame (take end hand.now) len }
+    requires head { Says (take end hand.now) (framed_command framed) }
     ensures { Takes Phase.Start hand.now result }
 {
+    let len = framed.len();
     if len > LONGEST_BLOCK as u64 {
         return Found::Pass(end + 1, Phase::LongFrame(len + 1));
     }
-    take_short_frame(hand, end, len as usize)
+    take_short_frame(hand, end, framed, len as usize)
 }
 
-fn take_short_frame<'a>(hand: &'a [u8], end: usize, len: usize) -> Found<'a>
+fn take_short_frame<'a>(hand: &'a [u8], end: usize, framed: Framed, len: usize) -> Found<'a>
     requires line { IsText (take end hand.now) × (hand.now ≡ take end hand.now ++ LF ∷ drop (end + 1) hand.now) }
     requires within { end < length hand.now }
-    requires head { HeadsFrame (take end hand.now) len }
+    requires head { Says (take end hand.now) (framed_command framed) }
+    requires len { framed_len framed ≡ len }
     requires fits { len ≤ longest_block }
     ensures { Takes Phase.Start hand.now result }
 {
@@ -98,7 +102,10 @@ fn take_short_frame<'a>(hand: &'a [u8], end: usize, len: usize) -> Found<'a>
     if behind.len() <= len {
         return Found::Wait;
     }
-    Found::Got(end + len + 2, Item::Frame(&behind[..len], behind[len]))
+    Found::Got(
+        end + len + 2,
+        Item::Frame(framed, &behind[..len], behind[len]),
+    )
 }
 
 fn end_long_line<'a>(hand: &'a [u8]) -> Found<'a>

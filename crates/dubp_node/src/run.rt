@@ -17,6 +17,7 @@ use crate::reading::Phase;
 use crate::serving::{InputEnd, finish, serve};
 use dubp_atoms::Steps;
 use dubp_laws::conserved;
+use dubp_ledger::PeopleAndMoney;
 use dubp_outside::{Failed, Sink, Source};
 use std::alloc::Global;
 use std::marker::Brand;
@@ -62,12 +63,12 @@ const MOST_TAKEN: u64 = 1 << 40;
 /// The status is 0 where the input was read to its end on the boundary of an entry, 2 where the words are not the one word
 /// `run`, 3 where a read failed, 4 where the input ended inside a frame, 5 where a write failed, 6 where there was no room
 /// to begin, and 7 where 2^40 bytes were taken and more would be needed.
-pub fn run<S: Source, K: Sink>(
+pub fn run<T: PeopleAndMoney, S: Source, K: Sink>(
     alloc: Global,
     words: &[&str],
     source: &mut S,
     sink: &mut K,
-    node: &mut Node,
+    node: &mut Node<T>,
 ) -> u8
     ensures usage { (result ≡ USAGE) ↔ ¬ (IsRun words.now) }
     ensures statuses { IsStatus result }
@@ -89,12 +90,12 @@ pub fn run<S: Source, K: Sink>(
 }
 
 // The same, of which the chain that it leaves needs no law.
-fn run_words<S: Source, K: Sink>(
+fn run_words<T: PeopleAndMoney, S: Source, K: Sink>(
     alloc: Global,
     words: &[&str],
     source: &mut S,
     sink: &mut K,
-    node: &mut Node,
+    node: &mut Node<T>,
 ) -> u8
     ensures usage { (result ≡ USAGE) ↔ ¬ (IsRun words.now) }
     ensures statuses { IsStatus result }
@@ -114,7 +115,7 @@ fn run_words<S: Source, K: Sink>(
     let Ok(mut buffer) = Buffer::new(alloc) else {
         return NO_ROOM;
     };
-    match session_from::<S, K, Brand>(Blank::new(1), &mut buffer, source, sink, node) {
+    match session_from::<T, S, K, Brand>(Blank::new(1), &mut buffer, source, sink, node) {
         Ending::Ended(InputEnd::OnBoundary) => ENDED,
         Ending::Ended(InputEnd::InsideFrame) => CUT_SHORT,
         Ending::ReadFault => READ_FAULT,
@@ -123,12 +124,12 @@ fn run_words<S: Source, K: Sink>(
     }
 }
 
-fn session_from<S: Source, K: Sink, L: StepBook>(
+fn session_from<T: PeopleAndMoney, S: Source, K: Sink, L: StepBook>(
     blank: Blank,
     buffer: &mut Buffer,
     source: &mut S,
     sink: &mut K,
-    node: &mut Node,
+    node: &mut Node<T>,
 ) -> Ending
     requires name { blank.name ≡ L.name }
     requires parts { blank.parts ≡ L.parts }
@@ -152,11 +153,11 @@ fn is_run(words: &[&str]) -> bool
 }
 
 /// Reads entries and answers them, to the end of the input or the first fault.
-pub fn session<S: Source, K: Sink, L: StepBook>(
+pub fn session<T: PeopleAndMoney, S: Source, K: Sink, L: StepBook>(
     buffer: &mut Buffer,
     source: &mut S,
     sink: &mut K,
-    node: &mut Node,
+    node: &mut Node<T>,
     steps: &mut Steps<L>,
 ) -> Ending
     requires { buffer.old ≡ [] }
@@ -183,10 +184,10 @@ pub fn session<S: Source, K: Sink, L: StepBook>(
 }
 
 /// Answers each whole entry at hand, and keeps what is left.
-fn answer_at_hand<K: Sink, L: StepBook>(
+fn answer_at_hand<T: PeopleAndMoney, K: Sink, L: StepBook>(
     buffer: &mut Buffer,
     sink: &mut K,
-    node: &mut Node,
+    node: &mut Node<T>,
     phase: Phase,
     steps: &mut Steps<L>,
 ) -> Result<Phase, Failed>
@@ -206,10 +207,10 @@ fn answer_at_hand<K: Sink, L: StepBook>(
     }
 }
 
-fn end<K: Sink, L: StepBook>(
+fn end<T: PeopleAndMoney, K: Sink, L: StepBook>(
     buffer: &Buffer,
     sink: &mut K,
-    node: &mut Node,
+    node: &mut Node<T>,
     phase: Phase,
     steps: &mut Steps<L>,
 ) -> Ending

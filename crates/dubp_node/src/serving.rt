@@ -3,27 +3,30 @@ ghost use Rattle.dubp_outside.specs.Causes.{HasCause};
 ghost use Rattle.dubp_node.specs.Cut.{BeginsNone, lacking};
 ghost use Rattle.dubp_validity.specs.Rules.{longest_block};
 ghost use Rattle.dubp_node.specs.Entries.{Entry, Frame as frame_entry, HeadsFrame, IsWhole, Line as line_entry};
-ghost use Rattle.dubp_node.specs.Turns.{EntryTurn};
+ghost use Rattle.dubp_node.specs.Turns.{EntryServed, EntryTurn};
+ghost use Rattle.dubp_script.specs.Framed.{framed_command, framed_len};
+ghost use Rattle.dubp_script.specs.Spelling.{Says};
 ghost use Rattle.dubp_query.specs.AnswerBytes.{answer_bytes};
 ghost use Rattle.dubp_replay.specs.Turns.{State};
 ghost use Rattle.dubp_node.specs.Session.{Broke};
 ghost use Rattle.dubp_node.specs.Reading.{Shows, Stands, most_at_hand};
 ghost use Rattle.dubp_node.specs.Serving.{TurnWritten, TurnBroke, ServedAll, Finished};
 
-use crate::commands::is_there;
 use crate::item::Item;
-use crate::node::{Node, bad, refused};
-use crate::reading::{Found, LONGEST_LINE, Phase, frame_len, line_end, take_one};
+use crate::node::Node;
+use crate::reading::{Found, LONGEST_LINE, Phase, frame_head, line_end, take_one};
+use crate::texts::{bad, refused};
 use dubp_atoms::Steps;
+use dubp_laws::conserved;
+use dubp_ledger::PeopleAndMoney;
 use dubp_outside::{Failed, Sink, write_whole};
 use dubp_query::Answer;
-use dubp_replay::Command;
-use dubp_script::read_command;
+use dubp_script::{Framed, read_command};
 use std::sync::ledger::Ledger as StepBook;
 
 /// The node takes its turn, and the answer is written.
-fn take_turn<K: Sink, L: StepBook>(
-    node: &mut Node,
+fn take_turn<T: PeopleAndMoney, K: Sink, L: StepBook>(
+    node: &mut Node<T>,
     sink: &mut K,
     item: Item<'_>,
     steps: &mut Steps<L>,
@@ -36,50 +39,70 @@ fn take_turn<K: Sink, L: StepBook>(
     write_whole(sink, answer.as_bytes())
 }
 
-// The answer to an entry.
-fn answer_item<L: StepBook>(node: &mut Node, item: Item<'_>, steps: &mut Steps<L>) -> Answer
+// The answer to an entry, and behind it the money adds up.
+fn answer_item<T: PeopleAndMoney, L: StepBook>(
+    node: &mut Node<T>,
+    item: Item<'_>,
+    steps: &mut Steps<L>,
+) -> Answer
     ensures { (entry : Entry) → IsWhole entry → Shows item.entry entry → EntryTurn node.old entry (answer_bytes result) node.new }
+{
+    let answer = answer_of(node, item, steps);
+    node.ledger().laws();
+    conserved();
+    answer
+}
+
+// The answer to an entry.
+fn answer_of<T: PeopleAndMoney, L: StepBook>(
+    node: &mut Node<T>,
+    item: Item<'_>,
+    steps: &mut Steps<L>,
+) -> Answer
+    ensures { (entry : Entry) → IsWhole entry → Shows item.entry entry → EntryServed node.old entry (answer_bytes result) node.new }
 {
     match item {
         Item::LongLine => bad(),
         Item::Line(line) => answer_line(node, line, steps),
-        Item::Frame(frame, last) => answer_frame(node, frame, last, steps),
+        Item::Frame(framed, frame, last) => answer_frame(node, framed, frame, last, steps),
         Item::LongFrame(last) => answer_long_frame(last),
     }
 }
 
-fn answer_line<L: StepBook>(node: &mut Node, line: &[u8], steps: &mut Steps<L>) -> Answer
-    ensures { IsWhole (line_entry line.now) → EntryTurn node.old (line_entry line.now) (answer_bytes result) node.new }
+fn answer_line<T: PeopleAndMoney, L: StepBook>(
+    node: &mut Node<T>,
+    line: &[u8],
+    steps: &mut Steps<L>,
+) -> Answer
+    ensures { IsWhole (line_entry line.now) → EntryServed node.old (line_entry line.now) (answer_bytes result) node.new }
 {
     if line.len() > LONGEST_LINE {
         return bad();
     }
     match read_command(line) {
-        Some(command) if is_there(&command) => node.act(&command, b"".as_slice(), steps),
-        _ => bad(),
+        Some(command) => node.act(&command, b"".as_slice(), steps),
+        None => bad(),
     }
 }
 
-fn answer_frame<L: StepBook>(
-    node: &mut Node,
+fn answer_frame<T: PeopleAndMoney, L: StepBook>(
+    node: &mut Node<T>,
+    framed: Framed,
     frame: &[u8],
     last: u8,
     steps: &mut Steps<L>,
 ) -> Answer
-    ensures { (head : List ℕ) → HeadsFrame head (length frame.now) → EntryTurn node.old (frame_entry head frame.now last) (answer_bytes result) node.new }
+    ensures { (head : List ℕ) → Says head (framed_command framed) → framed_len framed ≡ length frame.now → EntryServed node.old (frame_entry head frame.now last) (answer_bytes result) node.new }
 {
     if last != b'\n' {
         return bad();
     }
-    let command = Command::Block {
-        len: frame.len() as u64,
-    };
-    node.act(&command, frame, steps)
+    node.act(&framed.command(), frame, steps)
 }
 
 // The frame was read past, and the node is left as it is.
 fn answer_long_frame(last: u8) -> Answer
-    ensures { (old : State) (head payload : List ℕ) → HeadsFrame head (length payload) → longest_block < length payload → EntryTurn old (frame_entry head payload last) (answer_bytes result) old }
+    ensures { (old : State) (head payload : List ℕ) → HeadsFrame head (length payload) → longest_block < length payload → EntryServed old (frame_entry head payload last) (answer_bytes result) old }
 {
     if last == b'\n' {
         refused(b"X01")
@@ -96,8 +119,8 @@ fn skip(bytes: &[u8], count: usize) -> &[u8]
 }
 
 /// Answers each whole command at hand. Gives how the bytes go on, and how many are left at hand.
-pub fn serve<K: Sink, L: StepBook>(
-    node: &mut Node,
+pub fn serve<T: PeopleAndMoney, K: Sink, L: StepBook>(
+    node: &mut Node<T>,
     sink: &mut K,
     phase: Phase,
     hand: &[u8],
@@ -140,8 +163,8 @@ pub enum InputEnd {
 }
 
 /// Answers the last line where it lacks its LF, at the end of the input.
-pub fn finish<K: Sink, L: StepBook>(
-    node: &mut Node,
+pub fn finish<T: PeopleAndMoney, K: Sink, L: StepBook>(
+    node: &mut Node<T>,
     sink: &mut K,
     phase: Phase,
     hand: &[u8],
@@ -165,8 +188,8 @@ pub fn finish<K: Sink, L: StepBook>(
     }
 }
 
-fn finish_line<K: Sink, L: StepBook>(
-    node: &mut Node,
+fn finish_line<T: PeopleAndMoney, K: Sink, L: StepBook>(
+    node: &mut Node<T>,
     sink: &mut K,
     hand: &[u8],
     steps: &mut Steps<L>,
@@ -192,14 +215,14 @@ fn finish_line<K: Sink, L: StepBook>(
 fn last_item<'a>(line: &'a [u8]) -> Option<Item<'a>>
     ensures { MatchOption result ((len : ℕ) × HeadsFrame line.now len) (λ item. ((len : ℕ) → HeadsFrame line.now len → ⊥) × Shows item (line_entry line.now)) }
 {
-    match frame_len(line) {
+    match frame_head(line) {
         None => Some(Item::Line(line)),
         Some(_) => None,
     }
 }
 
-fn finish_item<K: Sink, L: StepBook>(
-    node: &mut Node,
+fn finish_item<T: PeopleAndMoney, K: Sink, L: StepBook>(
+    node: &mut Node<T>,
     sink: &mut K,
     item: Item<'_>,
     hand: &[u8],

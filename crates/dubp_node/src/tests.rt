@@ -1,4 +1,6 @@
+use crate::session::{ANSWERS, ENDS as SESSION_ENDS, SESSION};
 use crate::{Node, run_program};
+use dubp_ledger::Books;
 use dubp_outside::{MemSink, MemSource};
 use std::alloc::Global;
 use std::mem::forget;
@@ -73,7 +75,7 @@ fn run_on(
     let most = if writes.is_empty() { 4096 } else { 1 };
     let mut source = MemSource::new(bytes, 7, reads);
     let mut sink = MemSink::new(alloc, 4096, most, writes)?;
-    let mut node = Node::new(alloc);
+    let mut node = Node::<Books>::new(alloc);
     let status = run_program(alloc, words, &mut source, &mut sink, &mut node);
     forget(node);
     Ok(Ran {
@@ -165,6 +167,57 @@ fn other_words_read_and_write_nothing(rt: HostRuntime) -> Result<(), Fail> {
         assert_eq!(rt; ran.status, 2);
         assert_eq!(rt; ran.left, 5);
         assert!(rt; ran.held.is_empty());
+    }
+    Ok(())
+}
+
+// The answers of the whole commands among the first bytes of the session.
+fn session_answers(taken: usize) -> &'static [u8] {
+    let mut len = 0;
+    for (end, answers) in SESSION_ENDS {
+        if end <= taken {
+            len = answers;
+        }
+    }
+    ANSWERS.get(..len).unwrap_or(ANSWERS)
+}
+
+#[test]
+fn a_session_breaks_off_at_each_failed_read(rt: HostRuntime) -> Result<(), Fail> {
+    let alloc = rt.alloc();
+    for call in 0..1173u64 {
+        let reads = vec![in alloc; call]?;
+        let ran = run_on(
+            alloc,
+            &["run"],
+            SESSION.to_vec(alloc)?,
+            reads,
+            Vec::new(alloc),
+        )?;
+        assert_eq!(rt; ran.status, 3, "call {call}");
+        assert_eq!(rt;
+            ran.held.as_slice(),
+            session_answers(7 * call as usize),
+            "call {call}"
+        );
+    }
+    Ok(())
+}
+
+#[test]
+fn a_session_breaks_off_at_each_failed_write(rt: HostRuntime) -> Result<(), Fail> {
+    let alloc = rt.alloc();
+    for call in 0..ANSWERS.len() {
+        let writes = vec![in alloc; call as u64]?;
+        let ran = run_on(
+            alloc,
+            &["run"],
+            SESSION.to_vec(alloc)?,
+            Vec::new(alloc),
+            writes,
+        )?;
+        assert_eq!(rt; ran.status, 5, "call {call}");
+        assert_eq!(rt; ran.held.as_slice(), ANSWERS.get(..call).unwrap_or(ANSWERS));
     }
     Ok(())
 }

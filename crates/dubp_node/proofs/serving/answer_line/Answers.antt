@@ -5,4 +5,4 @@ use Rattle.dubp_node.proofs.serving.answer_line.Goals as goal
 pub returns-in-Some : goal.returns-in-Some
 returns-in-Some g c = λ whole.
     let found = c.in-Some.ensures.found in
-    line_turn _ _ c.args.line.now _ c.as_slice.result.now c.in-Some.command whole (omega arith) (c.is_there.ensures.0 c.if-is_there.true) (record { is = found.0; text = found.1 }) c.as_slice.ensures c.act.ensures
+    line_turn _ _ c.args.line.now _ c.as_slice.result.now c.in-Some.command whole (omega arith) (record { is = found.0; text = found.1 }) c.as_slice.ensures c.act.ensures
