@@ -1,0 +1,141 @@
+"""Makes the inputs that are measured, as pieces of bytes."""
+import pathlib
+import subprocess
+import sys
+from collections.abc import Callable, Iterable, Iterator
+from dataclasses import dataclass
+
+HERE = pathlib.Path(__file__).resolve().parent
+sys.dont_write_bytecode = True
+sys.path.append(str(HERE.parent / "examples"))
+import asking
+import blocks
+
+MEGABYTE = 1_000_000
+REVERSIBLE = 100
+QUERIES = ["HEAD", "MONEY", "IDENTITY", "UID", "CERTS", "BALANCE", "SOURCES", "DISTANCE", "DIFF", "RECORDS", "SHOW"]
+QUERY_COUNT, SWITCH_COUNT = 100_000, 200
+GENERATED_BLOCKS, GENERATED_ISSUERS = 5_000, 40
+
+
+@dataclass
+class Workload:
+    """An input. Where it begins with all of another one, that one is named, and what it costs is taken off."""
+
+    name: str
+    pieces: Callable[[], Iterable[bytes]]
+    behind: str | None = None
+
+
+def generated(count: int, issuers: int) -> Iterator[bytes]:
+    """A chain of so many blocks, each behind the verdicts on its signatures: each piece has one block."""
+    chain, members = blocks.Chain(), [blocks.Member(number) for number in range(issuers)]
+    for number in range(count):
+        lines = blocks.sections() if number else blocks.sections_of_members(members)
+        verdicts = [] if number else blocks.verdicts_of(members)
+        block = blocks.next_block(chain, blocks.key(number % issuers), issuers, lines)
+        yield "".join([*verdicts, block.verdict, block.command()]).encode()
+
+
+def frames_of(commands: bytes) -> list[bytes]:
+    """The texts of the submitted blocks."""
+    return [command.split(b"\n", 1)[1][:-1] for command in asking.commands_of(commands) if command.startswith(b"BLOCK ")]
+
+
+def stamp_of(text: bytes) -> str:
+    number = text.split(b"\nNumber: ", 1)[1].split(b"\n", 1)[0].decode()
+    return f"{number}-{blocks.digest(text[text.rindex(b'InnerHash: ') :].decode())}"
+
+
+def switched(chain: bytes, times: int = SWITCH_COUNT) -> bytes:
+    """So many times: a hundred blocks are taken off the chain and offered, and a switch to the last one puts them back."""
+    last = frames_of(chain)[-REVERSIBLE:]
+    offers = b"".join(b"OFFER %d\n%s\n" % (len(text), text) for text in last)
+    return (f"REVERT {len(last)}\n".encode() + offers + f"SWITCH {stamp_of(last[-1])}\n".encode()) * times
+
+
+def asked(chain: bytes, word: str, count: int = QUERY_COUNT) -> bytes:
+    """So many queries of one kind, on the first 40 keys, names or accounts of the first block in turn, or on blocks from all over the chain."""
+    texts = frames_of(chain)
+    lines = texts[0].split(b"\nIdentities:\n")[1].split(b"Joiners:\n")[0].decode().splitlines()[:40]
+    keys, uids = [line.split(":")[0] for line in lines], [line.split(":")[-1] for line in lines]
+    words = {"UID": uids, "BALANCE": [f"SIG({key})" for key in keys]}
+    words["SOURCES"] = words["BALANCE"]
+    if word in ("HEAD", "MONEY"):
+        return f"{word}\n".encode() * count
+    if word in ("RECORDS", "SHOW"):
+        return "".join(f"{word} {place * 7919 % len(texts)}\n" for place in range(count)).encode()
+    named = words.get(word, keys)
+    return "".join(f"{word} {named[place % len(named)]}\n" for place in range(count)).encode()
+
+
+def first_blocks() -> Iterator[bytes]:
+    given = (HERE.parent / "examples/first_block.in").read_bytes().removeprefix(b"HEAD\n").removesuffix(b"HEAD\n")
+    verdict, block = given.split(b"\n", 1)
+    yield verdict + b"\n"
+    for _ in range(1_000):
+        yield block * 1_000
+
+
+def full_section(section: str, lines: str) -> list[bytes]:
+    """50 blocks of a megabyte whose one section has these lines over and over, and whose InnerHash is wrong."""
+    digest, key = "0" * 64, "4" * 43
+    above = (
+        "Version: 10\nType: Block\nCurrency: test_currency\nNumber: 12\nPoWMin: 0\nTime: 1488987127\nMedianTime: 1488987127\nUnitBase: 0\n"
+        f"Issuer: {blocks.key(0)}\nIssuersFrame: 1\nIssuersFrameVar: 0\nDifferentIssuersCount: 0\n"
+        f"PreviousHash: {digest}\nPreviousIssuer: {key}\nMembersCount: 59\n"
+    )
+    above += blocks.sections(**{section: lines * (MEGABYTE // len(lines))})
+    text = f"{above}InnerHash: {digest}\nNonce: 0\n{blocks.SIGNATURE}\n"
+    return [f"BLOCK {len(text)}\n{text}\n".encode()] * 50
+
+
+def paying(count: int, condition: str) -> str:
+    """A transaction with so many outputs of a condition."""
+    key, digest = "4" * 43, "0" * 64
+    lines, _ = blocks.payment(key, f"7-{digest}", [f"1000:0:D:{key}:4"], [f"1:0:{condition}"] * count, 60)
+    return lines
+
+
+def local_blocks(certifications: int, transactions: int) -> list[bytes]:
+    return [subprocess.run([HERE / "local_blocks", str(certifications), str(transactions)], stdout=subprocess.PIPE, check=True).stdout]
+
+
+def lines_and_frames() -> list[Workload]:
+    """What is read and refused, or answered without a chain."""
+    key, digest = "4" * 43, "0" * 64
+    return [
+        Workload("heads", lambda: [b"HEAD\n"] * 100_000),
+        Workload("frames", lambda: [b"BLOCK %d\n" % MEGABYTE + b"x" * MEGABYTE + b"\n"] * 200),
+        Workload("long_frames", lambda: [b"BLOCK %d\n" % (2 * MEGABYTE) + b"x" * (2 * MEGABYTE) + b"\n"] * 100),
+        Workload("bad_lines", lambda: [b"x" * 99 + b"\n"] * 1_000_000),
+        Workload("first_blocks", first_blocks),
+        Workload("certifications", lambda: full_section("Certifications", f"{key}:{key}:9:{blocks.SIGNATURE}\n")),
+        Workload("identities", lambda: full_section("Identities", f"{key}:{blocks.SIGNATURE}:7-{digest}:alice\n")),
+        Workload("transactions", lambda: full_section("Transactions", paying(2, f"SIG({key})"))),
+        Workload("short_conditions", lambda: full_section("Transactions", paying(100, "CSV(0)"))),
+        Workload("nested_conditions", lambda: full_section("Transactions", paying(100, "(" * 63 + "CSV(0)" + ")" * 63))),
+        Workload("many_certifications", lambda: local_blocks(5_000, 1)),
+        Workload("many_transactions", lambda: local_blocks(0, 2_000)),
+    ]
+
+
+def chains() -> list[Workload]:
+    """Chains of blocks without lines."""
+    sizes = [(1_000, 40), (10_000, 40), (100_000, 40), (1_000, 2_000), (10_000, 2_000)]
+    return [Workload(f"chain_{count}_{issuers}", lambda count=count, issuers=issuers: generated(count, issuers)) for count, issuers in sizes]
+
+
+def behind_a_chain(file: pathlib.Path | None) -> list[Workload]:
+    """A chain, which is handed in or made; and behind it switches, and queries of each kind."""
+    name = "generated" if file else f"chain_{GENERATED_BLOCKS}_{GENERATED_ISSUERS}"
+
+    def chain() -> bytes:
+        return file.read_bytes() if file else b"".join(generated(GENERATED_BLOCKS, GENERATED_ISSUERS))
+
+    found = [Workload(name, lambda: [chain()]), Workload("switches", lambda: [given := chain(), switched(given)], name)]
+    return found + [Workload(word.lower(), lambda word=word: [given := chain(), asked(given, word)], name) for word in QUERIES]
+
+
+def handed_in(name: str, file: pathlib.Path) -> Workload:
+    return Workload(name, lambda: [file.read_bytes()])
