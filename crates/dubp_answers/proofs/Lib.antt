@@ -1,5 +1,4 @@
-pub mod Accounts
 pub mod Identities
-pub mod Rows
 pub mod Certs
 pub mod Distances
+pub mod Views

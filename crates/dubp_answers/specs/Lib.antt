@@ -1,3 +1,3 @@
-pub mod RowLines
+pub mod SourceLines
 pub mod CertificationLines
 pub mod RecordLines

@@ -1,7 +1,6 @@
 //! What is said of the money of a chain in one line.
 ghost use Rattle.std.specs.Prelude.{◌≡◌, [], ◌∷◌, codes, decimal};
 ghost use Rattle.dubp_chain.specs.Chains.{Chain};
-ghost use Rattle.dubp_chain.specs.Money.{balance};
 ghost use Rattle.dubp_replay.specs.Answers.{balance_answer, money_answer, values_line};
 
 use crate::values::put_spaced;
@@ -9,7 +8,8 @@ use arrayvec::ArrayVec;
 use dubp_atoms::{Line, put_bytes};
 use dubp_block::Block;
 use dubp_cond::CondText;
-use dubp_money::{Money, Sources};
+use dubp_money::Money;
+use dubp_money_views::balance;
 use dubp_undo::Tables;
 
 /// The answer to MONEY: the units that the chain issued, those that are unspent and those that were cleared; each is 0 where the
@@ -27,7 +27,7 @@ pub fn money_line(money: &Money) -> Line
 pub fn balance_line(money: &Money, cond: &CondText) -> Line
     ensures { (c : Chain) → ⟦<Money as Tables<Block>>⟧.at money.now c → result.items ≡ balance_answer c cond.now.items }
 {
-    units_line(units_of(money.sources(), cond.as_slice()))
+    units_line(balance(money, cond))
 }
 
 fn totals_line(issued: u128, unspent: u128, cleared: u128) -> Line
@@ -50,14 +50,4 @@ fn units_line(units: u128) -> Line
     put_spaced(units, &mut line);
     put_bytes(&mut line, b"\n");
     line
-}
-
-/// The units of the condition of this text.
-fn units_of(sources: &Sources, cond: &[u8]) -> u128
-    ensures { (c : Chain) → ⟦<Sources as Tables<Block>>⟧.at sources.now c → result ≡ balance c cond.now }
-{
-    match sources.index.find(cond) {
-        Some(account) => sources.index.balance(account),
-        None => 0,
-    }
 }

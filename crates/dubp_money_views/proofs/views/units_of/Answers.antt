@@ -2,8 +2,8 @@ use Rattle.std.proofs.Common.{sym, ◌∙◌}
 use Rattle.dubp_sindex.specs.Accounts.{accounts}
 use Rattle.dubp_undo.specs.States.{states}
 use Rattle.dubp_money_steps.specs.Left.{sources_left}
-use Rattle.dubp_answers.proofs.Accounts.{units_found, units_none}
-use Rattle.dubp_answers.proofs.money.units_of.Goals as goal
+use Rattle.dubp_money_views.proofs.Accounts.{units_found, units_none}
+use Rattle.dubp_money_views.proofs.views.units_of.Goals as goal
 
 pub returns-in-Some : goal.returns-in-Some
 returns-in-Some c = λ chain at.
