@@ -1,0 +1,13 @@
+pub mod Reading
+pub mod ByNumber
+pub mod Signatures
+pub mod Hashed
+pub mod Examples
+pub mod Pairs
+pub mod OneMore
+pub mod Signed
+pub mod Paying
+pub mod Answering
+pub mod InRange
+pub mod Together
+pub mod First

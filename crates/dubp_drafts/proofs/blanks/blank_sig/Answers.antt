@@ -1,0 +1,9 @@
+use Rattle.std.proofs.Common.{refl}
+use Rattle.dubp_atoms.specs.Letters.{is_sig}
+use Rattle.dubp_drafts.specs.Drafting.{blank_sig}
+use Rattle.dubp_drafts.proofs.Reading.{is_read}
+use Rattle.dubp_drafts.proofs.blanks.blank_sig.Goals as goal
+
+pub unwrap-requires : goal.unwrap-requires
+unfolding is_sig
+unwrap-requires c = is_read is_sig c.read.result blank_sig c.read.ensures refl

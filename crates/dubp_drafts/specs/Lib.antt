@@ -1,0 +1,5 @@
+pub mod Keys
+pub mod Numbers
+pub mod Sealing
+pub mod Begun
+pub mod Drafting

@@ -1,6 +1,0 @@
-use Rattle.std.proofs.Common.{ℕ, ◌<◌}
-use Rattle.dubp_gen.specs.Sealing.{MeetsWith}
-use Rattle.dubp_gen.proofs.sealing.least_nonce.Given as goal
-
-abbrev pub invariant-loop-nonce : goal.invariant-loop-nonce
-invariant-loop-nonce l = (n : ℕ) → n < l.nonce → MeetsWith l.block n l.difficulty → ⊥

@@ -1,4 +1,0 @@
-pub mod Keys
-pub mod Numbers
-pub mod Sealing
-pub mod Begun
