@@ -1,5 +1,5 @@
 -- A list that stands oldest first without its last elements.
-use Rattle.std.proofs.Common.{◌≡◌, ◌-◌, ◌≤◌, ◌<◌, ◌++◌, ℕ, Bool, true, false, nat_le, List, [], length, length-append, length-drop, drop, min, take, reverse, take-append-drop, refl, sym, ap, ◌∙◌, arith}
+use Rattle.std.proofs.Common.{◌≡◌, ◌-◌, ◌≤◌, ◌<◌, ◌++◌, ℕ, Bool, true, false, nat_le, List, length, length-drop, drop, min, take, reverse, take-append-drop, refl, sym, ap, ◌∙◌, arith}
 use Rattle.std.proofs.lemmas.Bool.Decides.{nat_tests}
 use Rattle.std.proofs.lemmas.List.{reverse-append, length-reverse, drop_all, take_all}
 use Rattle.std.proofs.Math.Seq.{drop-append_seam}

@@ -4,3 +4,7 @@ pub mod Found
 pub mod Places
 pub mod Stamps
 pub mod Tracing
+pub mod Filled
+pub mod Headers
+pub mod Stated
+pub mod Excluded

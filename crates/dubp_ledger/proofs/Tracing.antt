@@ -1,14 +1,14 @@
 -- What blocks left behind, through each move of a ledger.
-use Rattle.std.proofs.Common.{◌≡◌, ℕ, zero, suc, ◌+◌, ◌-◌, ◌≤◌, ◌<◌, Bool, true, false, cond, ◌==◌, List, [], ◌∷◌, ◌++◌, length, length-append, append_assoc, drop, take, take-append-drop, Option, Some, None, refl, sym, ap, subst, ◌∙◌, arith, eq-eqb, eqb-true}
+use Rattle.std.proofs.Common.{◌≡◌, ℕ, zero, suc, ◌+◌, ◌≤◌, ◌<◌, Bool, true, false, cond, ◌==◌, List, [], ◌∷◌, ◌++◌, length, length-append, append_assoc, drop, take, take-append-drop, Option, Some, None, refl, sym, ap, subst, ◌∙◌, arith, eq-eqb, eqb-true}
 use Rattle.std.proofs.lemmas.List.{length-reverse, reverse-append}
-use Rattle.std.specs.Prelude.{option_map, slice_get, reverse}
+use Rattle.std.specs.Prelude.{slice_get, reverse}
 use Rattle.std.specs.List.{AllByRecursion}
 use Rattle.dubp_block.specs.declared.block.Block.{Block}
 use Rattle.dubp_chain.specs.declared.head.Head.{Head}
 use Rattle.dubp_chain.specs.Chains.{Chain, block_of_number}
 use Rattle.dubp_chain.specs.Heads.{head_of, heads_of}
 use Rattle.dubp_validity.specs.Records.{records, records_at}
-use Rattle.dubp_kept.specs.KeptChain.{KeptChain, Out, IsHeldBy, IsAsHeld, IsAsBefore, with_block, without_last}
+use Rattle.dubp_kept.specs.KeptChain.{KeptChain, Out, IsHeldBy, IsAsHeld, IsAsBefore, with_block}
 use Rattle.dubp_kept.specs.LeftBehind.{left_behind}
 use Rattle.dubp_kept.specs.declared.left_behind.LeftBehind.{LeftBehind}
 use Rattle.dubp_ledger.specs.Traces.{TracesState, AreTraces, AreHeld, IsShort, traces_of}

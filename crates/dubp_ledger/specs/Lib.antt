@@ -1,2 +1,4 @@
 pub mod States
 pub mod Traces
+pub mod Filled
+pub mod Filling

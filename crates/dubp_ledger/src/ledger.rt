@@ -10,7 +10,7 @@ ghost use Rattle.dubp_rules.specs.declared.rule.Rule.TheVariants.{X01, P01};
 ghost use Rattle.dubp_validity.specs.Records.{records_at};
 ghost use Rattle.dubp_validity.specs.Rules.{FirstBroken, Holds, IsSound, longest_block};
 ghost use Rattle.dubp_local.specs.Local.{all_hashes, local_rules};
-ghost use Rattle.dubp_kept.specs.KeptChain.{IsAsBefore, IsAsHeld, IsHeldBy, MayJoin, most_kept, most_steps, without_last};
+ghost use Rattle.dubp_kept.specs.KeptChain.{IsAsBefore, IsAsHeld, IsHeldBy, IsKnown, MayJoin, most_kept, most_steps, without_last};
 ghost use Rattle.dubp_ledger.specs.States.{Accepted, HandedBack, IsTooDeep};
 ghost use Rattle.dubp_ledger.specs.Traces.{IsShort};
 
@@ -74,6 +74,18 @@ impl<T: PeopleAndMoney> Ledger<T> {
             kept: Kept::new(alloc, T::empty(alloc)),
             traces: Traces::new(alloc),
         }
+    }
+
+    /// Where its memory is from.
+    pub(crate) fn alloc(&self) -> Global {
+        self.alloc
+    }
+
+    /// The heads of the chain.
+    pub(crate) fn heads(&self) -> &Heads
+        ensures { IsKnown self.now.chain result.now }
+    {
+        self.kept.heads()
     }
 
     /// How many blocks can be reversed: at most 100. It takes no memory.

@@ -1,4 +1,4 @@
-use Rattle.std.proofs.Common.{ap, subst, sym}
+use Rattle.std.proofs.Common.{subst, sym}
 use Rattle.dubp_kept.specs.KeptChain.{IsAsHeld, IsHeldBy}
 use Rattle.dubp_ledger.proofs.Tracing.{can_come, comes_back}
 use Rattle.dubp_ledger.proofs.ledger.Ledger.restore.Goals as goal

@@ -1,8 +1,7 @@
-use Rattle.std.proofs.Common.{◌∙◌, ◌≡◌, ◌++◌, ◌∷◌, Some, ap, subst, sym}
+use Rattle.std.proofs.Common.{◌∙◌, ◌++◌, Some, ap, subst, sym}
 use Rattle.std.specs.Prelude.{slice_get}
 use Rattle.std.specs.List.{AllByRecursion}
 use Rattle.dubp_block.specs.Text.{IsBlock}
-use Rattle.dubp_chain.specs.Heads.{heads_of}
 use Rattle.dubp_facts.specs.contracts.facts.FactsTablesBlock.TheImpl as facts
 use Rattle.dubp_kept.specs.KeptChain.{IsKnown}
 use Rattle.dubp_validity.specs.Records.{records}
