@@ -1,0 +1,6 @@
+pub mod Drafted
+pub mod Giving
+pub mod Rounds
+pub mod Sealing
+pub mod Shown
+pub mod Sizes

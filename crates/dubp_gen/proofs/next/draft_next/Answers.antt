@@ -1,0 +1,24 @@
+use Rattle.std.proofs.Common.{◌^◌, ◌<◌, ap, sym, subst, ◌∙◌}
+use Rattle.dubp_block.specs.Text.{size_of}
+use Rattle.dubp_gen.specs.Generated.{first_source}
+use Rattle.dubp_gen.proofs.Drafted.{drafted, drafted_given}
+use Rattle.dubp_gen.proofs.Sizes.{small_draft}
+use Rattle.dubp_gen.proofs.next.draft_next.Goals as goal
+
+pub returns-in_ok-drafted-in-Some-clause-block : goal.returns-in_ok-drafted-in-Some-clause-block
+returns-in_ok-drafted-in-Some-clause-block g c = λ start number.
+    let chain = c.args.ledger.now.chain in
+    let s = c.in_ok-source-in-Some in
+    let from = s.ensures.source chain c.money.ensures c.laws.ensures.sound ∙ ap (first_source chain) c.payer.ensures.number in
+    c.in_ok-drafted-in-Some.ensures.block ∙ drafted start chain c.len.result c.args.x c.in-Some.stamp s.source c.in-Some.ensures c.len.ensures number from
+
+pub returns-in_ok-drafted-in-Some-clause-given : goal.returns-in_ok-drafted-in-Some-clause-given
+returns-in_ok-drafted-in-Some-clause-given g c = λ start number.
+    let chain = c.args.ledger.now.chain in
+    let s = c.in_ok-source-in-Some in
+    let from = s.ensures.source chain c.money.ensures c.laws.ensures.sound ∙ ap (first_source chain) c.payer.ensures.number in
+    c.in_ok-drafted-in-Some.ensures.verdicts ∙ drafted_given start chain c.len.result c.args.x c.in-Some.stamp s.source c.in-Some.ensures c.len.ensures number from
+
+pub returns-in_ok-drafted-in-Some-clause-size : goal.returns-in_ok-drafted-in-Some-clause-size
+returns-in_ok-drafted-in-Some-clause-size g c =
+    subst (λ b. size_of b < 2 ^ 53) (sym c.in_ok-drafted-in-Some.ensures.block) (small_draft c.len.result c.args.x c.in-Some.stamp c.in_ok-source-in-Some.source)

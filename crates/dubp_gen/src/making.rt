@@ -1,0 +1,40 @@
+ghost use Rattle.std.specs.Prelude.{◌≡◌, ◌≤◌, IfOk, IfErr};
+ghost use Rattle.dubp_gen.specs.Generated.{Ends, IsMade};
+ghost use Rattle.dubp_gen.specs.Making.{made_of};
+
+use crate::chain::{Chain, GenRefusal};
+use crate::next::make_next;
+use dubp_atoms::Steps;
+use dubp_drafts::next_number;
+use dubp_ledger::{Ledger, PeopleAndMoney};
+use dubp_verdict::Verdicts;
+use std::alloc::Global;
+use std::sync::ledger::Ledger as StepBook;
+
+/// The first `n` blocks of the chain that begins with the number `start`, with their verdicts: at most 5,000.
+///
+/// `NoNonce` exactly where a block is met that cannot be sealed, `Invalid` exactly where one breaks a rule, and both name the first of them.
+/// `NoMemory` where there is no room for the chain. The steps are those of a ledger of its own.
+pub fn make_chain<T: PeopleAndMoney, L: StepBook>(
+    alloc: Global,
+    n: u64,
+    start: u64,
+    steps: &mut Steps<L>,
+) -> Result<Chain, GenRefusal>
+    requires { n ≤ 5000 }
+    ensures made { IfOk result (λ made. IsMade start n (made_of made)) }
+    ensures ended { IfErr result (Ends start n) }
+{
+    let mut ledger: Ledger<T> = Ledger::new(alloc);
+    let mut verdicts = Verdicts::new(alloc);
+    let mut chain = Chain {
+        blocks: Vec::new(alloc),
+        verdicts: Vec::new(alloc),
+    };
+    let mut x = start;
+    for _ in 0..n {
+        make_next(alloc, &mut ledger, &mut verdicts, x, &mut chain, steps)?;
+        x = next_number(x);
+    }
+    Ok(chain)
+}

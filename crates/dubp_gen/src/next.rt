@@ -1,0 +1,226 @@
+ghost use Rattle.std.specs.Prelude.{◌≡◌, ◌^◌, ◌<◌, ◌≤◌, ◌∷◌, ◌++◌, [], ℕ, length, IfOk, IfErr, OnOk};
+ghost use Rattle.dubp_block.specs.Text.{IsBlock, size_of};
+ghost use Rattle.dubp_block.specs.declared.block.Block.{Block as BlockValue};
+ghost use Rattle.dubp_drafts.specs.Drafting.{with_parameters};
+ghost use Rattle.dubp_drafts.specs.Sealing.{IsSealed};
+ghost use Rattle.dubp_gen.specs.declared.chain.GenRefusal.TheVariants.{NoNonce};
+ghost use Rattle.dubp_gen.specs.Generated.{EndsWith, HasNoNonce, HasNoSeal, IsMadeNext, IsRefused, next_draft, next_given, number_at, with_given};
+ghost use Rattle.dubp_gen.specs.Making.{IsOfMade, IsSealedBlock, Joins, made_of};
+
+use crate::chain::{Chain, GenRefusal};
+use crate::spending::first_source;
+use dubp_atoms::{Hash, Key, NoMemory, Sig, Steps};
+use dubp_block::{Block, copy_block, put_block};
+use dubp_drafts::{Draft, SealRefusal, Sealed, draft, first_draft, payer, seal};
+use dubp_ledger::{Ledger, PeopleAndMoney, SubmitRefusal};
+use dubp_rules::Rule;
+use dubp_verdict::Verdicts;
+use std::alloc::Global;
+use std::sync::ledger::Ledger as StepBook;
+
+/// The most bytes that the text of a block has.
+const LONGEST_BLOCK: usize = 1_048_576;
+
+/// Makes the next block, whose number in the run is `x`, and puts it and its verdicts behind those of the chain. The ledger has the blocks
+/// of the chain, and the verdicts are those that were given. After a refusal none of them is of use.
+pub(crate) fn make_next<T: PeopleAndMoney, L: StepBook>(
+    alloc: Global,
+    ledger: &mut Ledger<T>,
+    verdicts: &mut Verdicts,
+    x: u64,
+    chain: &mut Chain,
+    steps: &mut Steps<L>,
+) -> Result<(), GenRefusal>
+    requires few { length ledger.old.chain < 5000 }
+    ensures made { OnOk result ((start : ℕ) → IsOfMade start ledger.old verdicts.old x chain.old → (b : BlockValue) × IsMadeNext start (made_of chain.old) b (made_of chain.new)) }
+    ensures ledger { OnOk result ((start : ℕ) → IsOfMade start ledger.old verdicts.old x chain.old → ledger.new.chain ≡ (made_of chain.new).chain) }
+    ensures verdicts { OnOk result ((start : ℕ) → IsOfMade start ledger.old verdicts.old x chain.old → verdicts.new ≡ with_given [] chain.new.verdicts.items) }
+    ensures ended { IfErr result (λ refusal. (start : ℕ) → IsOfMade start ledger.old verdicts.old x chain.old → EndsWith start (made_of chain.old) refusal) }
+{
+    let Ok(drafted) = draft_next(alloc, ledger, x) else {
+        return Err(GenRefusal::NoMemory);
+    };
+    let Draft {
+        block,
+        verdicts: given,
+    } = drafted;
+    let sealed = seal_next(ledger, block)?;
+    let Ok(()) = note_all(verdicts, &mut chain.verdicts, given.as_slice()) else {
+        return Err(GenRefusal::NoMemory);
+    };
+    let own = (sealed.key, sealed.message, sealed.sig);
+    let Ok(()) = note(verdicts, &mut chain.verdicts, own) else {
+        return Err(GenRefusal::NoMemory);
+    };
+    join(
+        alloc,
+        ledger,
+        verdicts,
+        sealed.block,
+        &mut chain.blocks,
+        steps,
+    )
+}
+
+/// What the next block says before it gets its header.
+fn draft_next<T: PeopleAndMoney>(
+    alloc: Global,
+    ledger: &Ledger<T>,
+    x: u64,
+) -> Result<Draft, NoMemory>
+    requires few { length ledger.now.chain < 5000 }
+    ensures block { IfOk result (λ d. (start : ℕ) → x ≡ number_at start (length ledger.now.chain) → d.block ≡ next_draft start ledger.now.chain) }
+    ensures given { IfOk result (λ d. (start : ℕ) → x ≡ number_at start (length ledger.now.chain) → d.verdicts.items ≡ next_given start ledger.now.chain) }
+    ensures valid { IfOk result (λ d. IsBlock (with_parameters d.block)) }
+    ensures size { IfOk result (λ d. size_of d.block < 2 ^ 53) }
+    ensures first { IfOk result (λ d. ledger.now.chain ≡ [] → IsBlock d.block) }
+{
+    ledger.laws();
+    match ledger.stamp_before(0) {
+        None => {
+            let drafted = first_draft(alloc)?;
+            Ok(drafted)
+        }
+        Some(stamp) => {
+            let source = first_source(alloc, ledger.money(), payer(x))?;
+            let drafted = draft(alloc, ledger.len() as u64, x, &stamp, source)?;
+            Ok(drafted)
+        }
+    }
+}
+
+/// The next block, sealed: the draft as it is for an empty chain, else filled, for the difficulty of its issuer.
+fn seal_next<T: PeopleAndMoney>(ledger: &Ledger<T>, draft: Block) -> Result<Sealed, GenRefusal>
+    requires valid { IsBlock (with_parameters draft) }
+    requires size { size_of draft < 2 ^ 53 }
+    requires first { ledger.now.chain ≡ [] → IsBlock draft }
+    ensures sealed { IfOk result (IsSealedBlock ledger.now.chain draft) }
+    ensures block { IfOk result (λ s. IsBlock s.block) }
+    ensures ended { IfErr result (HasNoSeal ledger.now.chain draft) }
+{
+    if ledger.len() == 0 {
+        seal_first(ledger, draft)
+    } else {
+        seal_later(ledger, draft)
+    }
+}
+
+/// The same for an empty chain.
+fn seal_first<T: PeopleAndMoney>(ledger: &Ledger<T>, draft: Block) -> Result<Sealed, GenRefusal>
+    requires empty { ledger.now.chain ≡ [] }
+    requires block { IsBlock draft }
+    ensures sealed { IfOk result (IsSealedBlock ledger.now.chain draft) }
+    ensures block { IfOk result (λ s. IsBlock s.block) }
+    ensures ended { IfErr result (HasNoSeal ledger.now.chain draft) }
+{
+    seal_for(draft, 0, ledger.len() as u64)
+}
+
+/// The same for a chain that has blocks.
+fn seal_later<T: PeopleAndMoney>(ledger: &Ledger<T>, draft: Block) -> Result<Sealed, GenRefusal>
+    requires some { 1 ≤ length ledger.now.chain }
+    requires valid { IsBlock (with_parameters draft) }
+    requires size { size_of draft < 2 ^ 53 }
+    ensures sealed { IfOk result (IsSealedBlock ledger.now.chain draft) }
+    ensures block { IfOk result (λ s. IsBlock s.block) }
+    ensures ended { IfErr result (HasNoSeal ledger.now.chain draft) }
+{
+    ledger.laws();
+    let number = ledger.len() as u64;
+    if !ledger.people().is_member(draft.issuer) {
+        return Err(GenRefusal::Invalid {
+            block: number,
+            rule: Rule::G101,
+        });
+    }
+    let Ok(block) = ledger.fill(draft) else {
+        return Err(GenRefusal::NoMemory);
+    };
+    let Ok(difficulty) = ledger.difficulty(block.issuer) else {
+        return Err(GenRefusal::NoMemory);
+    };
+    seal_for(block, difficulty.unwrap(), number)
+}
+
+/// Seals the block of this number for a difficulty.
+fn seal_for(block: Block, difficulty: u128, number: u64) -> Result<Sealed, GenRefusal>
+    requires { IsBlock block }
+    ensures sealed { IfOk result (IsSealed block difficulty) }
+    ensures block { IfOk result (λ s. IsBlock s.block) }
+    ensures ended { IfErr result (λ refusal. (refusal ≡ NoNonce number) × HasNoNonce block difficulty) }
+{
+    match seal(block, difficulty) {
+        Ok(sealed) => Ok(sealed),
+        Err(SealRefusal::NoNonce) => Err(GenRefusal::NoNonce { block: number }),
+        Err(SealRefusal::NoMemory) => Err(GenRefusal::NoMemory),
+    }
+}
+
+/// Gives these verdicts, and notes that they were given.
+fn note_all(
+    verdicts: &mut Verdicts,
+    noted: &mut Vec<(Key, Hash, Sig)>,
+    given: &[(Key, Hash, Sig)],
+) -> Result<(), NoMemory>
+    ensures given { OnOk result (verdicts.new ≡ with_given verdicts.old given.now) }
+    ensures noted { OnOk result (noted.new.items ≡ noted.old.items ++ given.now) }
+{
+    for verdict in given {
+        note(verdicts, noted, *verdict)?;
+    }
+    Ok(())
+}
+
+fn note(
+    verdicts: &mut Verdicts,
+    noted: &mut Vec<(Key, Hash, Sig)>,
+    given: (Key, Hash, Sig),
+) -> Result<(), NoMemory>
+    ensures given { OnOk result (verdicts.new ≡ with_given verdicts.old (given ∷ [])) }
+    ensures noted { OnOk result (noted.new.items ≡ noted.old.items ++ given ∷ []) }
+{
+    let (key, hash, sig) = given;
+    verdicts.add(key, hash, sig)?;
+    noted.push((key, hash, sig)).map_err(|_| NoMemory)
+}
+
+/// The block joins the ledger, and a copy of it the blocks, where it is not too long and breaks no rule.
+fn join<T: PeopleAndMoney, L: StepBook>(
+    alloc: Global,
+    ledger: &mut Ledger<T>,
+    verdicts: &Verdicts,
+    block: Block,
+    blocks: &mut Vec<Block>,
+    steps: &mut Steps<L>,
+) -> Result<(), GenRefusal>
+    requires { IsBlock block }
+    ensures joined { OnOk result (Joins verdicts.now ledger.old.chain block) }
+    ensures ledger { OnOk result (ledger.new.chain ≡ block ∷ ledger.old.chain) }
+    ensures blocks { OnOk result (blocks.new.items ≡ blocks.old.items ++ block ∷ []) }
+    ensures ended { IfErr result (IsRefused verdicts.now ledger.old.chain block) }
+{
+    let number = ledger.len() as u64;
+    let Ok(text) = put_block(alloc, &block) else {
+        return Err(GenRefusal::NoMemory);
+    };
+    if text.len() > LONGEST_BLOCK {
+        return Err(GenRefusal::Invalid {
+            block: number,
+            rule: Rule::X01,
+        });
+    }
+    let Ok(copy) = copy_block(alloc, &block) else {
+        return Err(GenRefusal::NoMemory);
+    };
+    match ledger.submit(block, verdicts, steps) {
+        Ok(_) => match blocks.push(copy) {
+            Ok(()) => Ok(()),
+            Err(_) => Err(GenRefusal::NoMemory),
+        },
+        Err(SubmitRefusal::Refused { rule, .. }) => Err(GenRefusal::Invalid {
+            block: number,
+            rule,
+        }),
+        Err(SubmitRefusal::NoMemory { .. }) => Err(GenRefusal::NoMemory),
+    }
+}
