@@ -23,8 +23,6 @@ mod refusal;
 mod rows;
 mod sections;
 mod sizing;
-#[cfg(test)]
-mod tests;
 mod transactions;
 mod writing;
 

@@ -31,12 +31,14 @@ impl<'a> Model for Cursor<'a> {
 }
 
 impl<'a> Cursor<'a> {
+    /// A cursor before the whole text.
     pub fn new(text: &'a [u8]) -> Cursor<'a>
         ensures { result ≡ text.now }
     {
         Cursor { rest: text }
     }
 
+    /// Whether nothing is left to read.
     pub fn is_done(&self) -> bool
         ensures { result ≡ (length self.now == 0) }
     {

@@ -24,8 +24,6 @@ mod output;
 mod passing;
 mod reading;
 mod source;
-#[cfg(test)]
-mod tests;
 mod tree;
 mod truth;
 mod tx;

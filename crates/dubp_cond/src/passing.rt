@@ -66,6 +66,7 @@ fn pass_cond(cursor: &mut Cursor<'_>, groups: usize) -> bool
     }
 }
 
+/// Whether the whole text is a condition of at most 1,000 characters.
 #[tactic(auto, unfolding(crate::specs::Reading::cond_of_text))]
 pub fn pass_whole(text: &[u8]) -> bool
     ensures passed { result ≡ is_some (cond_of_text text.now) }

@@ -21,8 +21,6 @@ mod read;
 mod reading;
 mod signing;
 mod steps;
-#[cfg(test)]
-mod tests;
 mod transaction;
 mod writing;
 

@@ -28,8 +28,6 @@ mod sealed;
 mod sealing;
 mod sections;
 mod signing;
-#[cfg(test)]
-mod tests;
 
 pub use drafted::Draft;
 pub use drafting::{draft, first_draft, payer};

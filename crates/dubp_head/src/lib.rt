@@ -23,8 +23,6 @@ mod money;
 mod places;
 mod refusal;
 mod rules;
-#[cfg(test)]
-mod tests;
 mod times;
 
 pub use augmenting::{augment, augment_over};

@@ -17,8 +17,6 @@
 mod index;
 mod row;
 mod tables;
-#[cfg(test)]
-mod tests;
 mod writing;
 
 pub use index::IIndex;

@@ -13,8 +13,6 @@ mod check;
 mod numbers;
 mod once;
 mod signatures;
-#[cfg(test)]
-mod tests;
 mod transactions;
 mod unlocks;
 

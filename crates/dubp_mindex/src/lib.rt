@@ -15,7 +15,5 @@
 #![tactic(auto)]
 
 mod member;
-#[cfg(test)]
-mod tests;
 
 pub use member::{MIndex, MemberRow, MemberRows};

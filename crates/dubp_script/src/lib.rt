@@ -11,8 +11,6 @@
 
 mod framed;
 mod reading;
-#[cfg(test)]
-mod tests;
 mod words;
 
 pub use dubp_replay::Command;

@@ -27,8 +27,6 @@ mod moving;
 mod places;
 mod rows;
 mod table;
-#[cfg(test)]
-mod tests;
 mod three;
 
 pub use along::{Along, StateOf};

@@ -11,7 +11,5 @@
 #![tactic(auto)]
 
 mod record;
-#[cfg(test)]
-mod tests;
 
 pub use record::{Record, put_record};

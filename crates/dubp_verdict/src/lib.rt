@@ -13,8 +13,6 @@
 
 mod entry;
 mod laws;
-#[cfg(test)]
-mod tests;
 mod verdicts;
 
 pub use laws::verdict_laws;

@@ -1,0 +1,187 @@
+ghost use Rattle.dubp_docs.specs.Spelling.{IsDoc};
+
+use dubp_atoms::Hash;
+use dubp_docs::{
+    Doc, certification_hash, identity_hash, membership_hash, put_doc, read_doc, revocation_hash,
+    signed_text, signed_tx, tx_hash, tx_hashes,
+};
+use std::test::Fail;
+
+const IDENTITY: &[u8] = b"\
+    Version: 10\n\
+    Type: Identity\n\
+    Currency: beta_brousouf\n\
+    Issuer: 1111111111111111111111111111111111111111111\n\
+    UniqueID: toto\n\
+    Timestamp: 0-E3B0C44298FC1C149AFBF4C8996FB92427AE41E4649B934CA495991B7852B855\n\
+    AAAAAAAAAAAAAAAAAAAAAAAAAAAAAAAAAAAAAAAAAAAAAAAAAAAAAAAAAAAAAAAAAAAAAAAAAAAAAAAAAAAAAA==\n\
+";
+
+const REVOCATION: &[u8] = b"\
+    Version: 10\n\
+    Type: Revocation\n\
+    Currency: beta_brousouf\n\
+    Issuer: 1111111111111111111111111111111111111111111\n\
+    IdtyUniqueID: toto\n\
+    IdtyTimestamp: 0-E3B0C44298FC1C149AFBF4C8996FB92427AE41E4649B934CA495991B7852B855\n\
+    IdtySignature: BBBBBBBBBBBBBBBBBBBBBBBBBBBBBBBBBBBBBBBBBBBBBBBBBBBBBBBBBBBBBBBBBBBBBBBBBBBBBBBBBBBBBB==\n\
+    AAAAAAAAAAAAAAAAAAAAAAAAAAAAAAAAAAAAAAAAAAAAAAAAAAAAAAAAAAAAAAAAAAAAAAAAAAAAAAAAAAAAAA==\n\
+";
+
+const CERTIFICATION: &[u8] = b"\
+    Version: 10\n\
+    Type: Certification\n\
+    Currency: beta_brousouf\n\
+    Issuer: 1111111111111111111111111111111111111111112\n\
+    IdtyIssuer: 1111111111111111111111111111111111111111111\n\
+    IdtyUniqueID: toto\n\
+    IdtyTimestamp: 0-E3B0C44298FC1C149AFBF4C8996FB92427AE41E4649B934CA495991B7852B855\n\
+    IdtySignature: AAAAAAAAAAAAAAAAAAAAAAAAAAAAAAAAAAAAAAAAAAAAAAAAAAAAAAAAAAAAAAAAAAAAAAAAAAAAAAAAAAAAAA==\n\
+    CertTimestamp: 36-E3B0C44298FC1C149AFBF4C8996FB92427AE41E4649B934CA495991B7852B855\n\
+    BBBBBBBBBBBBBBBBBBBBBBBBBBBBBBBBBBBBBBBBBBBBBBBBBBBBBBBBBBBBBBBBBBBBBBBBBBBBBBBBBBBBBB==\n\
+";
+
+const MEMBERSHIP: &[u8] = b"\
+    Version: 10\n\
+    Type: Membership\n\
+    Currency: beta_brousouf\n\
+    Issuer: 1111111111111111111111111111111111111111111\n\
+    Block: 0-E3B0C44298FC1C149AFBF4C8996FB92427AE41E4649B934CA495991B7852B855\n\
+    Membership: OUT\n\
+    UserID: toto\n\
+    CertTS: 7-E3B0C44298FC1C149AFBF4C8996FB92427AE41E4649B934CA495991B7852B855\n\
+    AAAAAAAAAAAAAAAAAAAAAAAAAAAAAAAAAAAAAAAAAAAAAAAAAAAAAAAAAAAAAAAAAAAAAAAAAAAAAAAAAAAAAA==\n\
+";
+
+const TRANSACTION: &[u8] = b"\
+    Version: 10\n\
+    Type: Transaction\n\
+    Currency: beta_brousouf\n\
+    Blockstamp: 5-E3B0C44298FC1C149AFBF4C8996FB92427AE41E4649B934CA495991B7852B855\n\
+    Locktime: 3600\n\
+    Issuers:\n\
+    1111111111111111111111111111111111111111111\n\
+    1111111111111111111111111111111111111111112\n\
+    Inputs:\n\
+    100:0:D:1111111111111111111111111111111111111111111:5\n\
+    Unlocks:\n\
+    0:SIG(0) XHX(abc)\n\
+    Outputs:\n\
+    60:0:SIG(1111111111111111111111111111111111111111112)\n\
+    40:0:(SIG(1111111111111111111111111111111111111111111) && CSV(3600)) || CLTV(1000)\n\
+    Comment: \n\
+    AAAAAAAAAAAAAAAAAAAAAAAAAAAAAAAAAAAAAAAAAAAAAAAAAAAAAAAAAAAAAAAAAAAAAAAAAAAAAAAAAAAAAA==\n\
+    BBBBBBBBBBBBBBBBBBBBBBBBBBBBBBBBBBBBBBBBBBBBBBBBBBBBBBBBBBBBBBBBBBBBBBBBBBBBBBBBBBBBBB==\n\
+";
+
+// The hash of the signed text, from the fields of the document.
+fn signed_hash(doc: &Doc) -> Hash
+    requires { IsDoc doc.now }
+{
+    match doc {
+        Doc::Identity(d) => identity_hash(&d.currency, &d.issuer, &d.unique_id, &d.timestamp),
+        Doc::Revocation(d) => {
+            revocation_hash(
+                &d.currency,
+                &d.issuer,
+                &d.idty_unique_id,
+                &d.idty_timestamp,
+                &d.idty_signature,
+            )
+        }
+        Doc::Certification(d) => {
+            certification_hash(
+                &d.currency,
+                &d.issuer,
+                &d.idty_issuer,
+                &d.idty_unique_id,
+                &d.idty_timestamp,
+                &d.idty_signature,
+                &d.cert_timestamp,
+            )
+        }
+        Doc::Membership(d) => {
+            membership_hash(
+                &d.currency,
+                &d.issuer,
+                &d.block,
+                d.membership,
+                &d.user_id,
+                &d.cert_ts,
+            )
+        }
+        Doc::Transaction(d) => tx_hashes(&d.currency, &d.tx).signed,
+    }
+}
+
+#[test]
+fn documents_are_read_written_and_hashed(rt: HostRuntime) -> Result<(), Fail> {
+    let rows = [
+        (
+            IDENTITY,
+            b"A120515CE66D04A02429DA159E9130B4DFB0627ABB9E3B40485DC9DC70DF32E9",
+        ),
+        (
+            REVOCATION,
+            b"36252970A18FE27062756F05AB3685914FFD8035A031EE3F1F468A746986D382",
+        ),
+        (
+            CERTIFICATION,
+            b"49A2EB1875325B82C80A7ECBB743B9F15C5B95C4BD4B52F120D8050D1A757DD6",
+        ),
+        (
+            MEMBERSHIP,
+            b"FC96F47FC3EF7D38800077031B55ADDADDB51F399D058D7DEA0625EB1E08E159",
+        ),
+        (
+            TRANSACTION,
+            b"43D5E0F9EE4B50B893C2A7B779DB2D0B274445FFEEA8D8C53B0AAC78F6E5708F",
+        ),
+    ];
+    for (text, hash) in rows {
+        let Ok(Some(doc)) = read_doc(rt.alloc(), text) else {
+            return Err(Fail::from("no document"));
+        };
+        let written = put_doc(rt.alloc(), &doc).map_err(|_| "no memory")?;
+        assert!(rt; written.as_slice() == text);
+        let signed = signed_text(rt.alloc(), &doc).map_err(|_| "no memory")?;
+        assert!(rt; Hash::of(&signed).as_bytes() == hash.as_slice());
+        assert!(rt; signed_hash(&doc).as_bytes() == hash.as_slice());
+    }
+    Ok(())
+}
+
+#[test]
+fn a_transaction_is_named_by_its_whole_text(rt: HostRuntime) -> Result<(), Fail> {
+    let Ok(Some(Doc::Transaction(d))) = read_doc(rt.alloc(), TRANSACTION) else {
+        return Err(Fail::from("no transaction"));
+    };
+    let hash = tx_hash(rt.alloc(), &d.currency, &d.tx).map_err(|_| "no memory")?;
+    assert!(rt;
+        hash.as_bytes()
+            == b"E6DB10DCB63E92B9F77B1C05D3864DA9FF54F21275E057C384AEE989ED34E98D".as_slice()
+    );
+    let signed = signed_tx(rt.alloc(), &d.currency, &d.tx).map_err(|_| "no memory")?;
+    assert!(rt; Hash::of(&signed) == tx_hashes(&d.currency, &d.tx).signed);
+    Ok(())
+}
+
+#[test]
+fn other_texts_are_no_documents(rt: HostRuntime) -> Result<(), Fail> {
+    let sig =
+        b"AAAAAAAAAAAAAAAAAAAAAAAAAAAAAAAAAAAAAAAAAAAAAAAAAAAAAAAAAAAAAAAAAAAAAAAAAAAAAAAAAAAAAA==\n";
+    let rows: [(&[u8], &[u8]); 6] = [
+        (b"", b""),
+        (IDENTITY, b"\n"),
+        (IDENTITY, b"x"),
+        (IDENTITY, sig),
+        (TRANSACTION, sig),
+        (b" ", IDENTITY),
+    ];
+    for (front, back) in rows {
+        let mut text = Vec::from_slice(rt.alloc(), front).map_err(|_| "no memory")?;
+        text.extend_from_slice(back).map_err(|_| "no memory")?;
+        assert!(rt; matches!(read_doc(rt.alloc(), &text), Ok(None)));
+    }
+    Ok(())
+}

@@ -1,4 +1,0 @@
-use Rattle.dubp_iindex.proofs.tests.index.identities_are_found.Given as goal
-
-abbrev pub ghosts-puts_and_goes_back : goal.ghosts-puts_and_goes_back
-ghosts-puts_and_goes_back g a = record { name = a.blank.name; parts = a.blank.parts }
