@@ -1,4 +1,7 @@
-ghost use Rattle.std.specs.Prelude.{◌≡◌, ◌≤◌, IfOk, IfErr};
+ghost use Rattle.std.specs.Prelude.{◌≡◌, ◌≤◌, IfOk, IfErr, reverse};
+ghost use Rattle.std.specs.List.{AllByRecursion};
+ghost use Rattle.dubp_block.specs.Text.{IsBlock};
+ghost use Rattle.dubp_ledger.specs.Traces.{IsShort};
 ghost use Rattle.dubp_gen.specs.Generated.{Ends, IsMade};
 ghost use Rattle.dubp_gen.specs.Making.{made_of};
 
@@ -23,6 +26,8 @@ pub fn make_chain<T: PeopleAndMoney, L: StepBook>(
 ) -> Result<Chain, GenRefusal>
     requires { n ≤ 5000 }
     ensures made { IfOk result (λ made. IsMade start n (made_of made)) }
+    ensures blocks { IfOk result (λ made. AllByRecursion IsBlock (reverse made.blocks.items)) }
+    ensures short { IfOk result (λ made. AllByRecursion IsShort (reverse made.blocks.items)) }
     ensures ended { IfErr result (Ends start n) }
 {
     let mut ledger: Ledger<T> = Ledger::new(alloc);
@@ -36,5 +41,6 @@ pub fn make_chain<T: PeopleAndMoney, L: StepBook>(
         make_next(alloc, &mut ledger, &mut verdicts, x, &mut chain, steps)?;
         x = next_number(x);
     }
+    ledger.laws();
     Ok(chain)
 }

@@ -1,5 +1,5 @@
 -- What `offer` and `switch` of the store said, as turns of the node.
-use Rattle.std.proofs.Common.{◌≡◌, ◌⊎◌, inl, inr, ℕ, ◌<◌, ◌≤◌, Bool, true, false, List, [], ◌∷◌, ◌++◌, length, drop, Option, Some, None, is_some, Result, Ok, Err, refl, sym, ap, subst, ◌∙◌, arith}
+use Rattle.std.proofs.Common.{◌≡◌, ◌⊎◌, inl, inr, ℕ, ◌<◌, ◌≤◌, Bool, true, false, List, [], ◌∷◌, ◌++◌, length, Option, Some, None, is_some, Result, Ok, Err, refl, ap, subst, ◌∙◌, arith}
 use Rattle.std.proofs.lemmas.Bool.Decides.{nat_tests}
 use Rattle.std.specs.Prelude.{MatchBool, nat_le, nat_lt}
 use Rattle.std.specs.Option.{MatchOption}
@@ -8,17 +8,16 @@ use Rattle.dubp_block.specs.declared.block.Block.{Block}
 use Rattle.dubp_block.specs.Text.{stamp_of}
 use Rattle.dubp_rules.specs.declared.rule.Rule.{Rule}
 use Rattle.dubp_rules.specs.declared.rule.Rule.TheVariants.{P01}
-use Rattle.dubp_rules.specs.First.{IsFirst}
 use Rattle.dubp_rules.specs.Table.{code_text}
-use Rattle.dubp_validity.specs.Rules.{HoldsRaw, IsTextOf}
+use Rattle.dubp_validity.specs.Rules.{IsTextOf}
 use Rattle.dubp_replay.specs.Answers.{branch_refused_answer, forgotten_answer, full_answer, known_answer, no_memory_answer, refused_answer, stored_answer, too_deep_answer, unknown_answer}
-use Rattle.dubp_replay.specs.Turns.{State, Only, RefusedBy, Stores, OfferTurn, SwitchTurn, SwitchesBy, GoesAlong, TriesPath, TurnOrLack, ForgetTurn, without, is_known, stored, blocks_behind, offer_rules, most_stored}
+use Rattle.dubp_replay.specs.Turns.{State, Only, RefusedBy, Stores, SwitchTurn, SwitchesBy, TriesPath, TurnOrLack, ForgetTurn, without, is_known, stored, blocks_behind, most_stored}
 use Rattle.dubp_forks.specs.declared.refusals.OfferRefusal.{OfferRefusal}
 use Rattle.dubp_forks.specs.declared.refusals.OfferRefusal.TheVariants as offer
 use Rattle.dubp_forks.specs.declared.refusals.SwitchRefusal.{SwitchRefusal}
 use Rattle.dubp_forks.specs.declared.refusals.SwitchRefusal.TheVariants as switch
 use Rattle.dubp_forks.specs.Offers.{FirstOffered, IsOffered, Offered}
-use Rattle.dubp_forks.specs.Switches.{IsAlong, BranchesOff, MayTry, Switched, stored_then}
+use Rattle.dubp_forks.specs.Switches.{BranchesOff, MayTry, Switched, stored_then}
 use Rattle.dubp_replay.specs.declared.command.Command.TheVariants as command
 use Rattle.dubp_node.proofs.Outside.{without_none}
 use Rattle.dubp_node.specs.Deciding.{ShortOfferActs, offer_text, switch_text}

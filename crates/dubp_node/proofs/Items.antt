@@ -8,10 +8,9 @@ use Rattle.dubp_rules.specs.Table.{table_rules}
 use Rattle.dubp_validity.specs.Rules.{longest_block}
 use Rattle.dubp_replay.specs.Answers.{bad_answer, refused_answer}
 use Rattle.dubp_replay.specs.declared.command.Command.{Command}
-use Rattle.dubp_replay.specs.declared.command.Command.TheVariants as command
 use Rattle.dubp_replay.specs.Turns.{BlockTurn, OfferTurn, State, IsServed, frame_of, offer_rules}
 use Rattle.dubp_script.specs.Spelling.{Says}
-use Rattle.dubp_script.specs.Framed.{framed_command, framed_len}
+use Rattle.dubp_script.specs.Framed.{framed_command}
 use Rattle.dubp_script.specs.declared.framed.Framed.{Framed}
 use Rattle.dubp_script.specs.declared.framed.Framed.TheVariants as framed
 use Rattle.dubp_node.proofs.Wholes.{heads_framed}

@@ -11,3 +11,4 @@ pub mod Sessions
 pub mod Taking
 pub mod Wholes
 pub mod Items
+pub mod Givens

@@ -1,6 +1,6 @@
 -- Stored blocks that are not in the chain, behind each command.
-use Rattle.std.proofs.Common.{◌≡◌, ℕ, zero, suc, Bool, true, false, not, List, [], ◌∷◌, filter, find, drop, Option, Some, None, is_some, refl, sym, ap, subst, ◌∙◌, cond, ◌||◌, ◌&&◌, ◌==◌, eq-eqb, eqb-true}
-use Rattle.std.specs.List.{AllByRecursion, list_any}
+use Rattle.std.proofs.Common.{◌≡◌, ℕ, zero, suc, Bool, true, false, not, List, [], ◌∷◌, drop, Option, Some, is_some, refl, ap, subst, ◌∙◌, cond, ◌||◌, ◌&&◌, ◌==◌, eq-eqb, eqb-true}
+use Rattle.std.specs.List.{list_any}
 use Rattle.dubp_atoms.specs.Same.{same_stamp, same_text}
 use Rattle.dubp_laws.proofs.InOrder.{same_text_is, same_text_own}
 use Rattle.dubp_atoms.specs.declared.stamp.Stamp.{Stamp}

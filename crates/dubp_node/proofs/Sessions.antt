@@ -20,11 +20,12 @@ pub all_whole-append : (cs ds : List Entry) → AllWhole cs → AllWhole ds → 
 all_whole-append [] ds p q = q
 all_whole-append (c ∷ cs) ds p q = (p.0, all_whole-append cs ds p.1 q)
 
-pub runs-append : (cs ds : List Entry) (xs ys : List (List ℕ)) (old mid new : State) → Runs EntryTurn old cs xs mid → Runs EntryTurn mid ds ys new → Runs EntryTurn old (cs ++ ds) (xs ++ ys) new
-runs-append [] ds [] ys old mid new p q = subst (λ s. Runs EntryTurn s ds ys new) p q
-runs-append [] ds (x ∷ xs) ys old mid new p q = absurd p
-runs-append (c ∷ cs) ds [] ys old mid new p q = absurd p
-runs-append (c ∷ cs) ds (x ∷ xs) ys old mid new p q = (p.0, p.1, runs-append cs ds xs ys p.0 mid new p.2 q)
+module _ {X : Type 0} (Serves : State → X → List ℕ → State → Type 0) where
+  pub runs-append : (cs ds : List X) (xs ys : List (List ℕ)) (old mid new : State) → Runs Serves old cs xs mid → Runs Serves mid ds ys new → Runs Serves old (cs ++ ds) (xs ++ ys) new
+  runs-append [] ds [] ys old mid new p q = subst (λ s. Runs Serves s ds ys new) p q
+  runs-append [] ds (x ∷ xs) ys old mid new p q = absurd p
+  runs-append (c ∷ cs) ds [] ys old mid new p q = absurd p
+  runs-append (c ∷ cs) ds (x ∷ xs) ys old mid new p q = (p.0, p.1, runs-append cs ds xs ys p.0 mid new p.2 q)
 
 pub served_nothing : (state : State) (held : Option (List ℕ)) (bytes : List ℕ) → Served state state held held bytes bytes
 served_nothing state held bytes = record {
@@ -42,7 +43,7 @@ served_then old mid new before between after bytes middle rest p q = record {
   answers = p.answers ++ q.answers;
   bytes_are = p.bytes_are ∙ ap (λ t. texts p.entries ++ t) q.bytes_are ∙ sym (append_assoc (texts p.entries) (texts q.entries) rest) ∙ ap (λ t. t ++ rest) (sym (texts-append p.entries q.entries));
   each = all_whole-append p.entries q.entries p.each q.each;
-  run = runs-append p.entries q.entries p.answers q.answers old mid new p.run q.run;
+  run = runs-append EntryTurn p.entries q.entries p.answers q.answers old mid new p.run q.run;
   written = subst (λ t. Appends before after t) (sym (joined-append p.answers q.answers)) (appends_then before between after (joined p.answers) (joined q.answers) p.written q.written);
 }
 
@@ -98,7 +99,7 @@ broke_then old mid new before between after bytes middle p q =
       each = subst AllWhole (sym (append_assoc p.entries q.entries (q.entry ∷ []))) (all_whole-append p.entries all p.each q.each);
       run = subst (λ t. Runs EntryTurn old t ((p.answers ++ q.answers) ++ q.answer ∷ []) new) (sym (append_assoc p.entries q.entries (q.entry ∷ [])))
           (subst (λ t. Runs EntryTurn old (p.entries ++ all) t new) (sym (append_assoc p.answers q.answers (q.answer ∷ [])))
-          (runs-append p.entries all p.answers (q.answers ++ q.answer ∷ []) old mid new p.run q.run));
+          (runs-append EntryTurn p.entries all p.answers (q.answers ++ q.answer ∷ []) old mid new p.run q.run));
       between = q.between;
       whole = subst (λ t. Appends before q.between t) (sym (joined-append p.answers q.answers)) (appends_then before between q.between (joined p.answers) (joined q.answers) p.written q.whole);
       part = q.part;

@@ -1,5 +1,5 @@
 -- Whole entries, by the length that a line gives its frame.
-use Rattle.std.proofs.Common.{inl, inr, ◌≡◌, ℕ, ◌≤◌, List, length, Option, None, Some, refl, sym, ap, subst, ◌∙◌, arith, decimal, length-append}
+use Rattle.std.proofs.Common.{inl, inr, ◌≡◌, ℕ, ◌≤◌, List, length, Option, None, Some, refl, sym, ap, ◌∙◌, arith, decimal, length-append}
 use Rattle.std.specs.Prelude.{codes, IfSome}
 use Rattle.std.specs.Option.{MatchOption}
 use Rattle.std.proofs.lemmas.Fmt.{length-decimal-le}

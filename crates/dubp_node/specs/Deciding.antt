@@ -30,6 +30,12 @@ pub record Decision (old : State) (b : Block) (answer : List ℕ) (new : State) 
 abbrev pub Decided : State → Block → List ℕ → State → Type 0
 Decided old b answer new = Decision old b answer new ⊎ Only no_memory_answer old answer new
 
+-- a decision by what `submit` of the ledger said; nothing changes where memory ran out
+abbrev pub IsDecided : State → Block → Result Stamp SubmitRefusal → State → Type 0
+IsDecided old b (Ok stamp) new = Decision old b (accepted_answer stamp) new
+IsDecided old b (Err (Refused rule block)) new = Decision old b (refused_answer (code_text rule)) new
+IsDecided old b (Err (NoMemory block)) new = new ≡ old
+
 -- the answer where `submit` of the ledger refused the block
 abbrev pub refusal_text : SubmitRefusal → List ℕ
 refusal_text (Refused rule block) = refused_answer (code_text rule)

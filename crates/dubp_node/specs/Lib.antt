@@ -8,3 +8,5 @@ pub mod Run
 pub mod Ends
 pub mod Reading
 pub mod Statuses
+pub mod Generating
+pub mod Forms

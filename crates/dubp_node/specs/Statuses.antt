@@ -11,6 +11,10 @@ IsQuiet status =
 abbrev pub IsStatus : ℕ → Type 0
 IsStatus status = IsQuiet status ⊎ (status ≡ READ_FAULT) ⊎ (status ≡ WRITE_FAULT)
 
+-- the statuses of a run that generates
+abbrev pub GenStatus : ℕ → Type 0
+GenStatus status = (status ≡ ENDED) ⊎ (status ≡ WRITE_FAULT) ⊎ (status ≡ NO_ROOM)
+
 -- The source's count of faults goes from the first to the second, the sink's from the third to the fourth. A fault of reading or
 -- writing is claimed exactly where its count rose, and the other count stays.
 pub record StatusFaults (source source' sink sink' status : ℕ) : Type 0 where

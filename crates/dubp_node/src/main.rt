@@ -4,6 +4,8 @@
 #![tactic(auto)]
 
 mod buffer;
+mod form;
+mod generating;
 mod item;
 mod laws;
 mod node;

@@ -1,9 +1,10 @@
-ghost use Rattle.std.specs.Prelude.{◌≡◌, length, ◌≤◌, ℕ, List, None};
+ghost use Rattle.std.specs.Prelude.{◌≡◌, length, ◌≤◌, ℕ, List, [], ◌∷◌, None, OnOk, OnErr};
 ghost use Rattle.dubp_node.specs.Turns.{Acts};
 ghost use Rattle.dubp_query.specs.AnswerBytes.{answer_bytes};
 ghost use Rattle.dubp_block.specs.Text.{IsBlock, block_text};
 ghost use Rattle.dubp_validity.specs.Rules.{longest_block};
-ghost use Rattle.dubp_node.specs.Deciding.{ShortBlockActs, ShortOfferActs, Decided};
+ghost use Rattle.dubp_node.specs.Deciding.{ShortBlockActs, ShortOfferActs, Decided, IsDecided};
+ghost use Rattle.dubp_node.specs.Generating.{IsGivenAll, block_given, verdict_given};
 ghost use Rattle.dubp_replay.specs.Turns.{start};
 ghost use Rattle.dubp_replay.specs.declared.command.Command.TheVariants.{Ask as AskCommand, Block as BlockCommand, Forget as ForgetCommand, Offer as OfferCommand, Revert as RevertCommand, Switch as SwitchCommand, Verdict as VerdictCommand};
 
@@ -11,10 +12,11 @@ use crate::texts::{
     accepted, forgotten, no_memory, noted, offer_answer, refusal_answer, refused, reverted,
     switch_answer, too_deep, unknown, unread,
 };
-use dubp_atoms::{Hash, Key, Sig, Stamp, Steps};
+use dubp_atoms::{Hash, Key, NoMemory, Sig, Stamp, Steps};
+use dubp_block::laws::blocks_have_one_text;
 use dubp_block::{Block, ReadRefusal, read_block};
 use dubp_forks::Store;
-use dubp_ledger::{Ledger, PeopleAndMoney, TooDeep};
+use dubp_ledger::{Ledger, PeopleAndMoney, SubmitRefusal, TooDeep};
 use dubp_query::{Answer, Query, answer};
 use dubp_replay::Command;
 use dubp_verdict::Verdicts;
@@ -159,13 +161,62 @@ impl<T: PeopleAndMoney> Node<T> {
         requires short { length (block_text block) ≤ longest_block }
         ensures { Decided self.old block (answer_bytes result) self.new }
     {
-        match self.ledger.submit(block, &self.verdicts, steps) {
-            Ok(stamp) => {
-                self.store.forget(stamp);
-                accepted(&stamp)
-            }
+        match self.decide(block, steps) {
+            Ok(stamp) => accepted(&stamp),
             Err(refusal) => refusal_answer(refusal),
         }
+    }
+
+    // The same, by what the ledger says.
+    fn decide<L: StepBook>(
+        &mut self,
+        block: Block,
+        steps: &mut Steps<L>,
+    ) -> Result<Stamp, SubmitRefusal>
+        requires text { IsBlock block }
+        requires short { length (block_text block) ≤ longest_block }
+        ensures { IsDecided self.old block result self.new }
+    {
+        match self.ledger.submit(block, &self.verdicts, steps) {
+            Ok(stamp) => {
+                let of_block = Stamp {
+                    number: stamp.number,
+                    hash: stamp.hash,
+                };
+                self.store.forget(stamp);
+                Ok(of_block)
+            }
+            Err(refusal) => Err(refusal),
+        }
+    }
+
+    /// Takes the turn of a block of a chain that was generated. `NoMemory` leaves the node as before.
+    pub(crate) fn give_block<L: StepBook>(
+        &mut self,
+        block: Block,
+        steps: &mut Steps<L>,
+    ) -> Result<(), NoMemory>
+        requires text { IsBlock block }
+        requires short { length (block_text block) ≤ longest_block }
+        ensures given { OnOk result (IsGivenAll (block_given block ∷ []) self.old self.new) }
+        ensures refused { OnErr result (self.new ≡ self.old) }
+    {
+        blocks_have_one_text();
+        match self.decide(block, steps) {
+            Ok(_) => Ok(()),
+            Err(SubmitRefusal::Refused { .. }) => Ok(()),
+            Err(SubmitRefusal::NoMemory { .. }) => Err(NoMemory),
+        }
+    }
+
+    /// Takes the turn of a verdict of a chain that was generated. `NoMemory` leaves the node as before.
+    pub(crate) fn give_verdict(&mut self, given: (Key, Hash, Sig)) -> Result<(), NoMemory>
+        ensures given { OnOk result (IsGivenAll (verdict_given given ∷ []) self.old self.new) }
+        ensures refused { OnErr result (self.new ≡ self.old) }
+    {
+        let (key, hash, sig) = given;
+        self.verdicts.add(key, hash, sig)?;
+        Ok(())
     }
 
     fn act_offer(&mut self, len: u64, frame: &[u8]) -> Answer

@@ -1,4 +1,4 @@
-ghost use Rattle.std.specs.Prelude.{◌≡◌, ◌↔◌, IsTrue, ◌<◌, ◌≤◌, [], List, ℕ, length, IfOk, OnOk, OnErr};
+ghost use Rattle.std.specs.Prelude.{◌≡◌, ◌⊎◌, ◌↔◌, ◌<◌, ◌≤◌, [], List, ℕ, Option, length, IfOk, OnOk, OnErr};
 ghost use Rattle.std.specs.Io.KnownBytes.{Keeps};
 ghost use Rattle.dubp_outside.specs.Causes.{HasCause};
 ghost use Rattle.dubp_laws.specs.Laws.{IsConserved};
@@ -8,10 +8,14 @@ ghost use Rattle.dubp_node.specs.Cut.{BeginsNone};
 ghost use Rattle.dubp_node.specs.Session.{Broke};
 ghost use Rattle.dubp_node.specs.Reading.{Stands, most_at_hand};
 ghost use Rattle.dubp_node.specs.Serving.{ServedAll};
-ghost use Rattle.dubp_node.specs.Statuses.{IsStatus, StatusFaults};
+ghost use Rattle.dubp_node.specs.Statuses.{GenStatus, IsStatus, StatusFaults};
+ghost use Rattle.dubp_node.specs.Forms.{GenEnds, GenFaults};
+ghost use Rattle.dubp_node.specs.Generating.{AsksFor, GeneratedAll, GeneratedNone, GeneratedPart, IsGen};
 ghost use Rattle.dubp_node.specs.declared.serving.InputEnd.TheVariants.{OnBoundary, InsideFrame};
 
 use crate::buffer::Buffer;
+use crate::form::{Form, form_of};
+use crate::generating::{GenEnding, generate};
 use crate::node::Node;
 use crate::reading::Phase;
 use crate::serving::{InputEnd, finish, serve};
@@ -23,7 +27,7 @@ use std::alloc::Global;
 use std::marker::Brand;
 use std::sync::ledger::{Blank, Ledger as StepBook};
 
-/// The status where the input was read to its end, on the boundary of an entry.
+/// The status where the input was read to its end, on the boundary of an entry, or what was generated was written.
 pub const ENDED: u8 = 0;
 
 /// The status where the words have no form of the program's.
@@ -38,7 +42,7 @@ pub const CUT_SHORT: u8 = 4;
 /// The status where a write failed.
 pub const WRITE_FAULT: u8 = 5;
 
-/// The status where there was no room to begin.
+/// The status where there was no room to begin, or to generate a chain.
 pub const NO_ROOM: u8 = 6;
 
 /// The status where as many bytes were taken as a run takes at most, and more would be needed.
@@ -58,11 +62,13 @@ pub enum Ending {
 /// How many bytes a run takes at most.
 const MOST_TAKEN: u64 = 1 << 40;
 
-/// The whole program, given its words: reads commands from the source and writes their answers to the sink.
+/// The whole program, given its words: with `run` it reads commands from the source and writes their answers to the sink; with `gen N START` it
+/// makes a chain of N blocks, from 1 to 5,000, from the number START, gives it to the node, and writes the words, the head and the money, or
+/// at which block the making ends. Then the source is not read.
 ///
-/// The status is 0 where the input was read to its end on the boundary of an entry, 2 where the words are not the one word
-/// `run`, 3 where a read failed, 4 where the input ended inside a frame, 5 where a write failed, 6 where there was no room
-/// to begin, and 7 where 2^40 bytes were taken and more would be needed.
+/// The status is 0 where the input was read to its end on the boundary of an entry, or what was asked for was written; 2 where the words
+/// have neither form, 3 where a read failed, 4 where the input ended inside a frame, 5 where a write failed, 6 where there was no room to begin,
+/// or none for the chain, and 7 where 2^40 bytes were taken and more would be needed.
 pub fn run<T: PeopleAndMoney, S: Source, K: Sink>(
     alloc: Global,
     words: &[&str],
@@ -70,7 +76,7 @@ pub fn run<T: PeopleAndMoney, S: Source, K: Sink>(
     sink: &mut K,
     node: &mut Node<T>,
 ) -> u8
-    ensures usage { (result ≡ USAGE) ↔ ¬ (IsRun words.now) }
+    ensures usage { (result ≡ USAGE) ↔ ¬ (IsRun words.now ⊎ IsGen words.now) }
     ensures statuses { IsStatus result }
     ensures unread { result ≡ USAGE → at node.new (S.left source.new) (K.held sink.new) ≡ at node.old (S.left source.old) (K.held sink.old) }
     ensures no_room { IsRun words.now → result ≡ NO_ROOM → at node.new (S.left source.new) (K.held sink.new) ≡ at node.old (S.left source.old) (K.held sink.old) }
@@ -81,6 +87,10 @@ pub fn run<T: PeopleAndMoney, S: Source, K: Sink>(
     ensures too_much { result ≡ TOO_MUCH → AnsweredMost (at node.old (S.left source.old) (K.held sink.old)) (at node.new (S.left source.new) (K.held sink.new)) }
     ensures faults { StatusFaults (S.faults source.old) (S.faults source.new) (K.faults sink.old) (K.faults sink.new) result }
     ensures last_read { result ≡ READ_FAULT → (before : S) × (S.faults before ≡ S.faults source.old) × Keeps (S.left before) (S.left source.new) }
+    ensures generates { IsGen words.now → GenStatus result }
+    ensures generated { (n start : ℕ) → AsksFor words.now n start → result ≡ ENDED → GeneratedAll n start (at node.old (S.left source.old) (K.held sink.old)) (at node.new (S.left source.new) (K.held sink.new)) }
+    ensures generated_part { (n start : ℕ) → AsksFor words.now n start → result ≡ WRITE_FAULT → GeneratedPart n start (at node.old (S.left source.old) (K.held sink.old)) (at node.new (S.left source.new) (K.held sink.new)) }
+    ensures generated_none { (n start : ℕ) → AsksFor words.now n start → result ≡ NO_ROOM → GeneratedNone n start (at node.old (S.left source.old) (K.held sink.old)) (at node.new (S.left source.new) (K.held sink.new)) }
     ensures conserved { IsConserved node.new.chain }
 {
     let status = run_words(alloc, words, source, sink, node);
@@ -97,7 +107,7 @@ fn run_words<T: PeopleAndMoney, S: Source, K: Sink>(
     sink: &mut K,
     node: &mut Node<T>,
 ) -> u8
-    ensures usage { (result ≡ USAGE) ↔ ¬ (IsRun words.now) }
+    ensures usage { (result ≡ USAGE) ↔ ¬ (IsRun words.now ⊎ IsGen words.now) }
     ensures statuses { IsStatus result }
     ensures unread { result ≡ USAGE → at node.new (S.left source.new) (K.held sink.new) ≡ at node.old (S.left source.old) (K.held sink.old) }
     ensures no_room { IsRun words.now → result ≡ NO_ROOM → at node.new (S.left source.new) (K.held sink.new) ≡ at node.old (S.left source.old) (K.held sink.old) }
@@ -108,20 +118,57 @@ fn run_words<T: PeopleAndMoney, S: Source, K: Sink>(
     ensures too_much { result ≡ TOO_MUCH → AnsweredMost (at node.old (S.left source.old) (K.held sink.old)) (at node.new (S.left source.new) (K.held sink.new)) }
     ensures faults { StatusFaults (S.faults source.old) (S.faults source.new) (K.faults sink.old) (K.faults sink.new) result }
     ensures last_read { result ≡ READ_FAULT → (before : S) × (S.faults before ≡ S.faults source.old) × Keeps (S.left before) (S.left source.new) }
+    ensures generates { IsGen words.now → GenStatus result }
+    ensures generated { (n start : ℕ) → AsksFor words.now n start → result ≡ ENDED → GeneratedAll n start (at node.old (S.left source.old) (K.held sink.old)) (at node.new (S.left source.new) (K.held sink.new)) }
+    ensures generated_part { (n start : ℕ) → AsksFor words.now n start → result ≡ WRITE_FAULT → GeneratedPart n start (at node.old (S.left source.old) (K.held sink.old)) (at node.new (S.left source.new) (K.held sink.new)) }
+    ensures generated_none { (n start : ℕ) → AsksFor words.now n start → result ≡ NO_ROOM → GeneratedNone n start (at node.old (S.left source.old) (K.held sink.old)) (at node.new (S.left source.new) (K.held sink.new)) }
 {
-    if !is_run(words) {
-        return USAGE;
+    match form_of(words) {
+        Form::Other => USAGE,
+        Form::Gen { n, start } => match generate_from::<T, K, Brand>(
+            Blank::new(1),
+            alloc,
+            n,
+            start,
+            sink,
+            node,
+        ) {
+            GenEnding::Written => ENDED,
+            GenEnding::WriteFault => WRITE_FAULT,
+            GenEnding::NoRoom => NO_ROOM,
+        },
+        Form::Run => {
+            let Ok(mut buffer) = Buffer::new(alloc) else {
+                return NO_ROOM;
+            };
+            match session_from::<T, S, K, Brand>(Blank::new(1), &mut buffer, source, sink, node) {
+                Ending::Ended(InputEnd::OnBoundary) => ENDED,
+                Ending::Ended(InputEnd::InsideFrame) => CUT_SHORT,
+                Ending::ReadFault => READ_FAULT,
+                Ending::WriteFault => WRITE_FAULT,
+                Ending::TooMuch => TOO_MUCH,
+            }
+        }
     }
-    let Ok(mut buffer) = Buffer::new(alloc) else {
-        return NO_ROOM;
-    };
-    match session_from::<T, S, K, Brand>(Blank::new(1), &mut buffer, source, sink, node) {
-        Ending::Ended(InputEnd::OnBoundary) => ENDED,
-        Ending::Ended(InputEnd::InsideFrame) => CUT_SHORT,
-        Ending::ReadFault => READ_FAULT,
-        Ending::WriteFault => WRITE_FAULT,
-        Ending::TooMuch => TOO_MUCH,
-    }
+}
+
+fn generate_from<T: PeopleAndMoney, K: Sink, L: StepBook>(
+    blank: Blank,
+    alloc: Global,
+    n: u64,
+    start: u64,
+    sink: &mut K,
+    node: &mut Node<T>,
+) -> GenEnding
+    requires name { blank.name ≡ L.name }
+    requires parts { blank.parts ≡ L.parts }
+    requires some { 0 < blank.parts }
+    requires few { n ≤ 5000 }
+    ensures ends { (left : Option (List ℕ)) → GenEnds n start (at node.old left (K.held sink.old)) (at node.new left (K.held sink.new)) result }
+    ensures faults { GenFaults (K.faults sink.old) (K.faults sink.new) result }
+{
+    let mut steps = Steps::<L>::open(blank);
+    generate(alloc, n, start, sink, node, &mut steps)
 }
 
 fn session_from<T: PeopleAndMoney, S: Source, K: Sink, L: StepBook>(
@@ -141,15 +188,6 @@ fn session_from<T: PeopleAndMoney, S: Source, K: Sink, L: StepBook>(
 {
     let mut steps = Steps::<L>::open(blank);
     session(buffer, source, sink, node, &mut steps)
-}
-
-fn is_run(words: &[&str]) -> bool
-    ensures { IsTrue result ↔ IsRun words.now }
-{
-    match words {
-        [word] => *word == "run",
-        _ => false,
-    }
 }
 
 /// Reads entries and answers them, to the end of the input or the first fault.

@@ -160,7 +160,14 @@ fn each_cut_inside_a_frame_has_status_4(rt: HostRuntime) -> Result<(), Fail> {
 #[test]
 fn other_words_read_and_write_nothing(rt: HostRuntime) -> Result<(), Fail> {
     let alloc = rt.alloc();
-    let rows: [&[&str]; 4] = [&[], &["walk"], &["run", "x"], &["gen", "5", "7"]];
+    let rows: [&[&str]; 6] = [
+        &[],
+        &["walk"],
+        &["run", "x"],
+        &["gen", "0", "7"],
+        &["gen", "5001", "7"],
+        &["gen", "5", "07"],
+    ];
     for words in rows {
         let bytes = b"HEAD\n".to_vec(alloc)?;
         let ran = run_on(alloc, words, bytes, Vec::new(alloc), Vec::new(alloc))?;

@@ -1,4 +1,5 @@
-ghost use Rattle.std.specs.Prelude.{◌≡◌, ◌++◌, ◌≤◌, codes, decimal, length};
+ghost use Rattle.std.specs.Prelude.{◌≡◌, ◌++◌, ◌∷◌, ◌≤◌, codes, decimal, length};
+ghost use Rattle.dubp_atoms.specs.Letters.{SPACE};
 ghost use Rattle.dubp_atoms.specs.Spelling.{stamp_text};
 ghost use Rattle.dubp_query.specs.AnswerBytes.{answer_bytes};
 ghost use Rattle.dubp_replay.specs.Answers.{accepted_answer, answer_line, bad_answer, branch_refused_answer, forgotten_answer, full_answer, no_memory_answer, noted_answer, refused_answer, reverted_answer, too_deep_answer, unknown_answer, unread_answer};
@@ -88,6 +89,39 @@ fn branch_refused(at: &Stamp, rule: Rule) -> Answer
     let mut line: Line = ArrayVec::new();
     put_bytes(&mut line, b"REFUSED ");
     at.put(&mut line);
+    put_bytes(&mut line, b" ");
+    put_bytes(&mut line, code(rule).as_slice());
+    put_bytes(&mut line, b"\n");
+    Answer::One(line)
+}
+
+/// What `gen` was asked for.
+pub fn asked_for(n: u64, start: u64) -> Line
+    ensures { result.items ≡ answer_line (codes "GEN " ++ (decimal n ++ (SPACE ∷ decimal start))) }
+{
+    let mut line: Line = ArrayVec::new();
+    put_bytes(&mut line, b"GEN ");
+    put_number(n as u128, &mut line);
+    put_bytes(&mut line, b" ");
+    put_number(start as u128, &mut line);
+    put_bytes(&mut line, b"\n");
+    line
+}
+
+/// `NO NONCE` and the number of the block for which there is none.
+pub fn no_nonce(block: u64) -> Answer
+    ensures { answer_bytes result ≡ answer_line (codes "NO NONCE " ++ decimal block) }
+{
+    numbered(b"NO NONCE ", block)
+}
+
+/// `NO BLOCK`, the number of the block that is refused, and the code of the rule that it breaks.
+pub fn no_block(block: u64, rule: Rule) -> Answer
+    ensures { answer_bytes result ≡ answer_line (codes "NO BLOCK " ++ (decimal block ++ (SPACE ∷ code_text rule))) }
+{
+    let mut line: Line = ArrayVec::new();
+    put_bytes(&mut line, b"NO BLOCK ");
+    put_number(block as u128, &mut line);
     put_bytes(&mut line, b" ");
     put_bytes(&mut line, code(rule).as_slice());
     put_bytes(&mut line, b"\n");

@@ -1,5 +1,8 @@
 use Rattle.std.proofs.Common.{◌≡◌, ◌+◌, suc, arith, ap, length, subst, sym}
 use Rattle.std.proofs.lemmas.Result.{err_from_is_err_and}
+use Rattle.std.specs.List.{AllByRecursion}
+use Rattle.dubp_block.specs.Text.{IsBlock}
+use Rattle.dubp_ledger.specs.Traces.{IsShort}
 use Rattle.dubp_block.specs.declared.block.Block.{Block}
 use Rattle.dubp_gen.specs.Generated.{IsMade}
 use Rattle.dubp_gen.specs.Making.{IsOfMade, made_of}
@@ -31,3 +34,9 @@ loop-preserved g c =
       of_made = subst (λ x. IsOfMade start new.ledger new.verdicts x new.chain) (sym c.next_number-x.ensures)
           (of_made_next start c.loop.x new.ledger new.verdicts c.loop.chain new.chain c.loop.ledger c.loop.verdicts now.of_made next (said.ledger start now.of_made) (said.verdicts start now.of_made));
     }
+
+pub returns-clause-blocks : goal.returns-clause-blocks
+returns-clause-blocks g c = subst (AllByRecursion IsBlock) c.loop.invariant.of_made.chain c.laws.ensures.blocks
+
+pub returns-clause-short : goal.returns-clause-short
+returns-clause-short g c = subst (AllByRecursion IsShort) c.loop.invariant.of_made.chain c.laws.ensures.short

@@ -1,6 +1,6 @@
-use Rattle.std.proofs.Common.{◌∙◌, ap, inl, sym, subst, true, false, ◌≡◌}
+use Rattle.std.proofs.Common.{◌∙◌, ap, inl, sym, subst}
 use Rattle.dubp_query.specs.AnswerBytes.{answer_bytes}
-use Rattle.dubp_replay.specs.Turns.{State, ForgetTurn, without}
+use Rattle.dubp_replay.specs.Turns.{State, ForgetTurn}
 use Rattle.dubp_forks.specs.Stores.{AreOutside, state_of}
 use Rattle.dubp_node.proofs.Branches.{forgotten_turn, unknown_turn}
 use Rattle.dubp_node.proofs.Outside.{outside_without}

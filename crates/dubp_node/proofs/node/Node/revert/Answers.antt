@@ -1,6 +1,5 @@
-use Rattle.std.proofs.Common.{◌∙◌, ap, sym, subst, inl, inr}
+use Rattle.std.proofs.Common.{◌∙◌, ap, sym, subst}
 use Rattle.dubp_forks.specs.Stores.{AreOutside}
-use Rattle.dubp_kept.specs.KeptChain.{without_last}
 use Rattle.dubp_node.proofs.Outside.{outside_drop}
 use Rattle.dubp_node.proofs.node.Node.revert.Goals as goal
 use Rattle.dubp_node.proofs.node.Node.revert.Goals.{in-Ok, in-Err}

@@ -1,24 +1,9 @@
-use Rattle.std.proofs.Common.{subst}
 use Rattle.dubp_query.specs.AnswerBytes.{answer_bytes}
-use Rattle.dubp_replay.specs.Turns.{State}
-use Rattle.dubp_forks.specs.Stores.{state_of}
-use Rattle.dubp_node.specs.Deciding.{Decided}
-use Rattle.dubp_node.proofs.Decisions.{decided_ok, decided_err, joins_outside}
+use Rattle.dubp_node.proofs.Decisions.{said_ok, said_err}
 use Rattle.dubp_node.proofs.node.Node.submit.Goals as goal
 
-pub invariant_of-self : goal.invariant_of-self
-invariant_of-self g c =
-    let s = c.self.inside in
-    joins_outside s.verdicts s.ledger c.submit.new.self s.store c.forget.new.self c.args.block c.in-Ok.stamp c.self.invariant.0 c.in-Ok.ensures.accepted c.forget.ensures.left c.self.invariant.1
-
 pub returns-in-Ok : goal.returns-in-Ok
-returns-in-Ok g c =
-    let s = c.self.inside in
-    subst (λ (x : State). Decided x c.args.block (answer_bytes c.accepted.result) (state_of s.verdicts c.submit.new.self c.forget.new.self)) c.self.view_is
-    (decided_ok s.verdicts s.ledger c.submit.new.self s.store c.forget.new.self c.args.block c.in-Ok.stamp (answer_bytes c.accepted.result) c.self.invariant.0 c.in-Ok.ensures.accepted c.forget.ensures.left c.accepted.ensures)
+returns-in-Ok g c = said_ok _ _ c.args.block c.in-Ok.stamp (answer_bytes c.accepted.result) c.in-Ok.ensures c.accepted.ensures
 
 pub returns-in-Err : goal.returns-in-Err
-returns-in-Err g c =
-    let s = c.self.inside in
-    subst (λ (x : State). Decided x c.args.block (answer_bytes c.refusal_answer.result) (state_of s.verdicts c.submit.new.self s.store)) c.self.view_is
-    (decided_err s.verdicts s.ledger c.submit.new.self s.store c.args.block c.in-Err.refusal (answer_bytes c.refusal_answer.result) c.in-Err.ensures.refused c.refusal_answer.ensures)
+returns-in-Err g c = said_err _ _ c.args.block c.in-Err.refusal (answer_bytes c.refusal_answer.result) c.in-Err.ensures c.refusal_answer.ensures
