@@ -20,11 +20,12 @@ GENERATED_BLOCKS, GENERATED_ISSUERS = 5_000, 40
 
 @dataclass
 class Workload:
-    """An input. Where it begins with all of another one, that one is named, and what it costs is taken off."""
+    """An input, and the words that the program is given. Where it begins with all of another one, that one is named, and what it costs is taken off."""
 
     name: str
     pieces: Callable[[], Iterable[bytes]]
     behind: str | None = None
+    words: tuple[str, ...] = ("run",)
 
 
 def generated(count: int, issuers: int) -> Iterator[bytes]:
@@ -135,6 +136,11 @@ def behind_a_chain(file: pathlib.Path | None) -> list[Workload]:
 
     found = [Workload(name, lambda: [chain()]), Workload("switches", lambda: [given := chain(), switched(given)], name)]
     return found + [Workload(word.lower(), lambda word=word: [given := chain(), asked(given, word)], name) for word in QUERIES]
+
+
+def made_from_a_number() -> list[Workload]:
+    """A chain that the program makes itself: it is given no input."""
+    return [Workload("gen", list, words=("gen", str(GENERATED_BLOCKS), "7"))]
 
 
 def handed_in(name: str, file: pathlib.Path) -> Workload:
