@@ -7,16 +7,14 @@ use Rattle.dubp_rules.specs.declared.rule.Rule.{Rule}
 use Rattle.dubp_rules.specs.First.{IsFirst}
 use Rattle.dubp_rules.proofs.FirstLaws.{IsFirst_from_FirstOf, FirstOf_from_IsFirst, FirstOf_append_found, FirstOf_append_none}
 use Rattle.dubp_docs.specs.declared.hashing.TxHashes.{TxHashes}
-use Rattle.dubp_docs.specs.Spelling.{tx_hash}
-use Rattle.dubp_cond.specs.declared.tx.Tx.{Tx}
-use Rattle.dubp_atoms.specs.Same.{Text}
 use Rattle.dubp_chain.specs.declared.head.Head.{Head}
 use Rattle.dubp_chain.specs.Chains.{Chain}
 use Rattle.dubp_chain.specs.Heads.{head_of, time_of}
 use Rattle.dubp_chain.specs.Money.{hashes_in}
+use Rattle.dubp_money.proofs.Hashes.{whole_hashes-all}
 use Rattle.dubp_left.specs.Next.{IsAsked}
 use Rattle.dubp_left.specs.declared.next.Next.{Next}
-use Rattle.dubp_local.specs.Local.{all_hashes, hashes_of}
+use Rattle.dubp_local.specs.Local.{all_hashes}
 use Rattle.dubp_judge.specs.Judged.{IsToJudge}
 use Rattle.dubp_judge.specs.Parts.{people_rules, money_rules, table_parts}
 
@@ -34,12 +32,8 @@ asked_by c b h p j = record {
   before = j.before;
 }
 
-whole_of : (currency : Text) (txs : List Tx) → map (λ (h : TxHashes). h.whole) (map (hashes_of currency) txs) ≡ map (tx_hash currency) txs
-whole_of currency [] = refl
-whole_of currency (tx ∷ txs) = ap (λ x. tx_hash currency tx ∷ x) (whole_of currency txs)
-
 pub whole_hashes_are : (b : Block) (hashes : List TxHashes) → hashes ≡ all_hashes b → map (λ (h : TxHashes). h.whole) hashes ≡ hashes_in b
-whole_hashes_are b hashes e = ap (map (λ (h : TxHashes). h.whole)) e ∙ whole_of b.currency b.transactions
+whole_hashes_are b hashes e = ap (map (λ (h : TxHashes). h.whole)) e ∙ whole_hashes-all b.currency b.transactions
 
 module _ (Hold : Rule → Type 0) where
   pub people_break : (r : Rule) → IsFirst Hold people_rules (Some r) → IsFirst Hold table_parts (Some r)

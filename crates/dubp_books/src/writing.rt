@@ -30,7 +30,7 @@ impl Written for Books {
         let tables = &mut self.tables;
         apply(alloc, &mut tables.first, block, head, &mut of_people, steps)?;
         let members = paid_members(alloc, &tables.first, head)?;
-        tables.second.apply(
+        tables.second.apply_hashed(
             alloc,
             block,
             head,

@@ -13,7 +13,7 @@ mod next;
 
 ghost use Rattle.dubp_left.specs.Laws.{RowsAreLeft, UidsAreFound, IdentitiesAreCounted, TimesAreWritten};
 
-pub use next::Next;
+pub use next::{Next, next_of};
 
 /// The rows that a chain leaves have at each key, each pair and each entry what the chain says.
 pub fn rows_are_left()

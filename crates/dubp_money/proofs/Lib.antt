@@ -8,3 +8,4 @@ pub mod Written
 pub mod BlockRows
 pub mod Applies
 pub mod Noting
+pub mod Hashes

@@ -13,6 +13,7 @@ use dubp_atoms::{Key, NoMemory, Steps};
 use dubp_block::Block;
 use dubp_chain::Head;
 use dubp_docs::TxHashes;
+use dubp_local::all_tx_hashes;
 use dubp_undo::Tables;
 use dubp_validity::Record;
 use std::alloc::Global;
@@ -30,14 +31,47 @@ impl Money {
     /// Writes the block, whose head this is, behind the chain: its transactions, the dividends of the members, what is cleared, the
     /// totals, the hashes and the facts. Appends its records of money in the order of the protocol.
     ///
-    /// The block is in range, and `hashes` are those of its transactions, in order. `members` are those of the chain with the block,
-    /// by key, where the head has a dividend; else they are not looked at. It adds at most eight steps for each of these records, and
-    /// eight. What is marked stays so.
+    /// The block is in range. `members` are those of the chain with the block, by key, where the head has a dividend; else they are not
+    /// looked at. It adds at most eight steps for each of these records, and eight. What is marked stays so.
     ///
     /// `NoMemory` where there is no room, where more than 2^53 sources would be made with a dividend for each of `members`, and where units
     /// or totals would leave 128 bits: the records are as before then, and what was written until then stands in the tables until they go
     /// back to what was marked.
     pub fn apply<L: StepBook>(
+        &mut self,
+        alloc: Global,
+        block: &Block,
+        head: &Head,
+        members: &[Key],
+        out: &mut Vec<Record>,
+        steps: &mut Steps<L>,
+    ) -> Result<(), NoMemory>
+        requires block { IsBlock block.now }
+        ensures at { OnOk result ((c : Chain) → IsApplied c block.now head.now → ArePaid (block.now ∷ c) head.now members.now → ⟦<Money as Tables<Block>>⟧.at self.old c → ⟦<Money as Tables<Block>>⟧.at self.new (block.now ∷ c)) }
+        ensures records { OnOk result ((c : Chain) → IsApplied c block.now head.now → ArePaid (block.now ∷ c) head.now members.now → ⟦<Money as Tables<Block>>⟧.at self.old c → out.new.items ≡ out.old.items ++ money_records c block.now) }
+        ensures marked { (c : Chain) → ⟦<Money as Tables<Block>>⟧.marked self.old c → ⟦<Money as Tables<Block>>⟧.marked self.new c }
+        ensures waits { (o : Chain) (i : ℕ) → ⟦<Money as Tables<Block>>⟧.waits self.old o i → ⟦<Money as Tables<Block>>⟧.waits self.new o i }
+        ensures ahead { ⟦<Money as Tables<Block>>⟧.ahead_costs self.new ≡ ⟦<Money as Tables<Block>>⟧.ahead_costs self.old }
+        ensures depth { length (⟦<Money as Tables<Block>>⟧.costs self.new) ≡ length (⟦<Money as Tables<Block>>⟧.costs self.old) }
+        ensures costs { OnOk result ((c : Chain) → IsApplied c block.now head.now → ArePaid (block.now ∷ c) head.now members.now → ⟦<Money as Tables<Block>>⟧.at self.old c → AtMostMore (8 * length (money_records c block.now) + 8) (⟦<Money as Tables<Block>>⟧.costs self.old) (⟦<Money as Tables<Block>>⟧.costs self.new)) }
+        ensures steps { OnOk result ((c : Chain) → IsApplied c block.now head.now → ArePaid (block.now ∷ c) head.now members.now → ⟦<Money as Tables<Block>>⟧.at self.old c → steps.new ≤ steps.old + (8 * length (money_records c block.now) + 8)) }
+        ensures refused { OnErr result (out.new.items ≡ out.old.items) }
+    {
+        let hashes = all_tx_hashes(alloc, block)?;
+        self.apply_hashed(
+            alloc,
+            block,
+            head,
+            members,
+            hashes.as_slice(),
+            out,
+            steps,
+        )?;
+        Ok(())
+    }
+
+    /// As `apply`, where the hashes of the block's transactions are at hand: `hashes`, in their order.
+    pub fn apply_hashed<L: StepBook>(
         &mut self,
         alloc: Global,
         block: &Block,

@@ -5,12 +5,12 @@
 //! transactions spend and make, one after the other, and dividends are made behind them (`spend_and_make`); then the accounts
 //! that have too little are cleared (`clear_block`), and the index stands for the chain with the block. `Money` holds the sources
 //! with the tables that stand beside them, the hashes of transactions, the totals and the facts, and its `apply` writes a block
-//! into all of them. Every call that is refused keeps what is marked, so that `back` undoes all of it. The chapters on money and
+//! into all of them; `apply_hashed` takes the hashes of its transactions. Every call that is refused keeps what is marked, so that `back` undoes all of it. The chapters on money and
 //! records in `docs/protocol` say the same in words.
 //!
 //! ```text
 //! money.mark()?;
-//! money.apply(alloc, &block, &head, &members, &hashes, &mut records, &mut steps)?;
+//! money.apply_hashed(alloc, &block, &head, &members, &hashes, &mut records, &mut steps)?;
 //! assert!(money.has_transaction(hashes[0].whole));
 //! ```
 #![tactic(auto)]

@@ -32,10 +32,6 @@ module _ (v : Verdicts) (c : Chain) (b : Block) where
   pub twice_break : each_once same_text (hashes_in b) ≡ false → IsFirst (Holds v c b) money_rules (Some X05)
   twice_break twice = hashes_break (λ new. true≢false (sym new.0 ∙ twice))
 
-pub whole_hashes-all : (currency : Text) (txs : List Tx) → whole_hashes (map (hashes_of currency) txs) ≡ map (tx_hash currency) txs
-whole_hashes-all currency [] = refl
-whole_hashes-all currency (tx ∷ txs) = ap (λ l. tx_hash currency tx ∷ l) (whole_hashes-all currency txs)
-
 pub told_some : {X : Type 0} (A : Type 0) (B : X → Type 0) (o : Option X) (x : X) → o ≡ Some x → MatchOption o A B → B x
 told_some A B o x e m = subst (λ p. MatchOption p A B) e m
 

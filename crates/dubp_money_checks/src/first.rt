@@ -14,12 +14,11 @@ ghost use Rattle.dubp_money_checks.specs.Judging.{AreBlocks, money_rules};
 
 use crate::checks::first_behind_hashes;
 use crate::earlier::Earlier;
-use crate::next::next_of;
 use dubp_atoms::NoMemory;
 use dubp_block::Block;
 use dubp_chain::Head;
 use dubp_docs::TxHashes;
-use dubp_left::Next;
+use dubp_left::{Next, next_of};
 use dubp_local::all_tx_hashes;
 use dubp_money::Money;
 use dubp_money_rules::{transactions_are_new, tx_numbers};

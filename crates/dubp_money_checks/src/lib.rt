@@ -14,7 +14,6 @@ mod checks;
 mod earlier;
 mod first;
 mod laws;
-mod next;
 
 pub use first::{first_broken_of_money, money_rules};
 pub use laws::conditions_can_be_read;

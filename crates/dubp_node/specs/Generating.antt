@@ -40,8 +40,8 @@ abbrev pub block_given : Block → Command × List ℕ
 block_given b = (command.Block (length (block_text b)), block_text b)
 
 -- its verdicts in their order, and then its blocks in ascending number
-abbrev pub given_of : Made → List (Command × List ℕ)
-given_of made = map verdict_given made.given ++ map block_given (reverse made.chain)
+abbrev pub commands_of : Made → List (Command × List ℕ)
+commands_of made = map verdict_given made.given ++ map block_given (reverse made.chain)
 
 -- the turn of such a command, for which there is memory
 abbrev pub GivenTurn : State → Command × List ℕ → List ℕ → State → Type 0
@@ -70,7 +70,7 @@ shown_text n start c =
 pub record IsShown (n start : ℕ) (old : State) (text : List ℕ) (new : State) : Type 0 where
   pub made : Made
   pub is : IsMade start n made
-  pub given : IsGivenAll (given_of made) old new
+  pub given : IsGivenAll (commands_of made) old new
   pub text_is : text ≡ shown_text n start new.chain
 
 -- the line that names the block at which the making ends; it does not end for want of memory
@@ -109,7 +109,7 @@ pub record GeneratedPart (n start : ℕ) (old new : Situation) : Type 0 where
 pub record IsGivenSome (n start : ℕ) (old new : State) : Type 0 where
   pub made : Made
   pub is : IsMade start n made
-  pub given : IsGivenFront (given_of made) old new
+  pub given : IsGivenFront (commands_of made) old new
 
 -- memory ran out before anything was written
 pub record GeneratedNone (n start : ℕ) (old new : Situation) : Type 0 where

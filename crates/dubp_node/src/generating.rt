@@ -6,7 +6,7 @@ ghost use Rattle.dubp_gen.specs.Generated.{IsMade};
 ghost use Rattle.dubp_gen.specs.Making.{made_of};
 ghost use Rattle.dubp_node.specs.Run.{at};
 ghost use Rattle.dubp_node.specs.Forms.{GenEnds, GenFaults, IsWritten};
-ghost use Rattle.dubp_node.specs.Generating.{IsGivenAll, IsGivenFront, block_given, given_of, shown_text, verdict_given};
+ghost use Rattle.dubp_node.specs.Generating.{IsGivenAll, IsGivenFront, block_given, commands_of, shown_text, verdict_given};
 
 use crate::node::Node;
 use crate::texts::{asked_for, no_block, no_nonce};
@@ -87,8 +87,8 @@ fn give<T: PeopleAndMoney, L: StepBook>(
 ) -> Result<(), NoMemory>
     requires blocks { AllByRecursion IsBlock (reverse chain.blocks.items) }
     requires short { AllByRecursion IsShort (reverse chain.blocks.items) }
-    ensures all { OnOk result (IsGivenAll (given_of (made_of chain)) node.old node.new) }
-    ensures front { OnErr result (IsGivenFront (given_of (made_of chain)) node.old node.new) }
+    ensures all { OnOk result (IsGivenAll (commands_of (made_of chain)) node.old node.new) }
+    ensures front { OnErr result (IsGivenFront (commands_of (made_of chain)) node.old node.new) }
 {
     let Chain {
         mut blocks,

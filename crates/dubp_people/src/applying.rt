@@ -4,11 +4,12 @@ ghost use Rattle.dubp_chain.specs.Chains.{Chain};
 ghost use Rattle.dubp_steps.specs.Steps.{people_records};
 ghost use Rattle.dubp_people.specs.Applied.{IsApplied};
 
-use crate::next::{next_of, time_before};
+use crate::next::time_before;
 use crate::writing::{write_lines, write_others};
 use dubp_atoms::{NoMemory, Steps};
 use dubp_block::Block;
 use dubp_chain::Head;
+use dubp_left::next_of;
 use dubp_registry::Registry;
 use dubp_undo::Tables;
 use dubp_validity::Record;

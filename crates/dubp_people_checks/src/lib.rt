@@ -1,7 +1,9 @@
 //! The first of the rules on people that a block breaks on a chain.
 //!
 //! The rules stand in `dubp_people_rules`, `dubp_people_after` and `dubp_people_distance`; here they are read in the order of the
-//! table. `Asked` has one function for each of them, of a block that stands to be judged on the chain of a registry. The chapter on rules in `docs/protocol` has the order.
+//! table. `Asked` has one function for each of them, of a block that stands to be judged on the chain of a registry.
+//! `first_broken_of_people` takes the parameters and the time of the chain with the block, `people_rules` its head. The chapter on
+//! rules in `docs/protocol` has the order.
 //!
 //! ```text
 //! match first_broken_of_people(alloc, &registry, &block, &next, &verdicts)? {
@@ -15,4 +17,4 @@ mod asked;
 mod first;
 mod people;
 
-pub use people::first_broken_of_people;
+pub use people::{first_broken_of_people, people_rules};

@@ -1,15 +1,18 @@
-ghost use Rattle.std.specs.Prelude.{IfOk};
+ghost use Rattle.std.specs.Prelude.{◌≡◌, ◌∷◌, IfOk, Some};
 ghost use Rattle.dubp_rules.specs.First.{IsFirst};
 ghost use Rattle.dubp_chain.specs.Chains.{Chain};
+ghost use Rattle.dubp_chain.specs.Heads.{head_of};
 ghost use Rattle.dubp_validity.specs.Rules.{Holds};
 ghost use Rattle.dubp_left.specs.Next.{IsAsked};
+ghost use Rattle.dubp_left.specs.declared.next.Next.{Next as NextValue};
 ghost use Rattle.dubp_people_checks.specs.PeopleRules.{people_rules};
 
 use crate::asked::Asked;
 use crate::first::first_broken;
 use dubp_atoms::NoMemory;
 use dubp_block::Block;
-use dubp_left::Next;
+use dubp_chain::Head;
+use dubp_left::{Next, next_of};
 use dubp_people_after::After;
 use dubp_registry::Registry;
 use dubp_rules::Rule;
@@ -41,5 +44,21 @@ pub fn first_broken_of_people(
         verdicts,
     };
     let found = first_broken(&asked)?;
+    Ok(found)
+}
+
+/// The same, where what holds of the chain with the block is not at hand: `head` is the head of that chain.
+pub fn people_rules(
+    alloc: Global,
+    people: &Registry,
+    head: &Head,
+    block: &Block,
+    verdicts: &Verdicts,
+) -> Result<Option<Rule>, NoMemory>
+    requires { (c : Chain) × ((next : NextValue) × (⟦<Registry as Tables<Block>>⟧.at people.now c × (IsAsked c block.now next × (head_of (block.now ∷ c) ≡ Some head.now)))) }
+    ensures { IfOk result (λ found. (c : Chain) (next : NextValue) → ⟦<Registry as Tables<Block>>⟧.at people.now c → IsAsked c block.now next → head_of (block.now ∷ c) ≡ Some head.now → IsFirst (Holds verdicts.now c block.now) people_rules found) }
+{
+    let next = next_of(people.facts(), block, head);
+    let found = first_broken_of_people(alloc, people, block, &next, verdicts)?;
     Ok(found)
 }

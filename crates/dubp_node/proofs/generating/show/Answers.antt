@@ -1,6 +1,6 @@
 use Rattle.std.proofs.Common.{inl, inr, refl, ap, ◌∙◌}
 use Rattle.dubp_gen.specs.Making.{made_of}
-use Rattle.dubp_node.specs.Generating.{given_of, shown_text}
+use Rattle.dubp_node.specs.Generating.{commands_of, shown_text}
 use Rattle.dubp_node.proofs.Givens.{ends_by, front_whole}
 use Rattle.dubp_node.proofs.generating.show.Goals as goal
 
@@ -13,7 +13,7 @@ returns-in_default-clause-ends g c = λ left. record {
 
 pub returns-in_default-shown-clause-ends : goal.returns-in_default-shown-clause-ends
 returns-in_default-shown-clause-ends g c = λ left. record {
-  state = inr (record { made = made_of c.args.chain; is = c.requires.made; given = front_whole (given_of (made_of c.args.chain)) c.args.node.now c.give.new.node c.in-Ok.ensures.all });
+  state = inr (record { made = made_of c.args.chain; is = c.requires.made; given = front_whole (commands_of (made_of c.args.chain)) c.args.node.now c.give.new.node c.in-Ok.ensures.all });
   left = refl;
   held = refl;
 }

@@ -23,24 +23,24 @@ returns-in_err-members-clause-depth g c =
     two_depth ((people.ghosts).costs c.args.self.now.tables.first) ((people.ghosts).costs c.apply.new.people) ((money.ghosts).costs c.args.self.now.tables.second) ((money.ghosts).costs c.args.self.now.tables.second)
     c.args.self.now.tables.even c.in_ok-apply.ensures.depth refl
 
-pub apply-requires-2-clause-hashes : goal.apply-requires-2-clause-hashes
-apply-requires-2-clause-hashes g c = whole_hashes_are c.args.block.now c.args.hashes.now c.requires.hashes
+pub apply_hashed-requires-clause-hashes : goal.apply_hashed-requires-clause-hashes
+apply_hashed-requires-clause-hashes g c = whole_hashes_are c.args.block.now c.args.hashes.now c.requires.hashes
 
-pub returns-in_err-apply-2-clause-marked : goal.returns-in_err-apply-2-clause-marked
-returns-in_err-apply-2-clause-marked g c = λ chain m. (c.in_ok-apply.ensures.marked chain m.0, c.in_err-apply-2.ensures.marked chain m.1)
+pub returns-in_err-apply_hashed-clause-marked : goal.returns-in_err-apply_hashed-clause-marked
+returns-in_err-apply_hashed-clause-marked g c = λ chain m. (c.in_ok-apply.ensures.marked chain m.0, c.in_err-apply_hashed.ensures.marked chain m.1)
 
-pub returns-in_err-apply-2-clause-depth : goal.returns-in_err-apply-2-clause-depth
-returns-in_err-apply-2-clause-depth g c =
-    two_depth ((people.ghosts).costs c.args.self.now.tables.first) ((people.ghosts).costs c.apply.new.people) ((money.ghosts).costs c.args.self.now.tables.second) ((money.ghosts).costs c.apply-2.new.self)
-    c.args.self.now.tables.even c.in_ok-apply.ensures.depth c.in_err-apply-2.ensures.depth
+pub returns-in_err-apply_hashed-clause-depth : goal.returns-in_err-apply_hashed-clause-depth
+returns-in_err-apply_hashed-clause-depth g c =
+    two_depth ((people.ghosts).costs c.args.self.now.tables.first) ((people.ghosts).costs c.apply.new.people) ((money.ghosts).costs c.args.self.now.tables.second) ((money.ghosts).costs c.apply_hashed.new.self)
+    c.args.self.now.tables.even c.in_ok-apply.ensures.depth c.in_err-apply_hashed.ensures.depth
 
 pub returns-clause-marked : goal.returns-clause-marked
-returns-clause-marked g c = λ chain m. (c.in_ok-apply.ensures.marked chain m.0, c.in_ok-apply-2.ensures.marked chain m.1)
+returns-clause-marked g c = λ chain m. (c.in_ok-apply.ensures.marked chain m.0, c.in_ok-apply_hashed.ensures.marked chain m.1)
 
 pub returns-clause-depth : goal.returns-clause-depth
 returns-clause-depth g c =
-    two_depth ((people.ghosts).costs c.args.self.now.tables.first) ((people.ghosts).costs c.apply.new.people) ((money.ghosts).costs c.args.self.now.tables.second) ((money.ghosts).costs c.apply-2.new.self)
-    c.args.self.now.tables.even c.in_ok-apply.ensures.depth c.in_ok-apply-2.ensures.depth
+    two_depth ((people.ghosts).costs c.args.self.now.tables.first) ((people.ghosts).costs c.apply.new.people) ((money.ghosts).costs c.args.self.now.tables.second) ((money.ghosts).costs c.apply_hashed.new.self)
+    c.args.self.now.tables.even c.in_ok-apply.ensures.depth c.in_ok-apply_hashed.ensures.depth
 
 pub returns-clause-at : goal.returns-clause-at
 returns-clause-at g c = λ chain sound text head at.
@@ -50,7 +50,7 @@ returns-clause-at g c = λ chain sound text head at.
     let second : money_words.IsApplied chain b h = record { sound = sound; block = text; head = head } in
     let people_at = c.in_ok-apply.ensures.at chain first at.0 in
     let paid = are_paid (b ∷ chain) h c.as_slice.result.now (c.as_slice.ensures.value ∙ c.in_ok-members.ensures (b ∷ chain) people_at sound) in
-    (people_at, c.in_ok-apply-2.ensures.at chain second paid at.1)
+    (people_at, c.in_ok-apply_hashed.ensures.at chain second paid at.1)
 
 pub returns-clause-steps : goal.returns-clause-steps
 returns-clause-steps g c = λ chain sound text head at.
@@ -60,7 +60,7 @@ returns-clause-steps g c = λ chain sound text head at.
     let second : money_words.IsApplied chain b h = record { sound = sound; block = text; head = head } in
     let people_at = c.in_ok-apply.ensures.at chain first at.0 in
     let paid = are_paid (b ∷ chain) h c.as_slice.result.now (c.as_slice.ensures.value ∙ c.in_ok-members.ensures (b ∷ chain) people_at sound) in
-    steps_of_both chain b c.args.steps.now c.apply.new.steps c.apply-2.new.steps (c.in_ok-apply.ensures.steps chain first at.0) (c.in_ok-apply-2.ensures.steps chain second paid at.1)
+    steps_of_both chain b c.args.steps.now c.apply.new.steps c.apply_hashed.new.steps (c.in_ok-apply.ensures.steps chain first at.0) (c.in_ok-apply_hashed.ensures.steps chain second paid at.1)
 
 pub returns-clause-left : goal.returns-clause-left
 returns-clause-left g c = λ chain sound text head at.
@@ -72,7 +72,7 @@ returns-clause-left g c = λ chain sound text head at.
     let keys = c.in_ok-members.ensures (b ∷ chain) people_at sound in
     let paid = are_paid (b ∷ chain) h c.as_slice.result.now (c.as_slice.ensures.value ∙ keys) in
     let of_people = c.in_ok-apply.ensures.records chain first at.0 ∙ ap (λ l. l ++ people_records chain b) c.new-of_people.ensures.items in
-    let of_money = c.in_ok-apply-2.ensures.records chain second paid at.1 ∙ ap (λ l. l ++ money_records chain b) c.new-of_money.ensures.items in
+    let of_money = c.in_ok-apply_hashed.ensures.records chain second paid at.1 ∙ ap (λ l. l ++ money_records chain b) c.new-of_money.ensures.items in
     let ended = c.left_of.ensures.ended ∙ ap (filter is_ended) of_people ∙ ended_of_people chain b in
     let members = c.left_of.ensures.paid ∙ keys ∙ paid_by_head chain b h head in
     let cleared = c.left_of.ensures.cleared ∙ ap (filter is_cleared) of_money ∙ cleared_of_money chain b in
@@ -84,11 +84,11 @@ returns-in_err-apply-clause-waits g c = λ o i w. (c.in_err-apply.ensures.waits 
 pub returns-in_err-members-clause-waits : goal.returns-in_err-members-clause-waits
 returns-in_err-members-clause-waits g c = λ o i w. (c.in_ok-apply.ensures.waits o i w.0, w.1)
 
-pub returns-in_err-apply-2-clause-waits : goal.returns-in_err-apply-2-clause-waits
-returns-in_err-apply-2-clause-waits g c = λ o i w. (c.in_ok-apply.ensures.waits o i w.0, c.in_err-apply-2.ensures.waits o i w.1)
+pub returns-in_err-apply_hashed-clause-waits : goal.returns-in_err-apply_hashed-clause-waits
+returns-in_err-apply_hashed-clause-waits g c = λ o i w. (c.in_ok-apply.ensures.waits o i w.0, c.in_err-apply_hashed.ensures.waits o i w.1)
 
 pub returns-clause-waits : goal.returns-clause-waits
-returns-clause-waits g c = λ o i w. (c.in_ok-apply.ensures.waits o i w.0, c.in_ok-apply-2.ensures.waits o i w.1)
+returns-clause-waits g c = λ o i w. (c.in_ok-apply.ensures.waits o i w.0, c.in_ok-apply_hashed.ensures.waits o i w.1)
 
 pub returns-in_err-apply-clause-ahead : goal.returns-in_err-apply-clause-ahead
 returns-in_err-apply-clause-ahead g c = (λ j. plus (c.in_err-apply.ensures.ahead j) ((money.ghosts).ahead_costs c.args.self.now.tables.second))
@@ -96,8 +96,8 @@ returns-in_err-apply-clause-ahead g c = (λ j. plus (c.in_err-apply.ensures.ahea
 pub returns-in_err-members-clause-ahead : goal.returns-in_err-members-clause-ahead
 returns-in_err-members-clause-ahead g c = (λ j. plus (c.in_ok-apply.ensures.ahead j) ((money.ghosts).ahead_costs c.args.self.now.tables.second))
 
-pub returns-in_err-apply-2-clause-ahead : goal.returns-in_err-apply-2-clause-ahead
-returns-in_err-apply-2-clause-ahead g c = (λ j. plus (c.in_ok-apply.ensures.ahead j) (c.in_err-apply-2.ensures.ahead j))
+pub returns-in_err-apply_hashed-clause-ahead : goal.returns-in_err-apply_hashed-clause-ahead
+returns-in_err-apply_hashed-clause-ahead g c = (λ j. plus (c.in_ok-apply.ensures.ahead j) (c.in_err-apply_hashed.ensures.ahead j))
 
 pub returns-clause-ahead : goal.returns-clause-ahead
-returns-clause-ahead g c = (λ j. plus (c.in_ok-apply.ensures.ahead j) (c.in_ok-apply-2.ensures.ahead j))
+returns-clause-ahead g c = (λ j. plus (c.in_ok-apply.ensures.ahead j) (c.in_ok-apply_hashed.ensures.ahead j))
