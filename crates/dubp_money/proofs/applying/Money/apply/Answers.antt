@@ -1,9 +1,0 @@
-use Rattle.std.proofs.Common.{map, ap, ◌∙◌}
-use Rattle.dubp_docs.specs.declared.hashing.TxHashes.{TxHashes}
-use Rattle.dubp_money.proofs.Hashes.{whole_hashes-all}
-use Rattle.dubp_money.proofs.applying.Money.apply.Goals as goal
-
-pub apply_hashed-requires-clause-hashes : goal.apply_hashed-requires-clause-hashes
-apply_hashed-requires-clause-hashes g c =
-    let block = c.args.block.now in
-    ap (map (λ (h : TxHashes). h.whole)) (c.as_slice.ensures.value ∙ c.in_ok-hashes.ensures) ∙ whole_hashes-all block.currency block.transactions
