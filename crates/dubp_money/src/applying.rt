@@ -58,15 +58,7 @@ impl Money {
         ensures refused { OnErr result (out.new.items ≡ out.old.items) }
     {
         let hashes = all_tx_hashes(alloc, block)?;
-        self.apply_hashed(
-            alloc,
-            block,
-            head,
-            members,
-            hashes.as_slice(),
-            out,
-            steps,
-        )?;
+        self.apply_hashed(alloc, block, head, members, hashes.as_slice(), out, steps)?;
         Ok(())
     }
 
