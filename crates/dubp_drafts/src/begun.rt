@@ -5,7 +5,6 @@ ghost use Rattle.dubp_drafts.specs.Begun.{before_nonce, HasBegun};
 ghost use Rattle.dubp_drafts.specs.Sealing.{hash_with};
 
 use crate::signing::put_as_signature;
-use arrayvec::ArrayVec;
 use dubp_atoms::{Hash, Hashing, Line, TextSink, put_bytes, put_number};
 use dubp_block::Block;
 
@@ -29,16 +28,16 @@ impl Begun {
         }
     }
 
-    // The hash of the block with this nonce and the signature by its issuer.
-    pub(crate) fn hash_with(&self, nonce: u64) -> Hash
+    // The hash of the block with this nonce and the signature by its issuer. What the text held is lost.
+    pub(crate) fn hash_with(&self, nonce: u64, text: &mut Line) -> Hash
         ensures { (b : BlockValue) → HasBegun ⟦<Hashing as TextSink>⟧.has self.now b → result ≡ hash_with b nonce }
     {
-        let mut text: Line = ArrayVec::new();
-        put_number(nonce as u128, &mut text);
-        put_bytes(&mut text, b"\n");
+        text.clear();
+        put_number(nonce as u128, text);
+        put_bytes(text, b"\n");
         let signature_hash = hash_behind(&self.signing, text.as_slice());
-        put_as_signature(&signature_hash, &mut text);
-        put_bytes(&mut text, b"\n");
+        put_as_signature(&signature_hash, text);
+        put_bytes(text, b"\n");
         hash_behind(&self.hashing, text.as_slice())
     }
 }

@@ -75,8 +75,10 @@ fn least_nonce(block: &Block, difficulty: u128) -> Option<u64>
     ensures none { IfNone result ((n : ℕ) → n ≤ 999999 → MeetsWith block.now n difficulty → ⊥) }
 {
     let begun = Begun::of(block);
+    // one text for all nonces, since a new one is cleared whole
+    let mut text: Line = ArrayVec::new();
     for nonce in 0..NONCES {
-        if meets(&begun.hash_with(nonce), difficulty) {
+        if meets(&begun.hash_with(nonce, &mut text), difficulty) {
             return Some(nonce);
         }
     }
