@@ -2,6 +2,7 @@ use dubp_atoms::NoMemory;
 use dubp_cond::read_cond;
 use dubp_sindex::SIndex;
 use std::alloc::Global;
+use std::mem::forget;
 
 const SIGNED: &[u8] = b"SIG(4tsFXtKofD6jK8zwLymgXWAoMBzhFx7KNANhtK86mKzA)";
 
@@ -33,17 +34,18 @@ fn text_is_told(index: &SIndex) -> bool {
 }
 
 // Two texts get the next numbers, and the first keeps its own.
-fn numbers_two(alloc: Global) -> Result<bool, NoMemory> {
-    let mut index = SIndex::new(alloc);
-    let signed = number(&mut index, alloc, SIGNED)?;
-    let delayed = number(&mut index, alloc, DELAYED)?;
-    let kept = number(&mut index, alloc, SIGNED)?;
+fn numbers_two(index: &mut SIndex, alloc: Global) -> Result<bool, NoMemory> {
+    let signed = number(index, alloc, SIGNED)?;
+    let delayed = number(index, alloc, DELAYED)?;
+    let kept = number(index, alloc, SIGNED)?;
     let numbers = signed == Some(0) && delayed == Some(1) && kept == Some(0);
-    Ok(numbers && texts_are_found(&index) && text_is_told(&index))
+    Ok(numbers && texts_are_found(index) && text_is_told(index))
 }
 
 #[test]
 fn a_text_keeps_its_number(rt: HostRuntime) {
-    let good = numbers_two(rt.alloc());
+    let mut index = SIndex::new(rt.alloc());
+    let good = numbers_two(&mut index, rt.alloc());
+    forget(index);
     assert!(rt; good == Ok(true));
 }

@@ -5,6 +5,7 @@ use dubp_cindex::{CIndex, CertRow, IssuerRow};
 use dubp_undo::Tables;
 use std::alloc::Global;
 use std::marker::Brand;
+use std::mem::forget;
 use std::sync::ledger::{Blank, Ledger as StepBook};
 
 // Three people, in the order of their keys.
@@ -146,21 +147,21 @@ fn is_empty(index: &CIndex, people: &People) -> bool {
 
 // Three certifications are written, one ends, and the index goes back over both.
 fn goes_through<L: StepBook>(
+    index: &mut CIndex,
     alloc: Global,
     people: &People,
     steps: &mut Steps<L>,
 ) -> Result<bool, NoMemory> {
-    let mut index = CIndex::new(alloc);
-    mark(&mut index)?;
-    certify(&mut index, people, steps)?;
-    let written = all_live(&index, people) && rows_are_listed(&index, alloc, people)?;
-    mark(&mut index)?;
-    put(&mut index, people.cleo, people.bert, ENDED, steps)?;
-    let ended = one_has_ended(&index, people);
-    back(&mut index, steps);
-    let lives_again = all_live(&index, people);
-    back(&mut index, steps);
-    Ok(written && ended && lives_again && is_empty(&index, people))
+    mark(index)?;
+    certify(index, people, steps)?;
+    let written = all_live(index, people) && rows_are_listed(index, alloc, people)?;
+    mark(index)?;
+    put(index, people.cleo, people.bert, ENDED, steps)?;
+    let ended = one_has_ended(index, people);
+    back(index, steps);
+    let lives_again = all_live(index, people);
+    back(index, steps);
+    Ok(written && ended && lives_again && is_empty(index, people))
 }
 
 fn counts_steps<L: StepBook>(alloc: Global, blank: Blank, people: &People) -> Result<bool, NoMemory>
@@ -169,7 +170,10 @@ fn counts_steps<L: StepBook>(alloc: Global, blank: Blank, people: &People) -> Re
     requires some { 0 < blank.parts }
 {
     let mut steps = Steps::<L>::open(blank);
-    goes_through(alloc, people, &mut steps)
+    let mut index = CIndex::new(alloc);
+    let good = goes_through(&mut index, alloc, people, &mut steps);
+    forget(index);
+    good
 }
 
 #[test]

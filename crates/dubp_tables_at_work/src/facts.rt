@@ -7,6 +7,7 @@ use dubp_facts::{BlockTime, Facts};
 use dubp_undo::Tables;
 use std::alloc::Global;
 use std::marker::Brand;
+use std::mem::forget;
 use std::sync::ledger::{Blank, Ledger as StepBook};
 
 // A block of number 0.
@@ -149,18 +150,17 @@ fn time_is_told(facts: &Facts, block: &Block, head: &Head) -> bool {
 
 // The block is written and taken back.
 fn goes_through<L: StepBook>(
-    alloc: Global,
+    facts: &mut Facts,
     block: &Block,
     head: &Head,
     steps: &mut Steps<L>,
 ) -> Result<bool, NoMemory> {
-    let mut facts = Facts::new(alloc);
-    let before = nothing_is_told(&facts, block);
-    mark(&mut facts)?;
-    write(&mut facts, block, head, steps)?;
-    let told = first_is_told(&facts, block) && time_is_told(&facts, block, head);
-    back(&mut facts, steps);
-    Ok(before && told && nothing_is_told(&facts, block))
+    let before = nothing_is_told(facts, block);
+    mark(facts)?;
+    write(facts, block, head, steps)?;
+    let told = first_is_told(facts, block) && time_is_told(facts, block, head);
+    back(facts, steps);
+    Ok(before && told && nothing_is_told(facts, block))
 }
 
 fn counts_steps<L: StepBook>(
@@ -174,7 +174,10 @@ fn counts_steps<L: StepBook>(
     requires some { 0 < blank.parts }
 {
     let mut steps = Steps::<L>::open(blank);
-    goes_through(alloc, block, head, &mut steps)
+    let mut facts = Facts::new(alloc);
+    let good = goes_through(&mut facts, block, head, &mut steps);
+    forget(facts);
+    good
 }
 
 fn reads_block<L: StepBook>(

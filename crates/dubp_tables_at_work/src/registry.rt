@@ -6,6 +6,7 @@ use dubp_registry::Registry;
 use dubp_undo::Tables;
 use std::alloc::Global;
 use std::marker::Brand;
+use std::mem::forget;
 use std::sync::ledger::{Blank, Ledger as StepBook};
 
 fn nobody_is_known(registry: &Registry, key: Key) -> bool {
@@ -66,16 +67,15 @@ fn back<L: StepBook>(registry: &mut Registry, steps: &mut Steps<L>) {
 
 // All tables are marked and go back as one.
 fn goes_through<L: StepBook>(
-    alloc: Global,
+    registry: &mut Registry,
     key: Key,
     steps: &mut Steps<L>,
 ) -> Result<bool, NoMemory> {
-    let mut registry = Registry::new(alloc);
-    let empty = is_empty(&registry, key);
-    mark(&mut registry)?;
+    let empty = is_empty(registry, key);
+    mark(registry)?;
     let marked = registry.depth() == 1;
-    back(&mut registry, steps);
-    Ok(empty && marked && registry.depth() == 0 && is_empty(&registry, key))
+    back(registry, steps);
+    Ok(empty && marked && registry.depth() == 0 && is_empty(registry, key))
 }
 
 fn counts_steps<L: StepBook>(alloc: Global, blank: Blank, key: Key) -> Result<bool, NoMemory>
@@ -84,7 +84,10 @@ fn counts_steps<L: StepBook>(alloc: Global, blank: Blank, key: Key) -> Result<bo
     requires some { 0 < blank.parts }
 {
     let mut steps = Steps::<L>::open(blank);
-    goes_through(alloc, key, &mut steps)
+    let mut registry = Registry::new(alloc);
+    let good = goes_through(&mut registry, key, &mut steps);
+    forget(registry);
+    good
 }
 
 #[test]

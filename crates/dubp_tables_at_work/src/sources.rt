@@ -6,6 +6,7 @@ use dubp_sindex::{SIndex, SourceRow};
 use dubp_undo::Tables;
 use std::alloc::Global;
 use std::marker::Brand;
+use std::mem::forget;
 use std::sync::ledger::{Blank, Ledger as StepBook};
 
 // 10 units of 10^1, of the account 0.
@@ -120,22 +121,22 @@ fn is_empty(index: &SIndex, made: &Made) -> bool {
 
 // Two sources are made, one is spent, and the index goes back over both.
 fn goes_through<L: StepBook>(
+    index: &mut SIndex,
     alloc: Global,
     made: &Made,
     steps: &mut Steps<L>,
 ) -> Result<bool, NoMemory> {
-    let mut index = SIndex::new(alloc);
-    mark(&mut index)?;
-    make_both(&mut index, made, steps)?;
-    let listed = sources_are_listed(&index, alloc, made)?;
-    let there = are_unspent(&index, made) && balances_are_walked(&index);
-    mark(&mut index)?;
-    spend(&mut index, made.output, steps)?;
-    let spent = output_is_spent(&index, made);
-    back(&mut index, steps);
-    let there_again = are_unspent(&index, made) && balances_are_walked(&index);
-    back(&mut index, steps);
-    Ok(listed && there && spent && there_again && is_empty(&index, made))
+    mark(index)?;
+    make_both(index, made, steps)?;
+    let listed = sources_are_listed(index, alloc, made)?;
+    let there = are_unspent(index, made) && balances_are_walked(index);
+    mark(index)?;
+    spend(index, made.output, steps)?;
+    let spent = output_is_spent(index, made);
+    back(index, steps);
+    let there_again = are_unspent(index, made) && balances_are_walked(index);
+    back(index, steps);
+    Ok(listed && there && spent && there_again && is_empty(index, made))
 }
 
 fn counts_steps<L: StepBook>(alloc: Global, blank: Blank, made: &Made) -> Result<bool, NoMemory>
@@ -144,7 +145,10 @@ fn counts_steps<L: StepBook>(alloc: Global, blank: Blank, made: &Made) -> Result
     requires some { 0 < blank.parts }
 {
     let mut steps = Steps::<L>::open(blank);
-    goes_through(alloc, made, &mut steps)
+    let mut index = SIndex::new(alloc);
+    let good = goes_through(&mut index, alloc, made, &mut steps);
+    forget(index);
+    good
 }
 
 #[test]
