@@ -16,7 +16,10 @@ five a b c d e =
 pub records_are : (c : Chain) (b : Block) → records c b ≡ people_records c b ++ money_records c b
 records_are c b = five (line_records c b) (expiry_records c b) (revocation_records c b) (ended_records c b) (money_records c b)
 
-pub steps_of_both : (c : Chain) (b : Block) (first middle last : ℕ) → middle ≤ first + (8 * length (people_records c b) + 8) → last ≤ middle + (8 * length (money_records c b) + 8) → last ≤ first + most_steps c b
-steps_of_both c b first middle last one two =
+pub most_of_both : (c : Chain) (b : Block) → (8 * length (people_records c b) + 8) + (8 * length (money_records c b) + 8) ≡ most_steps c b
+most_of_both c b =
     let count : length (records c b) ≡ length (people_records c b) + length (money_records c b) = ap length (records_are c b) ∙ length-append (people_records c b) (money_records c b) in
-    omega (arith, one, two, count)
+    omega (arith, count)
+
+pub steps_of_both : (c : Chain) (b : Block) (first middle last : ℕ) → middle ≤ first + (8 * length (people_records c b) + 8) → last ≤ middle + (8 * length (money_records c b) + 8) → last ≤ first + most_steps c b
+steps_of_both c b first middle last one two = omega (arith, one, two, most_of_both c b)

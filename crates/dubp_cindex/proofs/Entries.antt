@@ -1,6 +1,6 @@
 -- The entries of the rows: what stands among them is what the rows have at its pair, and those of one key rise by the other.
-use Rattle.std.proofs.Common.{◌≡◌, Bool, true, false, cond, ◌&&◌, List, [], ◌∷◌, Option, Some, None, refl, ap, sym, ◌∙◌, subst, true≢false, inl, inr}
-use Rattle.std.specs.Prelude.{T, ⊤, ◌⊎◌}
+use Rattle.std.proofs.Common.{◌≡◌, Bool, true, false, cond, ◌&&◌, List, [], ◌∷◌, Some, refl, ap, sym, ◌∙◌, true≢false, inl, inr}
+use Rattle.std.specs.Prelude.{T, ◌⊎◌}
 use Rattle.std.specs.List.{AllByRecursion}
 use Rattle.std.specs.Ordering.{is_lt, is_eq, ordering_then}
 use Rattle.std.specs.declared.cmp.Ordering.{Ordering}
@@ -9,11 +9,11 @@ use Rattle.std.specs.FinMap.{entries, entries_sorted, get, find, is_sorted, get-
 use Rattle.std.specs.FinMap.Entries.{below_all}
 use Rattle.std.proofs.lemmas.Cmp.{tied_itself}
 use Rattle.std.proofs.lemmas.Option.{none-some, same_Some}
-use Rattle.dubp_atoms.specs.Same.{Text, same_text}
+use Rattle.dubp_atoms.specs.Same.{Text}
 use Rattle.dubp_cindex.specs.declared.row.CertRow.{CertRow}
 use Rattle.dubp_cindex.specs.Orders.{text_cmp, pair_cmp}
-use Rattle.dubp_cindex.specs.Rows.{Rows, Entry, live_to, live_from, is_from, lives}
-use Rattle.dubp_cindex.proofs.Texts.{is_equal, is_less, pair_total, pair_exact, same_text_is, same_text_own, text_exact, text_itself, then_own}
+use Rattle.dubp_cindex.specs.Rows.{Rows, Entry, live_to, live_from}
+use Rattle.dubp_cindex.proofs.Texts.{is_equal, is_less, pair_total, pair_exact, same_text_is, text_itself}
 use Rattle.dubp_cindex.proofs.Walked.{IsIn, Climbs}
 
 truth : (b : Bool) → T b → b ≡ true

@@ -1,5 +1,5 @@
 -- How many keys were set since the last kept state, in a table, and in tables side by side.
-use Rattle.std.proofs.Common.{◌≡◌, ℕ, suc, ◌+◌, List, [], ◌∷◌, length, refl, ap, sym, ◌∙◌, arith}
+use Rattle.std.proofs.Common.{◌≡◌, ℕ, ◌+◌, List, [], ◌∷◌, length, refl, ap, sym, ◌∙◌, arith}
 use Rattle.dubp_undo.specs.Numbers.{plus, add_last}
 use Rattle.dubp_undo.proofs.Numbers.{plus-add_last, length-plus}
 
@@ -7,16 +7,6 @@ pub add_last-none : (ns : List ℕ) → ns ≡ add_last 0 ns
 add_last-none [] = refl
 add_last-none (m ∷ []) = ap (λ x. x ∷ []) (omega arith)
 add_last-none (l ∷ m ∷ ns) = ap (λ x. l ∷ x) (add_last-none (m ∷ ns))
-
--- tables side by side keep as many states as before where each does
-pub length_beside : (xs xs' ys ys' : List ℕ) → length xs' ≡ length xs → length ys' ≡ length ys → length (plus xs' ys') ≡ length (plus xs ys)
-length_beside [] [] ys ys' e f = refl
-length_beside [] (x' ∷ xs') ys ys' e f = absurd (omega (arith, e))
-length_beside (x ∷ xs) [] ys ys' e f = absurd (omega (arith, e))
-length_beside (x ∷ xs) (x' ∷ xs') [] [] e f = refl
-length_beside (x ∷ xs) (x' ∷ xs') [] (y' ∷ ys') e f = absurd (omega (arith, f))
-length_beside (x ∷ xs) (x' ∷ xs') (y ∷ ys) [] e f = absurd (omega (arith, f))
-length_beside (x ∷ xs) (x' ∷ xs') (y ∷ ys) (y' ∷ ys') e f = ap suc (length_beside xs xs' ys ys' (omega (arith, e)) (omega (arith, f)))
 
 -- three side by side
 pub three_more : (a b c : ℕ) (xs ys zs : List ℕ) → length xs ≡ length ys → length ys ≡ length zs → plus (add_last a xs) (plus (add_last b ys) (add_last c zs)) ≡ add_last (a + (b + c)) (plus xs (plus ys zs))

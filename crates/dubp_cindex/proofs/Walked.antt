@@ -1,6 +1,6 @@
 -- A walk over one owner's pairs by the next above the last, and the list that it goes through: those of the rows up to the last.
-use Rattle.std.proofs.Common.{◌≡◌, Bool, true, false, not, cond, ◌&&◌, List, [], ◌∷◌, ◌++◌, Option, Some, None, map, filter, refl, ap, sym, ◌∙◌, subst, true≢false, inl, inr}
-use Rattle.std.specs.Prelude.{IsSome, is_some, ⊤, ◌⊎◌}
+use Rattle.std.proofs.Common.{◌≡◌, Bool, true, false, not, cond, ◌&&◌, List, [], ◌∷◌, ◌++◌, Option, Some, None, filter, refl, ap, sym, ◌∙◌, subst, true≢false, inl, inr}
+use Rattle.std.specs.Prelude.{is_some, ⊤, ◌⊎◌}
 use Rattle.std.specs.Cmp.Lexicographic.{nat_list_cmp_total}
 use Rattle.std.specs.List.{AllByRecursion}
 use Rattle.std.specs.Ordering.{is_lt, ordering_reverse}

@@ -1,5 +1,5 @@
 -- The code of the rows: that of a list of entries. Nothing rests on it but that rows can be told apart.
-use Rattle.std.specs.Prelude.{ℕ, Bool, List, refl}
+use Rattle.std.specs.Prelude.{ℕ, Bool, refl}
 use Rattle.std.specs.Coded.{Coded, code_by, coded×, coded_ℕ, coded_bool, coded_list}
 use Rattle.std.specs.FinMap as map
 use Rattle.dubp_cindex.specs.declared.row.CertRow.{CertRow}

@@ -1,5 +1,5 @@
 -- The next entry of one owner in a table of pairs.
-use Rattle.std.specs.Prelude.{◌≡◌, Bool, true, false, List, Option, Some, None, MatchOption, IsSome}
+use Rattle.std.specs.Prelude.{◌≡◌, true, false, List, Option, Some, None, MatchOption, IsSome}
 use Rattle.dubp_atoms.specs.Same.{Text}
 use Rattle.dubp_undo.specs.MovingTable.{get}
 use Rattle.dubp_cindex.specs.Orders.{Place, place_cmp, less, is_above}

@@ -1,5 +1,5 @@
 -- What becomes of each table where a row is put, and the greatest block of an issuer's rows but one. Protocol: certifications, tables.
-use Rattle.std.specs.Prelude.{◌≡◌, ℕ, ◌≤◌, List, Option, Some, IfSome, IsSomeAnd, ◌⊎◌}
+use Rattle.std.specs.Prelude.{◌≡◌, ℕ, ◌≤◌, Option, IfSome, IsSomeAnd, ◌⊎◌}
 use Rattle.std.specs.FinMap.{get, insert}
 use Rattle.dubp_atoms.specs.Same.{Text}
 use Rattle.dubp_cindex.specs.declared.row.CertRow.{CertRow}

@@ -1,6 +1,6 @@
-ghost use Rattle.std.specs.Prelude.{◌≡◌, ◌+◌, ◌≤◌, List, length, OnOk, OnErr, IsOk};
+ghost use Rattle.std.specs.Prelude.{◌≡◌, ◌+◌, ◌≤◌, List, OnOk, OnErr, IsOk};
 ghost use Rattle.dubp_undo.specs.Definition.{IsMarked, SameMaps};
-ghost use Rattle.dubp_undo.specs.Numbers.{counts, add_last};
+ghost use Rattle.dubp_undo.specs.Numbers.{counts, add_last, settled};
 ghost use Rattle.dubp_cindex.specs.Changes.{Makes, IsReady, sets_of};
 
 use dubp_atoms::{NoMemory, Steps};
@@ -44,7 +44,7 @@ pub fn make<L: StepBook, B, K: Ord + Copy, V: Copy + Eq, D: Definition<B, K, V>>
     ensures now { OnOk result (Makes K.cmp table.old.now table.new.now k change.now) }
     ensures costs { OnOk result (counts table.new.past ≡ add_last (sets_of change.now) (counts table.old.past)) }
     ensures step { OnOk result (steps.new ≡ steps.old + sets_of change.now) }
-    ensures depth { length (counts table.new.past) ≡ length (counts table.old.past) }
+    ensures costs_stay { settled (counts table.new.past) ≡ settled (counts table.old.past) }
     ensures marked { (c : List B) → IsMarked K.cmp D.at table.old.past c → IsMarked K.cmp D.at table.new.past c }
     ensures ahead { table.new.ahead ≡ table.old.ahead }
     ensures root { table.new.root ≡ table.old.root }

@@ -1,6 +1,6 @@
-ghost use Rattle.std.specs.Prelude.{◌≡◌, ◌+◌, ℕ, List, length, OnOk, OnErr, IsOk};
+ghost use Rattle.std.specs.Prelude.{◌≡◌, ◌+◌, ℕ, List, OnOk, OnErr, IsOk};
 ghost use Rattle.dubp_undo.specs.Definition.{SameMaps};
-ghost use Rattle.dubp_undo.specs.Numbers.{add_last};
+ghost use Rattle.dubp_undo.specs.Numbers.{add_last, settled};
 ghost use Rattle.dubp_cindex.specs.Changes.{Makes, IsReady, sets_of};
 ghost use Rattle.dubp_cindex.specs.Orders.{text_cmp, place_cmp};
 ghost use Rattle.dubp_cindex.specs.Rows.{Rows, rows_along, received_by_along, received_along, issued_by_along, issuers_along};
@@ -99,7 +99,7 @@ pub fn make_side<
     ensures second { OnOk result (Makes text_cmp side.old.second.now side.new.second.now key.now value.now) }
     ensures costs { OnOk result (⟦<Side<V, D, E> as Tables<CertRows>>⟧.costs side.new ≡ add_last (sets_of pair.now + sets_of value.now) (⟦<Side<V, D, E> as Tables<CertRows>>⟧.costs side.old)) }
     ensures steps { OnOk result (steps.new ≡ steps.old + (sets_of pair.now + sets_of value.now)) }
-    ensures depth { length (⟦<Side<V, D, E> as Tables<CertRows>>⟧.costs side.new) ≡ length (⟦<Side<V, D, E> as Tables<CertRows>>⟧.costs side.old) }
+    ensures costs_stay { settled (⟦<Side<V, D, E> as Tables<CertRows>>⟧.costs side.new) ≡ settled (⟦<Side<V, D, E> as Tables<CertRows>>⟧.costs side.old) }
     ensures ahead { ⟦<Side<V, D, E> as Tables<CertRows>>⟧.ahead_costs side.new ≡ ⟦<Side<V, D, E> as Tables<CertRows>>⟧.ahead_costs side.old }
     ensures marked { (s : List Rows) → ⟦<Side<V, D, E> as Tables<CertRows>>⟧.marked side.old s → ⟦<Side<V, D, E> as Tables<CertRows>>⟧.marked side.new s }
     ensures waits { (o : List Rows) (i : ℕ) → ⟦<Side<V, D, E> as Tables<CertRows>>⟧.waits side.old o i → ⟦<Side<V, D, E> as Tables<CertRows>>⟧.waits side.new o i }

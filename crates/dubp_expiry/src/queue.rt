@@ -1,5 +1,6 @@
-ghost use Rattle.std.specs.Prelude.{◌≡◌, ℕ, ◌+◌, ◌≤◌, ◌∷◌, List, [], length, OnOk, OnErr, IfSome, IfNone, false, ⊤};
+ghost use Rattle.std.specs.Prelude.{◌≡◌, ℕ, ◌+◌, ◌≤◌, ◌∷◌, List, [], OnOk, OnErr, IfSome, IfNone, false, ⊤};
 ghost use Rattle.std.specs.FinMap.{contains_key, insert, remove};
+ghost use Rattle.dubp_undo.specs.Numbers.{settled};
 ghost use Rattle.dubp_undo.specs.States.{AtMostMore};
 ghost use Rattle.dubp_expiry.specs.Entries.{Queued, queued, Has, IsBehind, IsNextDue, NoneIsDue, entry_at, until_now, how_many};
 
@@ -180,7 +181,7 @@ impl Queue {
         ensures marked { (s : List Queued) → ⟦<Queue as Tables<Entries>>⟧.marked self.old s → ⟦<Queue as Tables<Entries>>⟧.marked self.new s }
         ensures waits { (o : List Queued) (i : ℕ) → ⟦<Queue as Tables<Entries>>⟧.waits self.old o i → ⟦<Queue as Tables<Entries>>⟧.waits self.new o i }
         ensures ahead { ⟦<Queue as Tables<Entries>>⟧.ahead_costs self.new ≡ ⟦<Queue as Tables<Entries>>⟧.ahead_costs self.old }
-        ensures depth { length (⟦<Queue as Tables<Entries>>⟧.costs self.new) ≡ length (⟦<Queue as Tables<Entries>>⟧.costs self.old) }
+        ensures costs_stay { settled (⟦<Queue as Tables<Entries>>⟧.costs self.new) ≡ settled (⟦<Queue as Tables<Entries>>⟧.costs self.old) }
         ensures costs { OnOk result (AtMostMore 1 (⟦<Queue as Tables<Entries>>⟧.costs self.old) (⟦<Queue as Tables<Entries>>⟧.costs self.new)) }
         ensures steps { OnOk result (steps.new ≤ steps.old + 1) }
 
@@ -210,7 +211,7 @@ impl Queue {
         ensures marked { (s : List Queued) → ⟦<Queue as Tables<Entries>>⟧.marked self.old s → ⟦<Queue as Tables<Entries>>⟧.marked self.new s }
         ensures waits { (o : List Queued) (i : ℕ) → ⟦<Queue as Tables<Entries>>⟧.waits self.old o i → ⟦<Queue as Tables<Entries>>⟧.waits self.new o i }
         ensures ahead { ⟦<Queue as Tables<Entries>>⟧.ahead_costs self.new ≡ ⟦<Queue as Tables<Entries>>⟧.ahead_costs self.old }
-        ensures depth { length (⟦<Queue as Tables<Entries>>⟧.costs self.new) ≡ length (⟦<Queue as Tables<Entries>>⟧.costs self.old) }
+        ensures costs_stay { settled (⟦<Queue as Tables<Entries>>⟧.costs self.new) ≡ settled (⟦<Queue as Tables<Entries>>⟧.costs self.old) }
         ensures costs { OnOk result (AtMostMore 1 (⟦<Queue as Tables<Entries>>⟧.costs self.old) (⟦<Queue as Tables<Entries>>⟧.costs self.new)) }
         ensures steps { OnOk result (steps.new ≤ steps.old + 1) }
 

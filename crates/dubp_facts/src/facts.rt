@@ -1,7 +1,7 @@
-ghost use Rattle.std.specs.Prelude.{◌≡◌, ◌↔◌, IsTrue, ℕ, ◌≤◌, ◌+◌, List, [], ◌∷◌, length, IsOk, OnOk, OnErr, option_map};
+ghost use Rattle.std.specs.Prelude.{◌≡◌, ◌↔◌, IsTrue, ℕ, ◌≤◌, ◌+◌, List, [], ◌∷◌, IsOk, OnOk, OnErr, option_map};
 ghost use Rattle.dubp_undo.specs.Definition.{IsMarked, SameMaps};
 ghost use Rattle.dubp_undo.specs.MovingTable.{get, IsPlaced};
-ghost use Rattle.dubp_undo.specs.Numbers.{counts};
+ghost use Rattle.dubp_undo.specs.Numbers.{counts, settled};
 ghost use Rattle.dubp_block.specs.declared.block.Block.{Block as BlockValue};
 ghost use Rattle.dubp_chain.specs.Chains.{Chain};
 ghost use Rattle.dubp_chain.specs.Made.{made, certification_made, certification_stamp};
@@ -212,7 +212,7 @@ fn write_first<L: StepBook>(
 ) -> Result<(), NoMemory>
     ensures now { OnOk result ((k : Unit {0}) → get one first.new.now k ≡ first_after block.now (get one first.old.now k)) }
     ensures costs { OnOk result (AtMostMore 1 (counts first.old.past) (counts first.new.past)) }
-    ensures depth { length (counts first.new.past) ≡ length (counts first.old.past) }
+    ensures costs_stay { settled (counts first.new.past) ≡ settled (counts first.old.past) }
     ensures marked { (c : Chain) → IsMarked one first_at first.old.past c → IsMarked one first_at first.new.past c }
     ensures ahead { first.new.ahead ≡ first.old.ahead }
     ensures root { first.new.root ≡ first.old.root }

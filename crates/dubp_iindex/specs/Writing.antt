@@ -1,11 +1,11 @@
 -- What the tables get where a row is put, and how many keys are set. Protocol: tables.
-use Rattle.std.specs.Prelude.{◌≡◌, ℕ, ◌+◌, ◌-◌, ◌≤◌, ◌&&◌, Bool, true, false, not, cond, List, length, Option, None, Some, is_some, is_none, unwrap_or, if◌then◌else◌}
+use Rattle.std.specs.Prelude.{◌≡◌, ℕ, ◌+◌, ◌-◌, ◌≤◌, ◌&&◌, Bool, true, false, not, cond, List, Option, None, Some, is_some, is_none, unwrap_or, if◌then◌else◌}
 use Rattle.std.specs.Option.{option_map_or, IfSome}
 use Rattle.std.specs.declared.cmp.Ordering.{Ordering}
 use Rattle.dubp_atoms.specs.Same.{Text}
 use Rattle.dubp_undo.specs.Definition.{IsMarked}
 use Rattle.dubp_undo.specs.MovingTable.{MovingTable, Puts, IsPlaced}
-use Rattle.dubp_undo.specs.Numbers.{counts, add_last}
+use Rattle.dubp_undo.specs.Numbers.{counts, add_last, settled}
 use Rattle.dubp_iindex.specs.declared.row.IdentityRow.{IdentityRow}
 use Rattle.dubp_iindex.specs.declared.row.Counts.{Counts}
 use Rattle.dubp_iindex.specs.declared.writing.Writes.{Writes}
@@ -49,9 +49,9 @@ module _ {K V : Type 0} (cmp : K → K → Ordering) (key : K) where
     pub now : IsWritten cmp key write old.now new.now
     pub costs : counts new.past ≡ add_last (sets write) (counts old.past)
 
--- whatever `now` became: as many maps are kept, what is marked stays so, and what is ahead stays
+-- whatever `now` became: no number but the last changes, what is marked stays so, and what is ahead stays
 pub record OnlyNow {S K V : Type 0} (cmp : K → K → Ordering) (definition : List S → K → Option V) (old new : MovingTable K V) : Type 0 where
-  pub depth : length (counts new.past) ≡ length (counts old.past)
+  pub costs_stay : settled (counts new.past) ≡ settled (counts old.past)
   pub marked : (s : List S) → IsMarked cmp definition old.past s → IsMarked cmp definition new.past s
   pub ahead : new.ahead ≡ old.ahead
   pub root : new.root ≡ old.root

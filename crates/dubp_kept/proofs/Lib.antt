@@ -2,3 +2,4 @@ pub mod Known
 pub mod First
 pub mod Moved
 pub mod Stands
+pub mod Within

@@ -1,6 +1,7 @@
 -- What contracts see of the blocks that are kept, and what holds of them at any time. Protocol: tables; commands and answers.
-use Rattle.std.specs.Prelude.{◌≡◌, ◌≤◌, ◌+◌, ◌-◌, ◌*◌, ℕ, List, [], ◌∷◌, length, drop, take, min, Option, Some, None, option_and_then, ⊤}
+use Rattle.std.specs.Prelude.{◌≡◌, ◌≤◌, ◌+◌, ◌-◌, ◌*◌, ℕ, zero, suc, List, [], ◌∷◌, length, drop, take, min, Option, Some, None, option_and_then, ⊤}
 use Rattle.std.specs.List.{AllByRecursion}
+use Rattle.dubp_undo.specs.Trail.{Trail}
 use Rattle.dubp_params.specs.declared.params.Params.{Params}
 use Rattle.dubp_params.specs.Ranges.{IsInRange}
 use Rattle.dubp_block.specs.declared.block.Block.{Block}
@@ -114,6 +115,34 @@ pub record MayJoin (c : Chain) (b : Block) (h : Head) (p : Params) : Type 0 wher
 -- how many steps a block adds at most
 abbrev pub most_steps : Chain → Block → ℕ
 most_steps c b = 8 * length (records c b) + 16
+
+-- how many the last block of a chain adds at most
+abbrev pub last_steps : Chain → ℕ
+last_steps [] = 0
+last_steps (b ∷ c) = most_steps c b
+
+-- how many the last so many blocks of a chain add at most, one with the other
+abbrev pub steps_of_last : ℕ → Chain → ℕ
+steps_of_last zero c = 0
+steps_of_last (suc count) [] = 0
+steps_of_last (suc count) (b ∷ c) = most_steps c b + steps_of_last count c
+
+-- how many those add at most that were taken off the chain
+abbrev pub steps_of_out : Option Out → ℕ
+steps_of_out None = 0
+steps_of_out (Some o) = steps_of_last o.taken o.chain
+
+-- the numbers of keys that were set for the blocks of a chain, the last of which is its last block: each is within what its block adds
+abbrev pub AreWithin : List ℕ → Chain → Type 0
+AreWithin costs c = Trail (λ n d. n ≤ last_steps d) costs c
+
+-- tables stand for the chain, within the bound
+abbrev pub StandsWithin : (Chain → Type 0) → List ℕ → Chain → Type 0
+StandsWithin stands costs c = stands c × AreWithin costs c
+
+-- tables wait for the chain from which so many blocks were taken off, within the bound
+abbrev pub WaitsWithin : (Chain → ℕ → Type 0) → List ℕ → Chain → ℕ → Type 0
+WaitsWithin waits ahead_costs o i = waits o i × AreWithin ahead_costs o
 
 -- the block joins the chain
 abbrev pub with_block : Block → KeptChain → KeptChain

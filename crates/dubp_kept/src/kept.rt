@@ -1,7 +1,7 @@
 ghost use Rattle.std.specs.Prelude.{◌≡◌, ◌+◌, ◌≤◌, ◌<◌, ◌∷◌, [], None, Some, drop, min, reverse, take, OnOk, OnErr, IfOk, IfErr};
 ghost use Rattle.dubp_local.specs.Local.{all_hashes};
 ghost use Rattle.dubp_kept.specs.LeftBehind.{left_behind};
-ghost use Rattle.dubp_kept.specs.KeptChain.{IsKnown, MayJoin, most_kept, most_steps, with_block, without_last, HandsBack, IsHeldBy, IsAsHeld, IsAsBefore};
+ghost use Rattle.dubp_kept.specs.KeptChain.{IsKnown, MayJoin, most_kept, most_steps, last_steps, steps_of_last, steps_of_out, with_block, without_last, HandsBack, IsHeldBy, IsAsHeld, IsAsBefore};
 
 use crate::held::{Before, Held};
 use crate::left_behind::LeftBehind;
@@ -38,7 +38,7 @@ pub struct Kept<T: Written> {
 
 impl<T: Written> Model for Kept<T> {
     ghost use Rattle.std.specs.Prelude.{length, reverse, vec_capacity};
-    ghost use Rattle.dubp_kept.specs.KeptChain.{KeptChain, AreKept};
+    ghost use Rattle.dubp_kept.specs.KeptChain.{KeptChain, AreKept, StandsWithin, WaitsWithin};
 
     ghost Value = { KeptChain };
 
@@ -49,7 +49,7 @@ impl<T: Written> Model for Kept<T> {
 
     ghost view = { λ k. record { chain = reverse k.blocks.items; kept = length (T.costs k.tables); out = k.out } };
 
-    ghost invariant = { λ k. AreKept (T.stands k.tables) (T.waits k.tables) (length (T.costs k.tables)) (length (T.ahead_costs k.tables)) k.heads k.behind.items (reverse k.blocks.items) (vec_capacity k.blocks) k.out };
+    ghost invariant = { λ k. AreKept (StandsWithin (T.stands k.tables) (T.costs k.tables)) (WaitsWithin (T.waits k.tables) (T.ahead_costs k.tables)) (length (T.costs k.tables)) (length (T.ahead_costs k.tables)) k.heads k.behind.items (reverse k.blocks.items) (vec_capacity k.blocks) k.out };
 }
 
 impl<T: Written> Kept<T> {
@@ -142,22 +142,24 @@ impl<T: Written> Kept<T> {
         Ok(left)
     }
 
-    /// Takes the last block off and hands it out. One can be taken off. It takes no memory.
+    /// Takes the last block off and hands it out. One can be taken off. It takes no memory, and at most the steps that the block may add.
     pub fn withdraw<L: StepBook>(&mut self, steps: &mut Steps<L>) -> Block
         requires { 0 < self.old.kept }
         ensures chain { self.old.chain ≡ result ∷ self.new.chain }
         ensures kept { self.old.kept ≡ self.new.kept + 1 }
         ensures out { self.new.out ≡ self.old.out }
+        ensures steps { steps.new ≤ steps.old + last_steps self.old.chain }
     {
         self.heads.pop();
         self.tables.back(steps);
         self.blocks.pop().unwrap()
     }
 
-    /// Takes the last so many blocks off, as many as can be. It takes no memory.
+    /// Takes the last so many blocks off, as many as can be. It takes no memory, and at most the steps that they may add.
     pub fn take_off<L: StepBook>(&mut self, count: u64, steps: &mut Steps<L>)
         requires { count ≤ self.old.kept }
-        ensures { self.new ≡ without_last count self.old }
+        ensures taken { self.new ≡ without_last count self.old }
+        ensures steps { steps.new ≤ steps.old + steps_of_last count self.old.chain }
     {
         for _ in 0..count {
             self.withdraw(steps);
@@ -165,7 +167,7 @@ impl<T: Written> Kept<T> {
     }
 
     /// Takes the last `count` blocks off and holds them. So many can be taken off, and none is held. What was before can be put back
-    /// by `restore` and is given up by `settle`.
+    /// by `restore` and is given up by `settle`. At most the steps that they may add.
     ///
     /// `NoMemory` where there is no room for them; then all is as before.
     pub fn hold<L: StepBook>(
@@ -179,7 +181,9 @@ impl<T: Written> Kept<T> {
         ensures chain { OnOk result (self.new.chain ≡ drop count self.old.chain) }
         ensures kept { OnOk result (self.new.kept + count ≡ self.old.kept) }
         ensures out { OnOk result (self.new.out ≡ Some (record { chain = self.old.chain; kept = self.old.kept; taken = count })) }
+        ensures steps { OnOk result (steps.new ≤ steps.old + steps_of_last count self.old.chain) }
         ensures refused { OnErr result (self.new ≡ self.old) }
+        ensures no_step { OnErr result (steps.new ≡ steps.old) }
     {
         let mut held = Vec::new(self.alloc);
         held.reserve(count).map_err(|_| NoMemory)?;
@@ -224,11 +228,12 @@ impl<T: Written> Kept<T> {
     }
 
     /// Puts these blocks back, which are held. The chain is as right after they were taken off; then all is as before that. It takes no
-    /// memory.
+    /// memory, and at most the steps that they may add.
     pub fn restore<L: StepBook>(&mut self, held: Held, steps: &mut Steps<L>)
         requires held { IsHeldBy held self.old.out }
         requires chain { IsAsHeld self.old.chain self.old.out }
-        ensures { IsAsBefore self.new self.old.out }
+        ensures restored { IsAsBefore self.new self.old.out }
+        ensures steps { steps.new ≤ steps.old + steps_of_out self.old.out }
     {
         let mut blocks = held.blocks;
         put_back(

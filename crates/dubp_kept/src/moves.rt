@@ -4,7 +4,7 @@ ghost use Rattle.dubp_chain.specs.Chains.{Chain};
 ghost use Rattle.dubp_chain.specs.Heads.{head_of};
 ghost use Rattle.dubp_validity.specs.Rules.{IsSound};
 ghost use Rattle.dubp_local.specs.Local.{all_hashes};
-ghost use Rattle.dubp_kept.specs.KeptChain.{most_steps};
+ghost use Rattle.dubp_kept.specs.KeptChain.{most_steps, StandsWithin, WaitsWithin};
 ghost use Rattle.dubp_kept.specs.LeftBehind.{left_behind};
 
 use crate::left_behind::LeftBehind;
@@ -29,13 +29,13 @@ pub(crate) fn enter<T: Written, L: StepBook>(
 ) -> Result<LeftBehind, NoMemory>
     requires text { IsBlock block.now }
     requires hashes { hashes.now ≡ all_hashes block.now }
-    ensures stands { OnOk result ((c : Chain) → IsSound (block.now ∷ c) → IsBlock block.now → head_of (block.now ∷ c) ≡ Some head.now → T.stands tables.old c → T.stands tables.new (block.now ∷ c)) }
+    ensures stands { OnOk result ((c : Chain) → IsSound (block.now ∷ c) → IsBlock block.now → head_of (block.now ∷ c) ≡ Some head.now → StandsWithin (T.stands tables.old) (T.costs tables.old) c → StandsWithin (T.stands tables.new) (T.costs tables.new) (block.now ∷ c)) }
     ensures left { IfOk result (λ left. (c : Chain) → IsSound (block.now ∷ c) → IsBlock block.now → head_of (block.now ∷ c) ≡ Some head.now → T.stands tables.old c → left ≡ left_behind c block.now) }
     ensures steps { OnOk result ((c : Chain) → IsSound (block.now ∷ c) → IsBlock block.now → head_of (block.now ∷ c) ≡ Some head.now → T.stands tables.old c → steps.new ≤ steps.old + most_steps c block.now) }
     ensures depth { OnOk result (length (T.costs tables.new) ≡ length (T.costs tables.old) + 1) }
-    ensures waits { (o : Chain) (i : ℕ) → T.waits tables.old o i → T.waits tables.new o i }
+    ensures waits { (o : Chain) (i : ℕ) → WaitsWithin (T.waits tables.old) (T.ahead_costs tables.old) o i → WaitsWithin (T.waits tables.new) (T.ahead_costs tables.new) o i }
     ensures ahead { T.ahead_costs tables.new ≡ T.ahead_costs tables.old }
-    ensures refused { OnErr result ((c : Chain) → T.stands tables.old c → T.stands tables.new c) }
+    ensures refused { OnErr result ((c : Chain) → StandsWithin (T.stands tables.old) (T.costs tables.old) c → StandsWithin (T.stands tables.new) (T.costs tables.new) c) }
     ensures refused_depth { OnErr result (length (T.costs tables.new) ≡ length (T.costs tables.old)) }
 {
     tables.laws();
@@ -54,9 +54,9 @@ pub(crate) fn enter<T: Written, L: StepBook>(
 
 /// Forgets the oldest kept states, until no more than so many are kept.
 pub(crate) fn trim<T: Written>(tables: &mut T, most: usize)
-    ensures stands { (c : Chain) → T.stands tables.old c → T.stands tables.new c }
+    ensures stands { (c : Chain) → StandsWithin (T.stands tables.old) (T.costs tables.old) c → StandsWithin (T.stands tables.new) (T.costs tables.new) c }
     ensures depth { length (T.costs tables.new) ≡ min (length (T.costs tables.old)) most }
-    ensures waits { (o : Chain) (i : ℕ) → T.waits tables.old o i → T.waits tables.new o i }
+    ensures waits { (o : Chain) (i : ℕ) → WaitsWithin (T.waits tables.old) (T.ahead_costs tables.old) o i → WaitsWithin (T.waits tables.new) (T.ahead_costs tables.new) o i }
     ensures ahead { T.ahead_costs tables.new ≡ T.ahead_costs tables.old }
 {
     while tables.depth() > most {
@@ -66,9 +66,9 @@ pub(crate) fn trim<T: Written>(tables: &mut T, most: usize)
 
 /// The same, unless all states are to stay.
 pub(crate) fn trim_unless<T: Written>(tables: &mut T, all: bool, most: usize)
-    ensures stands { (c : Chain) → T.stands tables.old c → T.stands tables.new c }
+    ensures stands { (c : Chain) → StandsWithin (T.stands tables.old) (T.costs tables.old) c → StandsWithin (T.stands tables.new) (T.costs tables.new) c }
     ensures depth { length (T.costs tables.new) ≡ cond all (length (T.costs tables.old)) (min (length (T.costs tables.old)) most) }
-    ensures waits { (o : Chain) (i : ℕ) → T.waits tables.old o i → T.waits tables.new o i }
+    ensures waits { (o : Chain) (i : ℕ) → WaitsWithin (T.waits tables.old) (T.ahead_costs tables.old) o i → WaitsWithin (T.waits tables.new) (T.ahead_costs tables.new) o i }
     ensures ahead { T.ahead_costs tables.new ≡ T.ahead_costs tables.old }
 {
     if all {

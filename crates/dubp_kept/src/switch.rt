@@ -2,7 +2,7 @@ ghost use Rattle.std.specs.Prelude.{◌≡◌, ◌+◌, ◌≤◌, ◌<◌, ◌+
 ghost use Rattle.dubp_params.specs.Ranges.{IsInRange};
 ghost use Rattle.dubp_chain.specs.Chains.{Chain, first_block, params as params_of};
 ghost use Rattle.dubp_head.specs.HeadsStates.{KeepsRoom};
-ghost use Rattle.dubp_kept.specs.KeptChain.{stated_params};
+ghost use Rattle.dubp_kept.specs.KeptChain.{stated_params, steps_of_last, StandsWithin, WaitsWithin};
 ghost use Rattle.dubp_kept.specs.Moves.{HasMoved, MayReturn};
 
 use crate::written::Written;
@@ -17,8 +17,8 @@ use std::sync::ledger::Ledger as StepBook;
 /// Takes memory for so many states ahead, of which there are none then. The tables stand for the chain as before.
 pub(crate) fn make_ready<T: Written>(tables: &mut T, count: usize) -> Result<(), NoMemory>
     requires { count ≤ length (T.costs tables.old) }
-    ensures stands { (c : Chain) → T.stands tables.old c → T.stands tables.new c }
-    ensures waits { (c : Chain) → T.waits tables.new c 0 }
+    ensures stands { (c : Chain) → StandsWithin (T.stands tables.old) (T.costs tables.old) c → StandsWithin (T.stands tables.new) (T.costs tables.new) c }
+    ensures waits { (c : Chain) → WaitsWithin (T.waits tables.new) (T.ahead_costs tables.new) c 0 }
     ensures ahead { T.ahead_costs tables.new ≡ [] }
     ensures costs { T.costs tables.new ≡ T.costs tables.old }
     ensures spare { OnOk result (count ≤ T.spare tables.new) }
@@ -39,14 +39,15 @@ pub(crate) fn move_off<T: Written, L: StepBook>(
     count: usize,
     steps: &mut Steps<L>,
 )
-    requires moved { HasMoved (T.stands tables.old) (T.waits tables.old) (length (T.ahead_costs tables.old)) heads.old behind.old.items blocks.old.items held.old.items (reverse blocks.old.items) 0 }
+    requires moved { HasMoved (StandsWithin (T.stands tables.old) (T.costs tables.old)) (WaitsWithin (T.waits tables.old) (T.ahead_costs tables.old)) (length (T.ahead_costs tables.old)) heads.old behind.old.items blocks.old.items held.old.items (reverse blocks.old.items) 0 }
     requires few { count ≤ vec_len blocks.old }
     requires kept { count ≤ length (T.costs tables.old) }
     requires spare { count ≤ T.spare tables.old }
     requires room { count ≤ vec_capacity held.old }
     requires heads_room { count ≤ vec_capacity behind.old }
-    ensures moved { HasMoved (T.stands tables.new) (T.waits tables.new) (length (T.ahead_costs tables.new)) heads.new behind.new.items blocks.new.items held.new.items (reverse blocks.old.items) count }
+    ensures moved { HasMoved (StandsWithin (T.stands tables.new) (T.costs tables.new)) (WaitsWithin (T.waits tables.new) (T.ahead_costs tables.new)) (length (T.ahead_costs tables.new)) heads.new behind.new.items blocks.new.items held.new.items (reverse blocks.old.items) count }
     ensures depth { length (T.costs tables.new) + count ≡ length (T.costs tables.old) }
+    ensures steps { steps.new ≤ steps.old + steps_of_last count (reverse blocks.old.items) }
     ensures capacity { vec_capacity blocks.new ≡ vec_capacity blocks.old }
     ensures keeps { KeepsRoom heads.old heads.new }
 {
@@ -67,9 +68,10 @@ pub(crate) fn put_back<T: Written, L: StepBook>(
     behind: &mut Vec<Head>,
     steps: &mut Steps<L>,
 )
-    requires returns { MayReturn (T.stands tables.old) (T.waits tables.old) (length (T.ahead_costs tables.old)) heads.old behind.old.items blocks.old.items held.old.items (vec_capacity blocks.old) }
-    ensures moved { HasMoved (T.stands tables.new) (T.waits tables.new) (length (T.ahead_costs tables.new)) heads.new behind.new.items blocks.new.items held.new.items (held.old.items ++ reverse blocks.old.items) 0 }
+    requires returns { MayReturn (StandsWithin (T.stands tables.old) (T.costs tables.old)) (WaitsWithin (T.waits tables.old) (T.ahead_costs tables.old)) (length (T.ahead_costs tables.old)) heads.old behind.old.items blocks.old.items held.old.items (vec_capacity blocks.old) }
+    ensures moved { HasMoved (StandsWithin (T.stands tables.new) (T.costs tables.new)) (WaitsWithin (T.waits tables.new) (T.ahead_costs tables.new)) (length (T.ahead_costs tables.new)) heads.new behind.new.items blocks.new.items held.new.items (held.old.items ++ reverse blocks.old.items) 0 }
     ensures depth { length (T.costs tables.new) ≡ length (T.costs tables.old) + length held.old.items }
+    ensures steps { steps.new ≤ steps.old + steps_of_last (length held.old.items) (held.old.items ++ reverse blocks.old.items) }
     ensures capacity { vec_capacity blocks.new ≡ vec_capacity blocks.old }
     ensures keeps { KeepsRoom heads.old heads.new }
 {
@@ -89,11 +91,12 @@ fn move_back<T: Written, L: StepBook>(
     params: &Params,
     steps: &mut Steps<L>,
 )
-    requires returns { MayReturn (T.stands tables.old) (T.waits tables.old) (length (T.ahead_costs tables.old)) heads.old behind.old.items blocks.old.items held.old.items (vec_capacity blocks.old) }
+    requires returns { MayReturn (StandsWithin (T.stands tables.old) (T.costs tables.old)) (WaitsWithin (T.waits tables.old) (T.ahead_costs tables.old)) (length (T.ahead_costs tables.old)) heads.old behind.old.items blocks.old.items held.old.items (vec_capacity blocks.old) }
     requires params { params.now ≡ params_of (held.old.items ++ reverse blocks.old.items) }
     requires range { IsInRange params.now }
-    ensures moved { HasMoved (T.stands tables.new) (T.waits tables.new) (length (T.ahead_costs tables.new)) heads.new behind.new.items blocks.new.items held.new.items (held.old.items ++ reverse blocks.old.items) 0 }
+    ensures moved { HasMoved (StandsWithin (T.stands tables.new) (T.costs tables.new)) (WaitsWithin (T.waits tables.new) (T.ahead_costs tables.new)) (length (T.ahead_costs tables.new)) heads.new behind.new.items blocks.new.items held.new.items (held.old.items ++ reverse blocks.old.items) 0 }
     ensures depth { length (T.costs tables.new) ≡ length (T.costs tables.old) + length held.old.items }
+    ensures steps { steps.new ≤ steps.old + steps_of_last (length held.old.items) (held.old.items ++ reverse blocks.old.items) }
     ensures capacity { vec_capacity blocks.new ≡ vec_capacity blocks.old }
     ensures keeps { KeepsRoom heads.old heads.new }
 {

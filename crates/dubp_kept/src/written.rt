@@ -1,4 +1,6 @@
-ghost use Rattle.std.specs.Prelude.{◌≡◌, ◌+◌, ◌≤◌, ◌∷◌, ℕ, Some, length, IfOk, OnOk};
+ghost use Rattle.std.specs.Prelude.{◌≡◌, ◌+◌, ◌≤◌, ◌∷◌, ℕ, Some, IfOk, OnOk};
+ghost use Rattle.dubp_undo.specs.Numbers.{settled};
+ghost use Rattle.dubp_undo.specs.States.{AtMostMore};
 ghost use Rattle.dubp_block.specs.Text.{IsBlock};
 ghost use Rattle.dubp_chain.specs.Chains.{Chain};
 ghost use Rattle.dubp_chain.specs.Heads.{head_of};
@@ -38,5 +40,6 @@ pub trait Written: Tables<Block> {
         ensures marked { (c : Chain) → Self.marked self.old c → Self.marked self.new c }
         ensures waits { (o : Chain) (i : ℕ) → Self.waits self.old o i → Self.waits self.new o i }
         ensures ahead { Self.ahead_costs self.new ≡ Self.ahead_costs self.old }
-        ensures depth { length (Self.costs self.new) ≡ length (Self.costs self.old) };
+        ensures costs_stay { settled (Self.costs self.new) ≡ settled (Self.costs self.old) }
+        ensures costs { OnOk result ((c : Chain) → IsSound (block.now ∷ c) → IsBlock block.now → head_of (block.now ∷ c) ≡ Some head.now → Self.at self.old c → AtMostMore (most_steps c block.now) (Self.costs self.old) (Self.costs self.new)) };
 }

@@ -10,7 +10,7 @@ ghost use Rattle.dubp_rules.specs.declared.rule.Rule.TheVariants.{X01, P01};
 ghost use Rattle.dubp_validity.specs.Records.{records_at};
 ghost use Rattle.dubp_validity.specs.Rules.{FirstBroken, Holds, IsSound, longest_block};
 ghost use Rattle.dubp_local.specs.Local.{all_hashes, local_rules};
-ghost use Rattle.dubp_kept.specs.KeptChain.{IsAsBefore, IsAsHeld, IsHeldBy, IsKnown, MayJoin, most_kept, most_steps, without_last};
+ghost use Rattle.dubp_kept.specs.KeptChain.{IsAsBefore, IsAsHeld, IsHeldBy, IsKnown, MayJoin, last_steps, most_kept, most_steps, steps_of_last, steps_of_out, without_last};
 ghost use Rattle.dubp_ledger.specs.States.{Accepted, HandedBack, IsTooDeep};
 ghost use Rattle.dubp_ledger.specs.Traces.{IsShort};
 
@@ -298,22 +298,26 @@ impl<T: PeopleAndMoney> Ledger<T> {
         }
     }
 
-    /// Takes the last block off the chain and hands it out. One can be reversed. It takes no memory.
+    /// Takes the last block off the chain and hands it out. One can be reversed. It takes no memory, and at most the steps that the block
+    /// may add.
     pub fn withdraw<L: StepBook>(&mut self, steps: &mut Steps<L>) -> Block
         requires { 0 < self.old.kept }
         ensures chain { self.old.chain ≡ result ∷ self.new.chain }
         ensures kept { self.old.kept ≡ self.new.kept + 1 }
         ensures out { self.new.out ≡ self.old.out }
+        ensures steps { steps.new ≤ steps.old + last_steps self.old.chain }
     {
         self.traces.take_off(1);
         self.kept.withdraw(steps)
     }
 
-    /// Takes the last `count` blocks off the chain. `TooDeep` exactly where fewer can be reversed; then the ledger is as before. It takes no
-    /// memory.
+    /// Takes the last `count` blocks off the chain, with at most the steps that they may add. `TooDeep` exactly where fewer can be reversed;
+    /// then the ledger is as before. It takes no memory.
     pub fn revert<L: StepBook>(&mut self, count: u64, steps: &mut Steps<L>) -> Result<(), TooDeep>
         ensures reverted { OnOk result ((count ≤ self.old.kept) × (self.new ≡ without_last count self.old)) }
         ensures refused { IfErr result (λ refusal. IsTooDeep self.old count refusal self.new) }
+        ensures steps { OnOk result (steps.new ≤ steps.old + steps_of_last count self.old.chain) }
+        ensures no_step { OnErr result (steps.new ≡ steps.old) }
     {
         let kept = self.kept();
         if count > kept as u64 {
@@ -326,6 +330,7 @@ impl<T: PeopleAndMoney> Ledger<T> {
 
     /// Takes the last `count` blocks off and holds them. So many can be reversed, and none is held. What was before can be put back by
     /// `restore`, and is given up by `settle`; until then no accepted block makes one that can be reversed cease to be so.
+    /// At most the steps that they may add.
     ///
     /// `NoMemory` where there is no room for them; then all is as before.
     pub fn hold<L: StepBook>(
@@ -340,6 +345,8 @@ impl<T: PeopleAndMoney> Ledger<T> {
         ensures kept { OnOk result (self.new.kept + count ≡ self.old.kept) }
         ensures out { OnOk result (self.new.out ≡ Some (record { chain = self.old.chain; kept = self.old.kept; taken = count })) }
         ensures refused { OnErr result (self.new ≡ self.old) }
+        ensures steps { OnOk result (steps.new ≤ steps.old + steps_of_last count self.old.chain) }
+        ensures no_step { OnErr result (steps.new ≡ steps.old) }
     {
         self.traces.ready(count)?;
         let held = self.kept.hold(count, steps)?;
@@ -361,11 +368,12 @@ impl<T: PeopleAndMoney> Ledger<T> {
     }
 
     /// Puts these blocks back, which are held. The chain is as right after they were taken off; then all is as before that. It takes no
-    /// memory.
+    /// memory, and at most the steps that they may add.
     pub fn restore<L: StepBook>(&mut self, held: Held, steps: &mut Steps<L>)
         requires held { IsHeldBy held self.old.out }
         requires chain { IsAsHeld self.old.chain self.old.out }
-        ensures { IsAsBefore self.new self.old.out }
+        ensures restored { IsAsBefore self.new self.old.out }
+        ensures steps { steps.new ≤ steps.old + steps_of_out self.old.out }
     {
         self.traces.put_back();
         self.kept.restore(held, steps);

@@ -1,6 +1,6 @@
-ghost use Rattle.std.specs.Prelude.{◌≡◌, ℕ, ◌+◌, ◌∷◌, List, [], length, OnOk, OnErr};
+ghost use Rattle.std.specs.Prelude.{◌≡◌, ℕ, ◌+◌, ◌∷◌, List, [], OnOk, OnErr};
 ghost use Rattle.std.specs.FinMap.{insert};
-ghost use Rattle.dubp_undo.specs.Numbers.{add_last};
+ghost use Rattle.dubp_undo.specs.Numbers.{add_last, settled};
 ghost use Rattle.dubp_mindex.specs.Members.{Members, member_at, members};
 
 use dubp_atoms::{Key, NoMemory, Steps};
@@ -160,7 +160,7 @@ impl MIndex {
         ensures marked { (s : List Members) → ⟦<MIndex as Tables<MemberRows>>⟧.marked self.old s → ⟦<MIndex as Tables<MemberRows>>⟧.marked self.new s }
         ensures waits { (o : List Members) (i : ℕ) → ⟦<MIndex as Tables<MemberRows>>⟧.waits self.old o i → ⟦<MIndex as Tables<MemberRows>>⟧.waits self.new o i }
         ensures ahead { ⟦<MIndex as Tables<MemberRows>>⟧.ahead_costs self.new ≡ ⟦<MIndex as Tables<MemberRows>>⟧.ahead_costs self.old }
-        ensures depth { length (⟦<MIndex as Tables<MemberRows>>⟧.costs self.new) ≡ length (⟦<MIndex as Tables<MemberRows>>⟧.costs self.old) }
+        ensures costs_stay { settled (⟦<MIndex as Tables<MemberRows>>⟧.costs self.new) ≡ settled (⟦<MIndex as Tables<MemberRows>>⟧.costs self.old) }
         ensures costs { OnOk result (⟦<MIndex as Tables<MemberRows>>⟧.costs self.new ≡ add_last 1 (⟦<MIndex as Tables<MemberRows>>⟧.costs self.old)) }
         ensures step { OnOk result (steps.new ≡ steps.old + 1) }
 

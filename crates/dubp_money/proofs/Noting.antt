@@ -13,14 +13,14 @@ use Rattle.dubp_chain.specs.Words.{names}
 use Rattle.dubp_chain.specs.Chains.{Chain}
 use Rattle.dubp_chain.specs.Tables.{has_transaction}
 use Rattle.dubp_chain.specs.Money.{hashes_in}
-use Rattle.dubp_undo.specs.Numbers.{plus}
+use Rattle.dubp_undo.specs.Numbers.{plus, settled}
 use Rattle.dubp_undo.specs.States.{AtMostMore}
 use Rattle.dubp_money_steps.proofs.Totals.{transactions_go_on}
 use Rattle.dubp_money.specs.Tables.{transaction_at}
 use Rattle.dubp_money.proofs.Rows.{taken_next}
 use Rattle.dubp_money.proofs.Made.{map-both}
-use Rattle.dubp_sindex.proofs.Numbers.{more_beside, same_length_beside}
-use Rattle.dubp_undo.proofs.Numbers.{length-add_last, length-plus}
+use Rattle.dubp_sindex.proofs.Numbers.{more_beside}
+use Rattle.dubp_undo.proofs.Numbers.{length-plus, settled-add_last, settled_plus}
 
 abbrev pub wholes : List TxHashes → List Text
 wholes hashes = map (λ (h : TxHashes). h.whole) hashes
@@ -62,12 +62,12 @@ noted_all hashes i c b past are k before now was at =
 
 -- ---- tables side by side
 
-pub same_depth : {n : ℕ} {x y : List ℕ} → AtMostMore n x y → length y ≡ length x
-same_depth {x = x} p = ap length p.is ∙ length-add_last p.more x
+pub more_settled : {n : ℕ} {x y : List ℕ} → AtMostMore n x y → settled y ≡ settled x
+more_settled {x = x} p = ap settled p.is ∙ settled-add_last p.more x
 
 module _ (x x' y y' z z' : List ℕ) (even : length x ≡ length y) (even_last : length y ≡ length z) where
-  pub three_depth : length x' ≡ length x → length y' ≡ length y → length z' ≡ length z → length (plus x' (plus y' z')) ≡ length (plus x (plus y z))
-  three_depth p q r = same_length_beside x x' (plus y z) (plus y' z') (even ∙ sym (length-plus y z even_last)) p (same_length_beside y y' z z' even_last q r)
+  pub three_settled : settled x' ≡ settled x → settled y' ≡ settled y → settled z' ≡ settled z → settled (plus x' (plus y' z')) ≡ settled (plus x (plus y z))
+  three_settled p q r = settled_plus x x' (plus y z) (plus y' z') (even ∙ sym (length-plus y z even_last)) p (settled_plus y y' z z' even_last q r)
 
   pub three_more : {a b d n : ℕ} → a + (b + d) ≤ n → AtMostMore a x x' → AtMostMore b y y' → AtMostMore d z z' → AtMostMore n (plus x (plus y z)) (plus x' (plus y' z'))
   three_more {a} {b} {d} le p q r =

@@ -1,4 +1,5 @@
 ghost use Rattle.std.specs.Prelude.{◌≡◌, ℕ, ◌+◌, ◌*◌, ◌≤◌, ◌∷◌, ◌++◌, List, map, length, OnOk, OnErr};
+ghost use Rattle.dubp_undo.specs.Numbers.{settled};
 ghost use Rattle.dubp_undo.specs.States.{AtMostMore};
 ghost use Rattle.dubp_block.specs.Text.{IsBlock};
 ghost use Rattle.dubp_docs.specs.declared.hashing.TxHashes.{TxHashes as TxHashesValue};
@@ -52,7 +53,7 @@ impl Money {
         ensures marked { (c : Chain) → ⟦<Money as Tables<Block>>⟧.marked self.old c → ⟦<Money as Tables<Block>>⟧.marked self.new c }
         ensures waits { (o : Chain) (i : ℕ) → ⟦<Money as Tables<Block>>⟧.waits self.old o i → ⟦<Money as Tables<Block>>⟧.waits self.new o i }
         ensures ahead { ⟦<Money as Tables<Block>>⟧.ahead_costs self.new ≡ ⟦<Money as Tables<Block>>⟧.ahead_costs self.old }
-        ensures depth { length (⟦<Money as Tables<Block>>⟧.costs self.new) ≡ length (⟦<Money as Tables<Block>>⟧.costs self.old) }
+        ensures costs_stay { settled (⟦<Money as Tables<Block>>⟧.costs self.new) ≡ settled (⟦<Money as Tables<Block>>⟧.costs self.old) }
         ensures costs { OnOk result ((c : Chain) → IsApplied c block.now head.now → ArePaid (block.now ∷ c) head.now members.now → ⟦<Money as Tables<Block>>⟧.at self.old c → AtMostMore (8 * length (money_records c block.now) + 8) (⟦<Money as Tables<Block>>⟧.costs self.old) (⟦<Money as Tables<Block>>⟧.costs self.new)) }
         ensures steps { OnOk result ((c : Chain) → IsApplied c block.now head.now → ArePaid (block.now ∷ c) head.now members.now → ⟦<Money as Tables<Block>>⟧.at self.old c → steps.new ≤ steps.old + (8 * length (money_records c block.now) + 8)) }
         ensures refused { OnErr result (out.new.items ≡ out.old.items) }
@@ -80,7 +81,7 @@ impl Money {
         ensures marked { (c : Chain) → ⟦<Money as Tables<Block>>⟧.marked self.old c → ⟦<Money as Tables<Block>>⟧.marked self.new c }
         ensures waits { (o : Chain) (i : ℕ) → ⟦<Money as Tables<Block>>⟧.waits self.old o i → ⟦<Money as Tables<Block>>⟧.waits self.new o i }
         ensures ahead { ⟦<Money as Tables<Block>>⟧.ahead_costs self.new ≡ ⟦<Money as Tables<Block>>⟧.ahead_costs self.old }
-        ensures depth { length (⟦<Money as Tables<Block>>⟧.costs self.new) ≡ length (⟦<Money as Tables<Block>>⟧.costs self.old) }
+        ensures costs_stay { settled (⟦<Money as Tables<Block>>⟧.costs self.new) ≡ settled (⟦<Money as Tables<Block>>⟧.costs self.old) }
         ensures costs { OnOk result ((c : Chain) → IsApplied c block.now head.now → ArePaid (block.now ∷ c) head.now members.now → ⟦<Money as Tables<Block>>⟧.at self.old c → AtMostMore (8 * length (money_records c block.now) + 8) (⟦<Money as Tables<Block>>⟧.costs self.old) (⟦<Money as Tables<Block>>⟧.costs self.new)) }
         ensures steps { OnOk result ((c : Chain) → IsApplied c block.now head.now → ArePaid (block.now ∷ c) head.now members.now → ⟦<Money as Tables<Block>>⟧.at self.old c → steps.new ≤ steps.old + (8 * length (money_records c block.now) + 8)) }
         ensures refused { OnErr result (out.new.items ≡ out.old.items) }

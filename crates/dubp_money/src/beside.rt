@@ -2,7 +2,7 @@ ghost use Rattle.std.specs.Prelude.{◌≡◌, ℕ, ◌+◌, ◌≤◌, ◌∷�
 ghost use Rattle.std.specs.Cmp.Lexicographic.{slice_cmp};
 ghost use Rattle.std.specs.Ordering.{nat_cmp};
 ghost use Rattle.dubp_undo.specs.Definition.{IsAt, IsMarked};
-ghost use Rattle.dubp_undo.specs.Numbers.{counts};
+ghost use Rattle.dubp_undo.specs.Numbers.{counts, settled};
 ghost use Rattle.dubp_undo.specs.States.{AtMostMore};
 ghost use Rattle.dubp_block.specs.declared.block.Block.{Block as BlockValue};
 ghost use Rattle.dubp_docs.specs.declared.hashing.TxHashes.{TxHashes as TxHashesValue};
@@ -27,7 +27,7 @@ fn write_hashes<L: StepBook>(
     ensures marked { (c : Chain) → IsMarked (slice_cmp nat_cmp) transaction_at table.old.past c → IsMarked (slice_cmp nat_cmp) transaction_at table.new.past c }
     ensures ahead { table.new.ahead ≡ table.old.ahead }
     ensures root { table.new.root ≡ table.old.root }
-    ensures depth { length (counts table.new.past) ≡ length (counts table.old.past) }
+    ensures costs_stay { settled (counts table.new.past) ≡ settled (counts table.old.past) }
     ensures costs { OnOk result (AtMostMore (length hashes.now) (counts table.old.past) (counts table.new.past)) }
     ensures steps { OnOk result (steps.new ≤ steps.old + length hashes.now) }
 {
@@ -49,7 +49,7 @@ pub(crate) fn write_beside<L: StepBook>(
     ensures marked { (c : Chain) → ⟦<HashesAndTotals as Tables<Block>>⟧.marked tables.old c → ⟦<HashesAndTotals as Tables<Block>>⟧.marked tables.new c }
     ensures waits { (o : Chain) (i : ℕ) → ⟦<HashesAndTotals as Tables<Block>>⟧.waits tables.old o i → ⟦<HashesAndTotals as Tables<Block>>⟧.waits tables.new o i }
     ensures ahead { ⟦<HashesAndTotals as Tables<Block>>⟧.ahead_costs tables.new ≡ ⟦<HashesAndTotals as Tables<Block>>⟧.ahead_costs tables.old }
-    ensures depth { length (⟦<HashesAndTotals as Tables<Block>>⟧.costs tables.new) ≡ length (⟦<HashesAndTotals as Tables<Block>>⟧.costs tables.old) }
+    ensures costs_stay { settled (⟦<HashesAndTotals as Tables<Block>>⟧.costs tables.new) ≡ settled (⟦<HashesAndTotals as Tables<Block>>⟧.costs tables.old) }
     ensures costs { OnOk result (AtMostMore (length hashes.now + 1) (⟦<HashesAndTotals as Tables<Block>>⟧.costs tables.old) (⟦<HashesAndTotals as Tables<Block>>⟧.costs tables.new)) }
     ensures steps { OnOk result (steps.new ≤ steps.old + (length hashes.now + 1)) }
 {

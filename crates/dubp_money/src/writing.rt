@@ -1,5 +1,6 @@
 ghost use Rattle.std.specs.Prelude.{◌≡◌, ℕ, ◌+◌, ◌*◌, ◌≤◌, ◌∷◌, ◌++◌, List, Some, map, length, OnOk, IfOk};
 ghost use Rattle.dubp_atoms.specs.Same.{Text};
+ghost use Rattle.dubp_undo.specs.Numbers.{settled};
 ghost use Rattle.dubp_undo.specs.States.{states, AtMostMore};
 ghost use Rattle.dubp_block.specs.Text.{IsBlock};
 ghost use Rattle.dubp_block.specs.declared.block.Block.{Block as BlockValue};
@@ -127,7 +128,7 @@ fn write_sources<L: StepBook>(
     ensures marked { (c : Chain) → ⟦<Sources as Tables<Block>>⟧.marked sources.old c → ⟦<Sources as Tables<Block>>⟧.marked sources.new c }
     ensures waits { (o : Chain) (i : ℕ) → ⟦<Sources as Tables<Block>>⟧.waits sources.old o i → ⟦<Sources as Tables<Block>>⟧.waits sources.new o i }
     ensures ahead { ⟦<Sources as Tables<Block>>⟧.ahead_costs sources.new ≡ ⟦<Sources as Tables<Block>>⟧.ahead_costs sources.old }
-    ensures depth { length (⟦<Sources as Tables<Block>>⟧.costs sources.new) ≡ length (⟦<Sources as Tables<Block>>⟧.costs sources.old) }
+    ensures costs_stay { settled (⟦<Sources as Tables<Block>>⟧.costs sources.new) ≡ settled (⟦<Sources as Tables<Block>>⟧.costs sources.old) }
     ensures costs { OnOk result ((c : Chain) → Follows c block.now head.now members.now made → ⟦<Sources as Tables<Block>>⟧.at sources.old c → AtMostMore (5 * length (money_records c block.now)) (⟦<Sources as Tables<Block>>⟧.costs sources.old) (⟦<Sources as Tables<Block>>⟧.costs sources.new)) }
     ensures steps { OnOk result ((c : Chain) → Follows c block.now head.now members.now made → ⟦<Sources as Tables<Block>>⟧.at sources.old c → steps.new ≤ steps.old + 5 * length (money_records c block.now)) }
 {
@@ -179,7 +180,7 @@ fn write_facts<L: StepBook>(
     ensures marked { (c : Chain) → ⟦<Facts as Tables<Block>>⟧.marked facts.old c → ⟦<Facts as Tables<Block>>⟧.marked facts.new c }
     ensures waits { (o : Chain) (i : ℕ) → ⟦<Facts as Tables<Block>>⟧.waits facts.old o i → ⟦<Facts as Tables<Block>>⟧.waits facts.new o i }
     ensures ahead { ⟦<Facts as Tables<Block>>⟧.ahead_costs facts.new ≡ ⟦<Facts as Tables<Block>>⟧.ahead_costs facts.old }
-    ensures depth { length (⟦<Facts as Tables<Block>>⟧.costs facts.new) ≡ length (⟦<Facts as Tables<Block>>⟧.costs facts.old) }
+    ensures costs_stay { settled (⟦<Facts as Tables<Block>>⟧.costs facts.new) ≡ settled (⟦<Facts as Tables<Block>>⟧.costs facts.old) }
     ensures costs { OnOk result (AtMostMore 2 (⟦<Facts as Tables<Block>>⟧.costs facts.old) (⟦<Facts as Tables<Block>>⟧.costs facts.new)) }
     ensures steps { OnOk result (steps.new ≤ steps.old + 2) }
 {
@@ -213,15 +214,15 @@ pub(crate) fn write_all<L: StepBook>(
     ensures sources_marked { (c : Chain) → ⟦<Sources as Tables<Block>>⟧.marked sources.old c → ⟦<Sources as Tables<Block>>⟧.marked sources.new c }
     ensures sources_waits { (o : Chain) (i : ℕ) → ⟦<Sources as Tables<Block>>⟧.waits sources.old o i → ⟦<Sources as Tables<Block>>⟧.waits sources.new o i }
     ensures sources_ahead { ⟦<Sources as Tables<Block>>⟧.ahead_costs sources.new ≡ ⟦<Sources as Tables<Block>>⟧.ahead_costs sources.old }
-    ensures sources_depth { length (⟦<Sources as Tables<Block>>⟧.costs sources.new) ≡ length (⟦<Sources as Tables<Block>>⟧.costs sources.old) }
+    ensures sources_costs_stay { settled (⟦<Sources as Tables<Block>>⟧.costs sources.new) ≡ settled (⟦<Sources as Tables<Block>>⟧.costs sources.old) }
     ensures beside_marked { (c : Chain) → ⟦<HashesAndTotals as Tables<Block>>⟧.marked beside.old c → ⟦<HashesAndTotals as Tables<Block>>⟧.marked beside.new c }
     ensures beside_waits { (o : Chain) (i : ℕ) → ⟦<HashesAndTotals as Tables<Block>>⟧.waits beside.old o i → ⟦<HashesAndTotals as Tables<Block>>⟧.waits beside.new o i }
     ensures beside_ahead { ⟦<HashesAndTotals as Tables<Block>>⟧.ahead_costs beside.new ≡ ⟦<HashesAndTotals as Tables<Block>>⟧.ahead_costs beside.old }
-    ensures beside_depth { length (⟦<HashesAndTotals as Tables<Block>>⟧.costs beside.new) ≡ length (⟦<HashesAndTotals as Tables<Block>>⟧.costs beside.old) }
+    ensures beside_costs_stay { settled (⟦<HashesAndTotals as Tables<Block>>⟧.costs beside.new) ≡ settled (⟦<HashesAndTotals as Tables<Block>>⟧.costs beside.old) }
     ensures facts_marked { (c : Chain) → ⟦<Facts as Tables<Block>>⟧.marked facts.old c → ⟦<Facts as Tables<Block>>⟧.marked facts.new c }
     ensures facts_waits { (o : Chain) (i : ℕ) → ⟦<Facts as Tables<Block>>⟧.waits facts.old o i → ⟦<Facts as Tables<Block>>⟧.waits facts.new o i }
     ensures facts_ahead { ⟦<Facts as Tables<Block>>⟧.ahead_costs facts.new ≡ ⟦<Facts as Tables<Block>>⟧.ahead_costs facts.old }
-    ensures facts_depth { length (⟦<Facts as Tables<Block>>⟧.costs facts.new) ≡ length (⟦<Facts as Tables<Block>>⟧.costs facts.old) }
+    ensures facts_costs_stay { settled (⟦<Facts as Tables<Block>>⟧.costs facts.new) ≡ settled (⟦<Facts as Tables<Block>>⟧.costs facts.old) }
     ensures sources_costs { OnOk result ((c : Chain) → IsApplied c block.now head.now → ArePaid (block.now ∷ c) head.now members.now → before ≡ totals_of c → ⟦<Sources as Tables<Block>>⟧.at sources.old c → AtMostMore (5 * length (money_records c block.now)) (⟦<Sources as Tables<Block>>⟧.costs sources.old) (⟦<Sources as Tables<Block>>⟧.costs sources.new)) }
     ensures beside_costs { OnOk result (AtMostMore (length hashes.now + 1) (⟦<HashesAndTotals as Tables<Block>>⟧.costs beside.old) (⟦<HashesAndTotals as Tables<Block>>⟧.costs beside.new)) }
     ensures facts_costs { OnOk result (AtMostMore 2 (⟦<Facts as Tables<Block>>⟧.costs facts.old) (⟦<Facts as Tables<Block>>⟧.costs facts.new)) }

@@ -1,11 +1,8 @@
 -- How many keys were set in three tables side by side, and in two.
 use Rattle.std.proofs.Common.{◌≡◌, ℕ, ◌+◌, ◌≤◌, List, length, sym, ◌∙◌, arith}
-use Rattle.dubp_undo.specs.Numbers.{plus, add_last}
+use Rattle.dubp_undo.specs.Numbers.{plus, add_last, settled}
 use Rattle.dubp_undo.specs.States.{AtMostMore}
-use Rattle.dubp_undo.proofs.Numbers.{plus-add_last, length-plus}
-
-pub two_depth : (x x' y y' : List ℕ) → length x ≡ length y → length x' ≡ length x → length y' ≡ length y → length (plus x' y') ≡ length (plus x y)
-two_depth x x' y y' even p q = length-plus x' y' (omega (arith, even, p, q)) ∙ p ∙ sym (length-plus x y even)
+use Rattle.dubp_undo.proofs.Numbers.{plus-add_last, length-plus, settled_plus}
 
 pub two_more : {a b n : ℕ} {x x' y y' : List ℕ} → a + b ≡ n → length x ≡ length y → AtMostMore a x x' → AtMostMore b y y' → AtMostMore n (plus x y) (plus x' y')
 two_more {x = x} {y = y} e even p q = record {
@@ -15,8 +12,8 @@ two_more {x = x} {y = y} e even p q = record {
 }
 
 module _ (x x' y y' z z' : List ℕ) (even : length x ≡ length y) (even_last : length y ≡ length z) where
-  pub three_depth : length x' ≡ length x → length y' ≡ length y → length z' ≡ length z → length (plus x' (plus y' z')) ≡ length (plus x (plus y z))
-  three_depth p q r = two_depth x x' (plus y z) (plus y' z') (even ∙ sym (length-plus y z even_last)) p (two_depth y y' z z' even_last q r)
+  pub three_settled : settled x' ≡ settled x → settled y' ≡ settled y → settled z' ≡ settled z → settled (plus x' (plus y' z')) ≡ settled (plus x (plus y z))
+  three_settled p q r = settled_plus x x' (plus y z) (plus y' z') (even ∙ sym (length-plus y z even_last)) p (settled_plus y y' z z' even_last q r)
 
   pub three_more : {a b d n : ℕ} → a + (b + d) ≡ n → AtMostMore a x x' → AtMostMore b y y' → AtMostMore d z z' → AtMostMore n (plus x (plus y z)) (plus x' (plus y' z'))
   three_more {a} {b} {d} e p q r = two_more {a = a} {b = b + d} e (even ∙ sym (length-plus y z even_last)) p (two_more {a = b} {b = d} (omega arith) even_last q r)

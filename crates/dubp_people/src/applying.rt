@@ -1,4 +1,5 @@
 ghost use Rattle.std.specs.Prelude.{◌≡◌, ℕ, ◌+◌, ◌*◌, ◌≤◌, ◌∷◌, ◌++◌, List, length, OnOk, OnErr};
+ghost use Rattle.dubp_undo.specs.Numbers.{settled};
 ghost use Rattle.dubp_undo.specs.States.{AtMostMore};
 ghost use Rattle.dubp_chain.specs.Chains.{Chain};
 ghost use Rattle.dubp_steps.specs.Steps.{people_records};
@@ -33,7 +34,7 @@ pub fn apply<L: StepBook>(
     ensures marked { (c : Chain) → ⟦<Registry as Tables<Block>>⟧.marked people.old c → ⟦<Registry as Tables<Block>>⟧.marked people.new c }
     ensures waits { (o : Chain) (i : ℕ) → ⟦<Registry as Tables<Block>>⟧.waits people.old o i → ⟦<Registry as Tables<Block>>⟧.waits people.new o i }
     ensures ahead { ⟦<Registry as Tables<Block>>⟧.ahead_costs people.new ≡ ⟦<Registry as Tables<Block>>⟧.ahead_costs people.old }
-    ensures depth { length (⟦<Registry as Tables<Block>>⟧.costs people.new) ≡ length (⟦<Registry as Tables<Block>>⟧.costs people.old) }
+    ensures costs_stay { settled (⟦<Registry as Tables<Block>>⟧.costs people.new) ≡ settled (⟦<Registry as Tables<Block>>⟧.costs people.old) }
     ensures costs { OnOk result ((c : Chain) → IsApplied c block.now head.now → ⟦<Registry as Tables<Block>>⟧.at people.old c → AtMostMore (8 * length (people_records c block.now) + 8) (⟦<Registry as Tables<Block>>⟧.costs people.old) (⟦<Registry as Tables<Block>>⟧.costs people.new)) }
     ensures steps { OnOk result ((c : Chain) → IsApplied c block.now head.now → ⟦<Registry as Tables<Block>>⟧.at people.old c → steps.new ≤ steps.old + (8 * length (people_records c block.now) + 8)) }
     ensures refused { OnErr result (out.new.items ≡ out.old.items) }

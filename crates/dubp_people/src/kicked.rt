@@ -5,7 +5,7 @@ ghost use Rattle.std.specs.Ordering.{nat_cmp};
 ghost use Rattle.dubp_atoms.specs.Same.{Text, same_text};
 ghost use Rattle.dubp_undo.specs.Definition.{IsMarked, IsAt};
 ghost use Rattle.dubp_undo.specs.MovingTable.{get};
-ghost use Rattle.dubp_undo.specs.Numbers.{counts};
+ghost use Rattle.dubp_undo.specs.Numbers.{counts, settled};
 ghost use Rattle.dubp_undo.specs.States.{states, AtMostMore};
 ghost use Rattle.dubp_chain.specs.Chains.{Chain, params};
 ghost use Rattle.dubp_chain.specs.Heads.{time_of};
@@ -116,7 +116,7 @@ fn note<L: StepBook>(
     ensures marked { (c : Chain) → IsMarked (slice_cmp nat_cmp) kicked_at kicked.old.past c → IsMarked (slice_cmp nat_cmp) kicked_at kicked.new.past c }
     ensures ahead { kicked.new.ahead ≡ kicked.old.ahead }
     ensures root { kicked.new.root ≡ kicked.old.root }
-    ensures depth { length (counts kicked.new.past) ≡ length (counts kicked.old.past) }
+    ensures costs_stay { settled (counts kicked.new.past) ≡ settled (counts kicked.old.past) }
     ensures costs { OnOk result (AtMostMore 1 (counts kicked.old.past) (counts kicked.new.past)) }
     ensures steps { OnOk result (steps.new ≤ steps.old + 1) }
 {
@@ -148,7 +148,7 @@ fn renew<L: StepBook>(
     ensures marked { (c : Chain) → IsMarked (slice_cmp nat_cmp) kicked_at kicked.old.past c → IsMarked (slice_cmp nat_cmp) kicked_at kicked.new.past c }
     ensures ahead { kicked.new.ahead ≡ kicked.old.ahead }
     ensures root { kicked.new.root ≡ kicked.old.root }
-    ensures depth { length (counts kicked.new.past) ≡ length (counts kicked.old.past) }
+    ensures costs_stay { settled (counts kicked.new.past) ≡ settled (counts kicked.old.past) }
     ensures costs { OnOk result (AtMostMore 1 (counts kicked.old.past) (counts kicked.new.past)) }
     ensures steps { OnOk result (steps.new ≤ steps.old + 1) }
 {
@@ -178,7 +178,7 @@ pub(crate) fn write_kicked<L: StepBook>(
     ensures marked { (c : Chain) → IsMarked (slice_cmp nat_cmp) kicked_at kicked.old.past c → IsMarked (slice_cmp nat_cmp) kicked_at kicked.new.past c }
     ensures ahead { kicked.new.ahead ≡ kicked.old.ahead }
     ensures root { kicked.new.root ≡ kicked.old.root }
-    ensures depth { length (counts kicked.new.past) ≡ length (counts kicked.old.past) }
+    ensures costs_stay { settled (counts kicked.new.past) ≡ settled (counts kicked.old.past) }
     ensures costs { OnOk result (AtMostMore (length records.now) (counts kicked.old.past) (counts kicked.new.past)) }
     ensures steps { OnOk result (steps.new ≤ steps.old + length records.now) }
 {

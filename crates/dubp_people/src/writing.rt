@@ -1,6 +1,7 @@
 ghost use Rattle.std.specs.Prelude.{◌≡◌, ℕ, ◌+◌, ◌≤◌, ◌∷◌, ◌++◌, List, length, OnOk};
 ghost use Rattle.std.specs.Cmp.Lexicographic.{slice_cmp};
 ghost use Rattle.std.specs.Ordering.{nat_cmp};
+ghost use Rattle.dubp_undo.specs.Numbers.{settled};
 ghost use Rattle.dubp_undo.specs.States.{states, AtMostMore};
 ghost use Rattle.dubp_chain.specs.Chains.{Chain};
 ghost use Rattle.dubp_steps.specs.Steps.{people_records};
@@ -46,11 +47,11 @@ fn write_indexes<L: StepBook>(
     ensures marked { (c : Chain) → ⟦<Indexes as Tables<Block>>⟧.marked indexes.old c → ⟦<Indexes as Tables<Block>>⟧.marked indexes.new c }
     ensures waits { (o : Chain) (i : ℕ) → ⟦<Indexes as Tables<Block>>⟧.waits indexes.old o i → ⟦<Indexes as Tables<Block>>⟧.waits indexes.new o i }
     ensures ahead { ⟦<Indexes as Tables<Block>>⟧.ahead_costs indexes.new ≡ ⟦<Indexes as Tables<Block>>⟧.ahead_costs indexes.old }
-    ensures depth { length (⟦<Indexes as Tables<Block>>⟧.costs indexes.new) ≡ length (⟦<Indexes as Tables<Block>>⟧.costs indexes.old) }
+    ensures costs_stay { settled (⟦<Indexes as Tables<Block>>⟧.costs indexes.new) ≡ settled (⟦<Indexes as Tables<Block>>⟧.costs indexes.old) }
     ensures queue_marked { (c : Chain) → ⟦<Queue as Tables<Entries>>⟧.marked queue.old (states queue_left c) → ⟦<Queue as Tables<Entries>>⟧.marked queue.new (states queue_left c) }
     ensures queue_waits { (o : Chain) (i : ℕ) → ⟦<Queue as Tables<Entries>>⟧.waits queue.old (states queue_left o) i → ⟦<Queue as Tables<Entries>>⟧.waits queue.new (states queue_left o) i }
     ensures queue_ahead { ⟦<Queue as Tables<Entries>>⟧.ahead_costs queue.new ≡ ⟦<Queue as Tables<Entries>>⟧.ahead_costs queue.old }
-    ensures queue_depth { length (⟦<Queue as Tables<Entries>>⟧.costs queue.new) ≡ length (⟦<Queue as Tables<Entries>>⟧.costs queue.old) }
+    ensures queue_costs_stay { settled (⟦<Queue as Tables<Entries>>⟧.costs queue.new) ≡ settled (⟦<Queue as Tables<Entries>>⟧.costs queue.old) }
     ensures costs { OnOk result ((c : Chain) → ⟦<Facts as Tables<Block>>⟧.at facts.now c → IsWritten c block.now next.now → IsSince c since → ⟦<Indexes as Tables<Block>>⟧.at indexes.old c → ⟦<Queue as Tables<Entries>>⟧.at queue.old (states queue_left c) → AtMostMore (most_sets block.now + (membership_sets c block.now + certification_sets c block.now)) (⟦<Indexes as Tables<Block>>⟧.costs indexes.old) (⟦<Indexes as Tables<Block>>⟧.costs indexes.new)) }
     ensures queue_costs { OnOk result ((c : Chain) → ⟦<Facts as Tables<Block>>⟧.at facts.now c → IsWritten c block.now next.now → IsSince c since → ⟦<Indexes as Tables<Block>>⟧.at indexes.old c → ⟦<Queue as Tables<Entries>>⟧.at queue.old (states queue_left c) → AtMostMore (queue_sets c block.now) (⟦<Queue as Tables<Entries>>⟧.costs queue.old) (⟦<Queue as Tables<Entries>>⟧.costs queue.new)) }
     ensures steps { OnOk result ((c : Chain) → ⟦<Facts as Tables<Block>>⟧.at facts.now c → IsWritten c block.now next.now → IsSince c since → ⟦<Indexes as Tables<Block>>⟧.at indexes.old c → ⟦<Queue as Tables<Entries>>⟧.at queue.old (states queue_left c) → steps.new ≤ steps.old + (most_sets block.now + (membership_sets c block.now + certification_sets c block.now + queue_sets c block.now))) }
@@ -87,7 +88,7 @@ pub(crate) fn write_others<L: StepBook>(
     ensures marked { (c : Chain) → ⟦<Others as Tables<Block>>⟧.marked others.old c → ⟦<Others as Tables<Block>>⟧.marked others.new c }
     ensures waits { (o : Chain) (i : ℕ) → ⟦<Others as Tables<Block>>⟧.waits others.old o i → ⟦<Others as Tables<Block>>⟧.waits others.new o i }
     ensures ahead { ⟦<Others as Tables<Block>>⟧.ahead_costs others.new ≡ ⟦<Others as Tables<Block>>⟧.ahead_costs others.old }
-    ensures depth { length (⟦<Others as Tables<Block>>⟧.costs others.new) ≡ length (⟦<Others as Tables<Block>>⟧.costs others.old) }
+    ensures costs_stay { settled (⟦<Others as Tables<Block>>⟧.costs others.new) ≡ settled (⟦<Others as Tables<Block>>⟧.costs others.old) }
     ensures costs { OnOk result (AtMostMore (length records.now + 2) (⟦<Others as Tables<Block>>⟧.costs others.old) (⟦<Others as Tables<Block>>⟧.costs others.new)) }
     ensures steps { OnOk result (steps.new ≤ steps.old + (length records.now + 2)) }
 {
@@ -115,7 +116,7 @@ fn write_facts<L: StepBook>(
     ensures marked { (c : Chain) → ⟦<Facts as Tables<Block>>⟧.marked facts.old c → ⟦<Facts as Tables<Block>>⟧.marked facts.new c }
     ensures waits { (o : Chain) (i : ℕ) → ⟦<Facts as Tables<Block>>⟧.waits facts.old o i → ⟦<Facts as Tables<Block>>⟧.waits facts.new o i }
     ensures ahead { ⟦<Facts as Tables<Block>>⟧.ahead_costs facts.new ≡ ⟦<Facts as Tables<Block>>⟧.ahead_costs facts.old }
-    ensures depth { length (⟦<Facts as Tables<Block>>⟧.costs facts.new) ≡ length (⟦<Facts as Tables<Block>>⟧.costs facts.old) }
+    ensures costs_stay { settled (⟦<Facts as Tables<Block>>⟧.costs facts.new) ≡ settled (⟦<Facts as Tables<Block>>⟧.costs facts.old) }
     ensures costs { OnOk result (AtMostMore 2 (⟦<Facts as Tables<Block>>⟧.costs facts.old) (⟦<Facts as Tables<Block>>⟧.costs facts.new)) }
     ensures steps { OnOk result (steps.new ≤ steps.old + 2) }
 {
@@ -143,11 +144,11 @@ pub(crate) fn write_lines<L: StepBook>(
     ensures marked { (c : Chain) → ⟦<Indexes as Tables<Block>>⟧.marked indexes.old c → ⟦<Indexes as Tables<Block>>⟧.marked indexes.new c }
     ensures waits { (o : Chain) (i : ℕ) → ⟦<Indexes as Tables<Block>>⟧.waits indexes.old o i → ⟦<Indexes as Tables<Block>>⟧.waits indexes.new o i }
     ensures ahead { ⟦<Indexes as Tables<Block>>⟧.ahead_costs indexes.new ≡ ⟦<Indexes as Tables<Block>>⟧.ahead_costs indexes.old }
-    ensures depth { length (⟦<Indexes as Tables<Block>>⟧.costs indexes.new) ≡ length (⟦<Indexes as Tables<Block>>⟧.costs indexes.old) }
+    ensures costs_stay { settled (⟦<Indexes as Tables<Block>>⟧.costs indexes.new) ≡ settled (⟦<Indexes as Tables<Block>>⟧.costs indexes.old) }
     ensures others_marked { (c : Chain) → ⟦<Others as Tables<Block>>⟧.marked others.old c → ⟦<Others as Tables<Block>>⟧.marked others.new c }
     ensures others_waits { (o : Chain) (i : ℕ) → ⟦<Others as Tables<Block>>⟧.waits others.old o i → ⟦<Others as Tables<Block>>⟧.waits others.new o i }
     ensures others_ahead { ⟦<Others as Tables<Block>>⟧.ahead_costs others.new ≡ ⟦<Others as Tables<Block>>⟧.ahead_costs others.old }
-    ensures others_depth { length (⟦<Others as Tables<Block>>⟧.costs others.new) ≡ length (⟦<Others as Tables<Block>>⟧.costs others.old) }
+    ensures others_costs_stay { settled (⟦<Others as Tables<Block>>⟧.costs others.new) ≡ settled (⟦<Others as Tables<Block>>⟧.costs others.old) }
     ensures costs { OnOk result ((c : Chain) → IsWritten c block.now next.now → IsSince c since → ⟦<Indexes as Tables<Block>>⟧.at indexes.old c → ⟦<Others as Tables<Block>>⟧.at others.old c → AtMostMore (most_sets block.now + (membership_sets c block.now + certification_sets c block.now)) (⟦<Indexes as Tables<Block>>⟧.costs indexes.old) (⟦<Indexes as Tables<Block>>⟧.costs indexes.new)) }
     ensures others_costs { OnOk result ((c : Chain) → IsWritten c block.now next.now → IsSince c since → ⟦<Indexes as Tables<Block>>⟧.at indexes.old c → ⟦<Others as Tables<Block>>⟧.at others.old c → AtMostMore (queue_sets c block.now) (⟦<Others as Tables<Block>>⟧.costs others.old) (⟦<Others as Tables<Block>>⟧.costs others.new)) }
     ensures steps { OnOk result ((c : Chain) → IsWritten c block.now next.now → IsSince c since → ⟦<Indexes as Tables<Block>>⟧.at indexes.old c → ⟦<Others as Tables<Block>>⟧.at others.old c → steps.new ≤ steps.old + (most_sets block.now + (membership_sets c block.now + certification_sets c block.now + queue_sets c block.now))) }

@@ -1,5 +1,6 @@
 ghost use Rattle.std.specs.Prelude.{◌≡◌, ℕ, ◌+◌, ◌*◌, ◌≤◌, List, ◌∷◌, length, OnOk, Option, option_map, fold, IfSome};
 ghost use Rattle.std.specs.FinMap.{insert, empty};
+ghost use Rattle.dubp_undo.specs.Numbers.{settled};
 ghost use Rattle.dubp_undo.specs.States.{AtMostMore, newest};
 ghost use Rattle.dubp_chain.specs.Chains.{Chain};
 ghost use Rattle.dubp_chain.specs.Tables.{CertificationRow};
@@ -35,7 +36,7 @@ pub(crate) fn put_row<L: StepBook>(
     ensures certifications_marked { (s : List Rows) → ⟦<CIndex as Tables<CertRows>>⟧.marked certifications.old s → ⟦<CIndex as Tables<CertRows>>⟧.marked certifications.new s }
     ensures certifications_waits { (o : List Rows) (i : ℕ) → ⟦<CIndex as Tables<CertRows>>⟧.waits certifications.old o i → ⟦<CIndex as Tables<CertRows>>⟧.waits certifications.new o i }
     ensures certifications_ahead { ⟦<CIndex as Tables<CertRows>>⟧.ahead_costs certifications.new ≡ ⟦<CIndex as Tables<CertRows>>⟧.ahead_costs certifications.old }
-    ensures certifications_depth { length (⟦<CIndex as Tables<CertRows>>⟧.costs certifications.new) ≡ length (⟦<CIndex as Tables<CertRows>>⟧.costs certifications.old) }
+    ensures certifications_costs_stay { settled (⟦<CIndex as Tables<CertRows>>⟧.costs certifications.new) ≡ settled (⟦<CIndex as Tables<CertRows>>⟧.costs certifications.old) }
     ensures certifications_costs { OnOk result (AtMostMore 5 (⟦<CIndex as Tables<CertRows>>⟧.costs certifications.old) (⟦<CIndex as Tables<CertRows>>⟧.costs certifications.new)) }
     ensures steps { OnOk result (steps.new ≤ steps.old + 5) }
 {
@@ -58,7 +59,7 @@ fn take_end_out<L: StepBook>(
     ensures queue_marked { (s : List Queued) → ⟦<Queue as Tables<Entries>>⟧.marked queue.old s → ⟦<Queue as Tables<Entries>>⟧.marked queue.new s }
     ensures queue_waits { (o : List Queued) (i : ℕ) → ⟦<Queue as Tables<Entries>>⟧.waits queue.old o i → ⟦<Queue as Tables<Entries>>⟧.waits queue.new o i }
     ensures queue_ahead { ⟦<Queue as Tables<Entries>>⟧.ahead_costs queue.new ≡ ⟦<Queue as Tables<Entries>>⟧.ahead_costs queue.old }
-    ensures queue_depth { length (⟦<Queue as Tables<Entries>>⟧.costs queue.new) ≡ length (⟦<Queue as Tables<Entries>>⟧.costs queue.old) }
+    ensures queue_costs_stay { settled (⟦<Queue as Tables<Entries>>⟧.costs queue.new) ≡ settled (⟦<Queue as Tables<Entries>>⟧.costs queue.old) }
     ensures queue_costs { OnOk result (AtMostMore 1 (⟦<Queue as Tables<Entries>>⟧.costs queue.old) (⟦<Queue as Tables<Entries>>⟧.costs queue.new)) }
     ensures steps { OnOk result (steps.new ≤ steps.old + 1) }
 {
@@ -85,7 +86,7 @@ fn replan<L: StepBook>(
     ensures queue_marked { (s : List Queued) → ⟦<Queue as Tables<Entries>>⟧.marked queue.old s → ⟦<Queue as Tables<Entries>>⟧.marked queue.new s }
     ensures queue_waits { (o : List Queued) (i : ℕ) → ⟦<Queue as Tables<Entries>>⟧.waits queue.old o i → ⟦<Queue as Tables<Entries>>⟧.waits queue.new o i }
     ensures queue_ahead { ⟦<Queue as Tables<Entries>>⟧.ahead_costs queue.new ≡ ⟦<Queue as Tables<Entries>>⟧.ahead_costs queue.old }
-    ensures queue_depth { length (⟦<Queue as Tables<Entries>>⟧.costs queue.new) ≡ length (⟦<Queue as Tables<Entries>>⟧.costs queue.old) }
+    ensures queue_costs_stay { settled (⟦<Queue as Tables<Entries>>⟧.costs queue.new) ≡ settled (⟦<Queue as Tables<Entries>>⟧.costs queue.old) }
     ensures queue_costs { OnOk result (AtMostMore 2 (⟦<Queue as Tables<Entries>>⟧.costs queue.old) (⟦<Queue as Tables<Entries>>⟧.costs queue.new)) }
     ensures steps { OnOk result (steps.new ≤ steps.old + 2) }
 {
@@ -112,11 +113,11 @@ fn certify<L: StepBook>(
     ensures certifications_marked { (s : List Rows) → ⟦<CIndex as Tables<CertRows>>⟧.marked certifications.old s → ⟦<CIndex as Tables<CertRows>>⟧.marked certifications.new s }
     ensures certifications_waits { (o : List Rows) (i : ℕ) → ⟦<CIndex as Tables<CertRows>>⟧.waits certifications.old o i → ⟦<CIndex as Tables<CertRows>>⟧.waits certifications.new o i }
     ensures certifications_ahead { ⟦<CIndex as Tables<CertRows>>⟧.ahead_costs certifications.new ≡ ⟦<CIndex as Tables<CertRows>>⟧.ahead_costs certifications.old }
-    ensures certifications_depth { length (⟦<CIndex as Tables<CertRows>>⟧.costs certifications.new) ≡ length (⟦<CIndex as Tables<CertRows>>⟧.costs certifications.old) }
+    ensures certifications_costs_stay { settled (⟦<CIndex as Tables<CertRows>>⟧.costs certifications.new) ≡ settled (⟦<CIndex as Tables<CertRows>>⟧.costs certifications.old) }
     ensures queue_marked { (s : List Queued) → ⟦<Queue as Tables<Entries>>⟧.marked queue.old s → ⟦<Queue as Tables<Entries>>⟧.marked queue.new s }
     ensures queue_waits { (o : List Queued) (i : ℕ) → ⟦<Queue as Tables<Entries>>⟧.waits queue.old o i → ⟦<Queue as Tables<Entries>>⟧.waits queue.new o i }
     ensures queue_ahead { ⟦<Queue as Tables<Entries>>⟧.ahead_costs queue.new ≡ ⟦<Queue as Tables<Entries>>⟧.ahead_costs queue.old }
-    ensures queue_depth { length (⟦<Queue as Tables<Entries>>⟧.costs queue.new) ≡ length (⟦<Queue as Tables<Entries>>⟧.costs queue.old) }
+    ensures queue_costs_stay { settled (⟦<Queue as Tables<Entries>>⟧.costs queue.new) ≡ settled (⟦<Queue as Tables<Entries>>⟧.costs queue.old) }
     ensures certifications_costs { OnOk result (AtMostMore 5 (⟦<CIndex as Tables<CertRows>>⟧.costs certifications.old) (⟦<CIndex as Tables<CertRows>>⟧.costs certifications.new)) }
     ensures queue_costs { OnOk result (AtMostMore 2 (⟦<Queue as Tables<Entries>>⟧.costs queue.old) (⟦<Queue as Tables<Entries>>⟧.costs queue.new)) }
     ensures steps { OnOk result (steps.new ≤ steps.old + 7) }
@@ -148,11 +149,11 @@ fn certify_all<L: StepBook>(
     ensures certifications_marked { (s : List Rows) → ⟦<CIndex as Tables<CertRows>>⟧.marked certifications.old s → ⟦<CIndex as Tables<CertRows>>⟧.marked certifications.new s }
     ensures certifications_waits { (o : List Rows) (i : ℕ) → ⟦<CIndex as Tables<CertRows>>⟧.waits certifications.old o i → ⟦<CIndex as Tables<CertRows>>⟧.waits certifications.new o i }
     ensures certifications_ahead { ⟦<CIndex as Tables<CertRows>>⟧.ahead_costs certifications.new ≡ ⟦<CIndex as Tables<CertRows>>⟧.ahead_costs certifications.old }
-    ensures certifications_depth { length (⟦<CIndex as Tables<CertRows>>⟧.costs certifications.new) ≡ length (⟦<CIndex as Tables<CertRows>>⟧.costs certifications.old) }
+    ensures certifications_costs_stay { settled (⟦<CIndex as Tables<CertRows>>⟧.costs certifications.new) ≡ settled (⟦<CIndex as Tables<CertRows>>⟧.costs certifications.old) }
     ensures queue_marked { (s : List Queued) → ⟦<Queue as Tables<Entries>>⟧.marked queue.old s → ⟦<Queue as Tables<Entries>>⟧.marked queue.new s }
     ensures queue_waits { (o : List Queued) (i : ℕ) → ⟦<Queue as Tables<Entries>>⟧.waits queue.old o i → ⟦<Queue as Tables<Entries>>⟧.waits queue.new o i }
     ensures queue_ahead { ⟦<Queue as Tables<Entries>>⟧.ahead_costs queue.new ≡ ⟦<Queue as Tables<Entries>>⟧.ahead_costs queue.old }
-    ensures queue_depth { length (⟦<Queue as Tables<Entries>>⟧.costs queue.new) ≡ length (⟦<Queue as Tables<Entries>>⟧.costs queue.old) }
+    ensures queue_costs_stay { settled (⟦<Queue as Tables<Entries>>⟧.costs queue.new) ≡ settled (⟦<Queue as Tables<Entries>>⟧.costs queue.old) }
     ensures certifications_costs { OnOk result (AtMostMore (5 * length lines.now) (⟦<CIndex as Tables<CertRows>>⟧.costs certifications.old) (⟦<CIndex as Tables<CertRows>>⟧.costs certifications.new)) }
     ensures queue_costs { OnOk result (AtMostMore (2 * length lines.now) (⟦<Queue as Tables<Entries>>⟧.costs queue.old) (⟦<Queue as Tables<Entries>>⟧.costs queue.new)) }
     ensures steps { OnOk result (steps.new ≤ steps.old + 7 * length lines.now) }
@@ -181,11 +182,11 @@ pub fn write_certifications<L: StepBook>(
     ensures certifications_marked { (s : List Rows) → ⟦<CIndex as Tables<CertRows>>⟧.marked certifications.old s → ⟦<CIndex as Tables<CertRows>>⟧.marked certifications.new s }
     ensures certifications_waits { (o : List Rows) (i : ℕ) → ⟦<CIndex as Tables<CertRows>>⟧.waits certifications.old o i → ⟦<CIndex as Tables<CertRows>>⟧.waits certifications.new o i }
     ensures certifications_ahead { ⟦<CIndex as Tables<CertRows>>⟧.ahead_costs certifications.new ≡ ⟦<CIndex as Tables<CertRows>>⟧.ahead_costs certifications.old }
-    ensures certifications_depth { length (⟦<CIndex as Tables<CertRows>>⟧.costs certifications.new) ≡ length (⟦<CIndex as Tables<CertRows>>⟧.costs certifications.old) }
+    ensures certifications_costs_stay { settled (⟦<CIndex as Tables<CertRows>>⟧.costs certifications.new) ≡ settled (⟦<CIndex as Tables<CertRows>>⟧.costs certifications.old) }
     ensures queue_marked { (s : List Queued) → ⟦<Queue as Tables<Entries>>⟧.marked queue.old s → ⟦<Queue as Tables<Entries>>⟧.marked queue.new s }
     ensures queue_waits { (o : List Queued) (i : ℕ) → ⟦<Queue as Tables<Entries>>⟧.waits queue.old o i → ⟦<Queue as Tables<Entries>>⟧.waits queue.new o i }
     ensures queue_ahead { ⟦<Queue as Tables<Entries>>⟧.ahead_costs queue.new ≡ ⟦<Queue as Tables<Entries>>⟧.ahead_costs queue.old }
-    ensures queue_depth { length (⟦<Queue as Tables<Entries>>⟧.costs queue.new) ≡ length (⟦<Queue as Tables<Entries>>⟧.costs queue.old) }
+    ensures queue_costs_stay { settled (⟦<Queue as Tables<Entries>>⟧.costs queue.new) ≡ settled (⟦<Queue as Tables<Entries>>⟧.costs queue.old) }
     ensures certifications_costs { OnOk result (AtMostMore (5 * length block.now.certifications) (⟦<CIndex as Tables<CertRows>>⟧.costs certifications.old) (⟦<CIndex as Tables<CertRows>>⟧.costs certifications.new)) }
     ensures queue_costs { OnOk result (AtMostMore (2 * length block.now.certifications) (⟦<Queue as Tables<Entries>>⟧.costs queue.old) (⟦<Queue as Tables<Entries>>⟧.costs queue.new)) }
     ensures steps { OnOk result (steps.new ≤ steps.old + 7 * length block.now.certifications) }

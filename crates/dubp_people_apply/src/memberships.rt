@@ -1,4 +1,5 @@
 ghost use Rattle.std.specs.Prelude.{◌≡◌, ℕ, ◌+◌, ◌*◌, ◌≤◌, List, length, OnOk, option_map, fold};
+ghost use Rattle.dubp_undo.specs.Numbers.{settled};
 ghost use Rattle.dubp_undo.specs.States.{AtMostMore};
 ghost use Rattle.dubp_block.specs.declared.block.Block.{Block as BlockValue};
 ghost use Rattle.dubp_chain.specs.Chains.{Chain};
@@ -37,11 +38,11 @@ fn enter<L: StepBook>(
     ensures memberships_marked { (s : List Members) → ⟦<MIndex as Tables<MemberRows>>⟧.marked memberships.old s → ⟦<MIndex as Tables<MemberRows>>⟧.marked memberships.new s }
     ensures memberships_waits { (o : List Members) (i : ℕ) → ⟦<MIndex as Tables<MemberRows>>⟧.waits memberships.old o i → ⟦<MIndex as Tables<MemberRows>>⟧.waits memberships.new o i }
     ensures memberships_ahead { ⟦<MIndex as Tables<MemberRows>>⟧.ahead_costs memberships.new ≡ ⟦<MIndex as Tables<MemberRows>>⟧.ahead_costs memberships.old }
-    ensures memberships_depth { length (⟦<MIndex as Tables<MemberRows>>⟧.costs memberships.new) ≡ length (⟦<MIndex as Tables<MemberRows>>⟧.costs memberships.old) }
+    ensures memberships_costs_stay { settled (⟦<MIndex as Tables<MemberRows>>⟧.costs memberships.new) ≡ settled (⟦<MIndex as Tables<MemberRows>>⟧.costs memberships.old) }
     ensures queue_marked { (s : List Queued) → ⟦<Queue as Tables<Entries>>⟧.marked queue.old s → ⟦<Queue as Tables<Entries>>⟧.marked queue.new s }
     ensures queue_waits { (o : List Queued) (i : ℕ) → ⟦<Queue as Tables<Entries>>⟧.waits queue.old o i → ⟦<Queue as Tables<Entries>>⟧.waits queue.new o i }
     ensures queue_ahead { ⟦<Queue as Tables<Entries>>⟧.ahead_costs queue.new ≡ ⟦<Queue as Tables<Entries>>⟧.ahead_costs queue.old }
-    ensures queue_depth { length (⟦<Queue as Tables<Entries>>⟧.costs queue.new) ≡ length (⟦<Queue as Tables<Entries>>⟧.costs queue.old) }
+    ensures queue_costs_stay { settled (⟦<Queue as Tables<Entries>>⟧.costs queue.new) ≡ settled (⟦<Queue as Tables<Entries>>⟧.costs queue.old) }
     ensures memberships_costs { OnOk result (AtMostMore 1 (⟦<MIndex as Tables<MemberRows>>⟧.costs memberships.old) (⟦<MIndex as Tables<MemberRows>>⟧.costs memberships.new)) }
     ensures queue_costs { OnOk result (AtMostMore 4 (⟦<Queue as Tables<Entries>>⟧.costs queue.old) (⟦<Queue as Tables<Entries>>⟧.costs queue.new)) }
     ensures steps { OnOk result (steps.new ≤ steps.old + 5) }
@@ -76,11 +77,11 @@ fn enter_all<L: StepBook>(
     ensures memberships_marked { (s : List Members) → ⟦<MIndex as Tables<MemberRows>>⟧.marked memberships.old s → ⟦<MIndex as Tables<MemberRows>>⟧.marked memberships.new s }
     ensures memberships_waits { (o : List Members) (i : ℕ) → ⟦<MIndex as Tables<MemberRows>>⟧.waits memberships.old o i → ⟦<MIndex as Tables<MemberRows>>⟧.waits memberships.new o i }
     ensures memberships_ahead { ⟦<MIndex as Tables<MemberRows>>⟧.ahead_costs memberships.new ≡ ⟦<MIndex as Tables<MemberRows>>⟧.ahead_costs memberships.old }
-    ensures memberships_depth { length (⟦<MIndex as Tables<MemberRows>>⟧.costs memberships.new) ≡ length (⟦<MIndex as Tables<MemberRows>>⟧.costs memberships.old) }
+    ensures memberships_costs_stay { settled (⟦<MIndex as Tables<MemberRows>>⟧.costs memberships.new) ≡ settled (⟦<MIndex as Tables<MemberRows>>⟧.costs memberships.old) }
     ensures queue_marked { (s : List Queued) → ⟦<Queue as Tables<Entries>>⟧.marked queue.old s → ⟦<Queue as Tables<Entries>>⟧.marked queue.new s }
     ensures queue_waits { (o : List Queued) (i : ℕ) → ⟦<Queue as Tables<Entries>>⟧.waits queue.old o i → ⟦<Queue as Tables<Entries>>⟧.waits queue.new o i }
     ensures queue_ahead { ⟦<Queue as Tables<Entries>>⟧.ahead_costs queue.new ≡ ⟦<Queue as Tables<Entries>>⟧.ahead_costs queue.old }
-    ensures queue_depth { length (⟦<Queue as Tables<Entries>>⟧.costs queue.new) ≡ length (⟦<Queue as Tables<Entries>>⟧.costs queue.old) }
+    ensures queue_costs_stay { settled (⟦<Queue as Tables<Entries>>⟧.costs queue.new) ≡ settled (⟦<Queue as Tables<Entries>>⟧.costs queue.old) }
     ensures memberships_costs { OnOk result (AtMostMore (length lines.now) (⟦<MIndex as Tables<MemberRows>>⟧.costs memberships.old) (⟦<MIndex as Tables<MemberRows>>⟧.costs memberships.new)) }
     ensures queue_costs { OnOk result (AtMostMore (4 * length lines.now) (⟦<Queue as Tables<Entries>>⟧.costs queue.old) (⟦<Queue as Tables<Entries>>⟧.costs queue.new)) }
     ensures steps { OnOk result (steps.new ≤ steps.old + 5 * length lines.now) }
@@ -104,7 +105,7 @@ fn leave<L: StepBook>(
     ensures memberships_marked { (s : List Members) → ⟦<MIndex as Tables<MemberRows>>⟧.marked memberships.old s → ⟦<MIndex as Tables<MemberRows>>⟧.marked memberships.new s }
     ensures memberships_waits { (o : List Members) (i : ℕ) → ⟦<MIndex as Tables<MemberRows>>⟧.waits memberships.old o i → ⟦<MIndex as Tables<MemberRows>>⟧.waits memberships.new o i }
     ensures memberships_ahead { ⟦<MIndex as Tables<MemberRows>>⟧.ahead_costs memberships.new ≡ ⟦<MIndex as Tables<MemberRows>>⟧.ahead_costs memberships.old }
-    ensures memberships_depth { length (⟦<MIndex as Tables<MemberRows>>⟧.costs memberships.new) ≡ length (⟦<MIndex as Tables<MemberRows>>⟧.costs memberships.old) }
+    ensures memberships_costs_stay { settled (⟦<MIndex as Tables<MemberRows>>⟧.costs memberships.new) ≡ settled (⟦<MIndex as Tables<MemberRows>>⟧.costs memberships.old) }
     ensures memberships_costs { OnOk result (AtMostMore 1 (⟦<MIndex as Tables<MemberRows>>⟧.costs memberships.old) (⟦<MIndex as Tables<MemberRows>>⟧.costs memberships.new)) }
     ensures steps { OnOk result (steps.new ≤ steps.old + 1) }
 {
@@ -135,7 +136,7 @@ fn leave_all<L: StepBook>(
     ensures memberships_marked { (s : List Members) → ⟦<MIndex as Tables<MemberRows>>⟧.marked memberships.old s → ⟦<MIndex as Tables<MemberRows>>⟧.marked memberships.new s }
     ensures memberships_waits { (o : List Members) (i : ℕ) → ⟦<MIndex as Tables<MemberRows>>⟧.waits memberships.old o i → ⟦<MIndex as Tables<MemberRows>>⟧.waits memberships.new o i }
     ensures memberships_ahead { ⟦<MIndex as Tables<MemberRows>>⟧.ahead_costs memberships.new ≡ ⟦<MIndex as Tables<MemberRows>>⟧.ahead_costs memberships.old }
-    ensures memberships_depth { length (⟦<MIndex as Tables<MemberRows>>⟧.costs memberships.new) ≡ length (⟦<MIndex as Tables<MemberRows>>⟧.costs memberships.old) }
+    ensures memberships_costs_stay { settled (⟦<MIndex as Tables<MemberRows>>⟧.costs memberships.new) ≡ settled (⟦<MIndex as Tables<MemberRows>>⟧.costs memberships.old) }
     ensures memberships_costs { OnOk result (AtMostMore (length lines.now) (⟦<MIndex as Tables<MemberRows>>⟧.costs memberships.old) (⟦<MIndex as Tables<MemberRows>>⟧.costs memberships.new)) }
     ensures steps { OnOk result (steps.new ≤ steps.old + length lines.now) }
 {
@@ -159,11 +160,11 @@ fn revoke<L: StepBook>(
     ensures memberships_marked { (s : List Members) → ⟦<MIndex as Tables<MemberRows>>⟧.marked memberships.old s → ⟦<MIndex as Tables<MemberRows>>⟧.marked memberships.new s }
     ensures memberships_waits { (o : List Members) (i : ℕ) → ⟦<MIndex as Tables<MemberRows>>⟧.waits memberships.old o i → ⟦<MIndex as Tables<MemberRows>>⟧.waits memberships.new o i }
     ensures memberships_ahead { ⟦<MIndex as Tables<MemberRows>>⟧.ahead_costs memberships.new ≡ ⟦<MIndex as Tables<MemberRows>>⟧.ahead_costs memberships.old }
-    ensures memberships_depth { length (⟦<MIndex as Tables<MemberRows>>⟧.costs memberships.new) ≡ length (⟦<MIndex as Tables<MemberRows>>⟧.costs memberships.old) }
+    ensures memberships_costs_stay { settled (⟦<MIndex as Tables<MemberRows>>⟧.costs memberships.new) ≡ settled (⟦<MIndex as Tables<MemberRows>>⟧.costs memberships.old) }
     ensures queue_marked { (s : List Queued) → ⟦<Queue as Tables<Entries>>⟧.marked queue.old s → ⟦<Queue as Tables<Entries>>⟧.marked queue.new s }
     ensures queue_waits { (o : List Queued) (i : ℕ) → ⟦<Queue as Tables<Entries>>⟧.waits queue.old o i → ⟦<Queue as Tables<Entries>>⟧.waits queue.new o i }
     ensures queue_ahead { ⟦<Queue as Tables<Entries>>⟧.ahead_costs queue.new ≡ ⟦<Queue as Tables<Entries>>⟧.ahead_costs queue.old }
-    ensures queue_depth { length (⟦<Queue as Tables<Entries>>⟧.costs queue.new) ≡ length (⟦<Queue as Tables<Entries>>⟧.costs queue.old) }
+    ensures queue_costs_stay { settled (⟦<Queue as Tables<Entries>>⟧.costs queue.new) ≡ settled (⟦<Queue as Tables<Entries>>⟧.costs queue.old) }
     ensures memberships_costs { OnOk result (AtMostMore 1 (⟦<MIndex as Tables<MemberRows>>⟧.costs memberships.old) (⟦<MIndex as Tables<MemberRows>>⟧.costs memberships.new)) }
     ensures queue_costs { OnOk result (AtMostMore 1 (⟦<Queue as Tables<Entries>>⟧.costs queue.old) (⟦<Queue as Tables<Entries>>⟧.costs queue.new)) }
     ensures steps { OnOk result (steps.new ≤ steps.old + 2) }
@@ -196,11 +197,11 @@ fn revoke_all<L: StepBook>(
     ensures memberships_marked { (s : List Members) → ⟦<MIndex as Tables<MemberRows>>⟧.marked memberships.old s → ⟦<MIndex as Tables<MemberRows>>⟧.marked memberships.new s }
     ensures memberships_waits { (o : List Members) (i : ℕ) → ⟦<MIndex as Tables<MemberRows>>⟧.waits memberships.old o i → ⟦<MIndex as Tables<MemberRows>>⟧.waits memberships.new o i }
     ensures memberships_ahead { ⟦<MIndex as Tables<MemberRows>>⟧.ahead_costs memberships.new ≡ ⟦<MIndex as Tables<MemberRows>>⟧.ahead_costs memberships.old }
-    ensures memberships_depth { length (⟦<MIndex as Tables<MemberRows>>⟧.costs memberships.new) ≡ length (⟦<MIndex as Tables<MemberRows>>⟧.costs memberships.old) }
+    ensures memberships_costs_stay { settled (⟦<MIndex as Tables<MemberRows>>⟧.costs memberships.new) ≡ settled (⟦<MIndex as Tables<MemberRows>>⟧.costs memberships.old) }
     ensures queue_marked { (s : List Queued) → ⟦<Queue as Tables<Entries>>⟧.marked queue.old s → ⟦<Queue as Tables<Entries>>⟧.marked queue.new s }
     ensures queue_waits { (o : List Queued) (i : ℕ) → ⟦<Queue as Tables<Entries>>⟧.waits queue.old o i → ⟦<Queue as Tables<Entries>>⟧.waits queue.new o i }
     ensures queue_ahead { ⟦<Queue as Tables<Entries>>⟧.ahead_costs queue.new ≡ ⟦<Queue as Tables<Entries>>⟧.ahead_costs queue.old }
-    ensures queue_depth { length (⟦<Queue as Tables<Entries>>⟧.costs queue.new) ≡ length (⟦<Queue as Tables<Entries>>⟧.costs queue.old) }
+    ensures queue_costs_stay { settled (⟦<Queue as Tables<Entries>>⟧.costs queue.new) ≡ settled (⟦<Queue as Tables<Entries>>⟧.costs queue.old) }
     ensures memberships_costs { OnOk result (AtMostMore (length lines.now) (⟦<MIndex as Tables<MemberRows>>⟧.costs memberships.old) (⟦<MIndex as Tables<MemberRows>>⟧.costs memberships.new)) }
     ensures queue_costs { OnOk result (AtMostMore (length lines.now) (⟦<Queue as Tables<Entries>>⟧.costs queue.old) (⟦<Queue as Tables<Entries>>⟧.costs queue.new)) }
     ensures steps { OnOk result (steps.new ≤ steps.old + 2 * length lines.now) }
@@ -229,11 +230,11 @@ pub fn write_memberships<L: StepBook>(
     ensures memberships_marked { (s : List Members) → ⟦<MIndex as Tables<MemberRows>>⟧.marked memberships.old s → ⟦<MIndex as Tables<MemberRows>>⟧.marked memberships.new s }
     ensures memberships_waits { (o : List Members) (i : ℕ) → ⟦<MIndex as Tables<MemberRows>>⟧.waits memberships.old o i → ⟦<MIndex as Tables<MemberRows>>⟧.waits memberships.new o i }
     ensures memberships_ahead { ⟦<MIndex as Tables<MemberRows>>⟧.ahead_costs memberships.new ≡ ⟦<MIndex as Tables<MemberRows>>⟧.ahead_costs memberships.old }
-    ensures memberships_depth { length (⟦<MIndex as Tables<MemberRows>>⟧.costs memberships.new) ≡ length (⟦<MIndex as Tables<MemberRows>>⟧.costs memberships.old) }
+    ensures memberships_costs_stay { settled (⟦<MIndex as Tables<MemberRows>>⟧.costs memberships.new) ≡ settled (⟦<MIndex as Tables<MemberRows>>⟧.costs memberships.old) }
     ensures queue_marked { (s : List Queued) → ⟦<Queue as Tables<Entries>>⟧.marked queue.old s → ⟦<Queue as Tables<Entries>>⟧.marked queue.new s }
     ensures queue_waits { (o : List Queued) (i : ℕ) → ⟦<Queue as Tables<Entries>>⟧.waits queue.old o i → ⟦<Queue as Tables<Entries>>⟧.waits queue.new o i }
     ensures queue_ahead { ⟦<Queue as Tables<Entries>>⟧.ahead_costs queue.new ≡ ⟦<Queue as Tables<Entries>>⟧.ahead_costs queue.old }
-    ensures queue_depth { length (⟦<Queue as Tables<Entries>>⟧.costs queue.new) ≡ length (⟦<Queue as Tables<Entries>>⟧.costs queue.old) }
+    ensures queue_costs_stay { settled (⟦<Queue as Tables<Entries>>⟧.costs queue.new) ≡ settled (⟦<Queue as Tables<Entries>>⟧.costs queue.old) }
     ensures memberships_costs { OnOk result (AtMostMore (length block.now.joiners + length block.now.actives + length block.now.leavers + length block.now.revoked) (⟦<MIndex as Tables<MemberRows>>⟧.costs memberships.old) (⟦<MIndex as Tables<MemberRows>>⟧.costs memberships.new)) }
     ensures queue_costs { OnOk result (AtMostMore (4 * (length block.now.joiners + length block.now.actives) + length block.now.revoked) (⟦<Queue as Tables<Entries>>⟧.costs queue.old) (⟦<Queue as Tables<Entries>>⟧.costs queue.new)) }
     ensures steps { OnOk result (steps.new ≤ steps.old + (5 * (length block.now.joiners + length block.now.actives) + length block.now.leavers + 2 * length block.now.revoked)) }

@@ -1,7 +1,8 @@
-ghost use Rattle.std.specs.Prelude.{◌≡◌, ℕ, ◌+◌, ◌≤◌, List, ◌∷◌, true, false, ◌||◌, ◌&&◌, if◌then◌else◌, length, OnOk, IfSome, IfNone, option_map, Option, ◌*◌};
+ghost use Rattle.std.specs.Prelude.{◌≡◌, ℕ, ◌+◌, ◌≤◌, List, ◌∷◌, true, false, ◌||◌, ◌&&◌, if◌then◌else◌, OnOk, IfSome, IfNone, option_map, Option, ◌*◌};
 ghost use Rattle.std.specs.Ordering.{is_eq};
 ghost use Rattle.std.specs.BTreeSet.{contains, btree_set_len};
 ghost use Rattle.dubp_atoms.specs.Same.{same_text};
+ghost use Rattle.dubp_undo.specs.Numbers.{settled};
 ghost use Rattle.dubp_undo.specs.States.{AtMostMore};
 ghost use Rattle.dubp_block.specs.declared.block.Block.{Block as BlockValue};
 ghost use Rattle.dubp_chain.specs.Chains.{Chain};
@@ -53,7 +54,7 @@ fn revoke_row<L: StepBook>(
     ensures memberships_marked { (s : List Members) → ⟦<MIndex as Tables<MemberRows>>⟧.marked memberships.old s → ⟦<MIndex as Tables<MemberRows>>⟧.marked memberships.new s }
     ensures memberships_waits { (o : List Members) (i : ℕ) → ⟦<MIndex as Tables<MemberRows>>⟧.waits memberships.old o i → ⟦<MIndex as Tables<MemberRows>>⟧.waits memberships.new o i }
     ensures memberships_ahead { ⟦<MIndex as Tables<MemberRows>>⟧.ahead_costs memberships.new ≡ ⟦<MIndex as Tables<MemberRows>>⟧.ahead_costs memberships.old }
-    ensures memberships_depth { length (⟦<MIndex as Tables<MemberRows>>⟧.costs memberships.new) ≡ length (⟦<MIndex as Tables<MemberRows>>⟧.costs memberships.old) }
+    ensures memberships_costs_stay { settled (⟦<MIndex as Tables<MemberRows>>⟧.costs memberships.new) ≡ settled (⟦<MIndex as Tables<MemberRows>>⟧.costs memberships.old) }
     ensures costs { OnOk result (AtMostMore 1 (⟦<MIndex as Tables<MemberRows>>⟧.costs memberships.old) (⟦<MIndex as Tables<MemberRows>>⟧.costs memberships.new)) }
     ensures steps { OnOk result (steps.new ≤ steps.old + 1) }
 {
@@ -81,7 +82,7 @@ fn end_row<L: StepBook>(
     ensures certifications_marked { (s : List Rows) → ⟦<CIndex as Tables<CertRows>>⟧.marked certifications.old s → ⟦<CIndex as Tables<CertRows>>⟧.marked certifications.new s }
     ensures certifications_waits { (o : List Rows) (i : ℕ) → ⟦<CIndex as Tables<CertRows>>⟧.waits certifications.old o i → ⟦<CIndex as Tables<CertRows>>⟧.waits certifications.new o i }
     ensures certifications_ahead { ⟦<CIndex as Tables<CertRows>>⟧.ahead_costs certifications.new ≡ ⟦<CIndex as Tables<CertRows>>⟧.ahead_costs certifications.old }
-    ensures certifications_depth { length (⟦<CIndex as Tables<CertRows>>⟧.costs certifications.new) ≡ length (⟦<CIndex as Tables<CertRows>>⟧.costs certifications.old) }
+    ensures certifications_costs_stay { settled (⟦<CIndex as Tables<CertRows>>⟧.costs certifications.new) ≡ settled (⟦<CIndex as Tables<CertRows>>⟧.costs certifications.old) }
     ensures costs { OnOk result (AtMostMore 5 (⟦<CIndex as Tables<CertRows>>⟧.costs certifications.old) (⟦<CIndex as Tables<CertRows>>⟧.costs certifications.new)) }
     ensures steps { OnOk result (steps.new ≤ steps.old + 5) }
 {
@@ -111,11 +112,11 @@ fn change<L: StepBook>(
     ensures memberships_marked { (s : List Members) → ⟦<MIndex as Tables<MemberRows>>⟧.marked memberships.old s → ⟦<MIndex as Tables<MemberRows>>⟧.marked memberships.new s }
     ensures memberships_waits { (o : List Members) (i : ℕ) → ⟦<MIndex as Tables<MemberRows>>⟧.waits memberships.old o i → ⟦<MIndex as Tables<MemberRows>>⟧.waits memberships.new o i }
     ensures memberships_ahead { ⟦<MIndex as Tables<MemberRows>>⟧.ahead_costs memberships.new ≡ ⟦<MIndex as Tables<MemberRows>>⟧.ahead_costs memberships.old }
-    ensures memberships_depth { length (⟦<MIndex as Tables<MemberRows>>⟧.costs memberships.new) ≡ length (⟦<MIndex as Tables<MemberRows>>⟧.costs memberships.old) }
+    ensures memberships_costs_stay { settled (⟦<MIndex as Tables<MemberRows>>⟧.costs memberships.new) ≡ settled (⟦<MIndex as Tables<MemberRows>>⟧.costs memberships.old) }
     ensures certifications_marked { (s : List Rows) → ⟦<CIndex as Tables<CertRows>>⟧.marked certifications.old s → ⟦<CIndex as Tables<CertRows>>⟧.marked certifications.new s }
     ensures certifications_waits { (o : List Rows) (i : ℕ) → ⟦<CIndex as Tables<CertRows>>⟧.waits certifications.old o i → ⟦<CIndex as Tables<CertRows>>⟧.waits certifications.new o i }
     ensures certifications_ahead { ⟦<CIndex as Tables<CertRows>>⟧.ahead_costs certifications.new ≡ ⟦<CIndex as Tables<CertRows>>⟧.ahead_costs certifications.old }
-    ensures certifications_depth { length (⟦<CIndex as Tables<CertRows>>⟧.costs certifications.new) ≡ length (⟦<CIndex as Tables<CertRows>>⟧.costs certifications.old) }
+    ensures certifications_costs_stay { settled (⟦<CIndex as Tables<CertRows>>⟧.costs certifications.new) ≡ settled (⟦<CIndex as Tables<CertRows>>⟧.costs certifications.old) }
     ensures more { OnOk result ((s : Standing) → AreNoted ended.old s.over s.revoked s.ended → is_noted s (due_of due.now) ≡ false → IsOneMore (due_of due.now) ended.old ended.new) }
     ensures memberships_costs { OnOk result (AtMostMore (revoked_by (due_of due.now)) (⟦<MIndex as Tables<MemberRows>>⟧.costs memberships.old) (⟦<MIndex as Tables<MemberRows>>⟧.costs memberships.new)) }
     ensures certifications_costs { OnOk result (AtMostMore (5 * ended_by (due_of due.now)) (⟦<CIndex as Tables<CertRows>>⟧.costs certifications.old) (⟦<CIndex as Tables<CertRows>>⟧.costs certifications.new)) }
@@ -149,15 +150,15 @@ fn take_one<L: StepBook>(
     ensures memberships_marked { (s : List Members) → ⟦<MIndex as Tables<MemberRows>>⟧.marked memberships.old s → ⟦<MIndex as Tables<MemberRows>>⟧.marked memberships.new s }
     ensures memberships_waits { (o : List Members) (i : ℕ) → ⟦<MIndex as Tables<MemberRows>>⟧.waits memberships.old o i → ⟦<MIndex as Tables<MemberRows>>⟧.waits memberships.new o i }
     ensures memberships_ahead { ⟦<MIndex as Tables<MemberRows>>⟧.ahead_costs memberships.new ≡ ⟦<MIndex as Tables<MemberRows>>⟧.ahead_costs memberships.old }
-    ensures memberships_depth { length (⟦<MIndex as Tables<MemberRows>>⟧.costs memberships.new) ≡ length (⟦<MIndex as Tables<MemberRows>>⟧.costs memberships.old) }
+    ensures memberships_costs_stay { settled (⟦<MIndex as Tables<MemberRows>>⟧.costs memberships.new) ≡ settled (⟦<MIndex as Tables<MemberRows>>⟧.costs memberships.old) }
     ensures certifications_marked { (s : List Rows) → ⟦<CIndex as Tables<CertRows>>⟧.marked certifications.old s → ⟦<CIndex as Tables<CertRows>>⟧.marked certifications.new s }
     ensures certifications_waits { (o : List Rows) (i : ℕ) → ⟦<CIndex as Tables<CertRows>>⟧.waits certifications.old o i → ⟦<CIndex as Tables<CertRows>>⟧.waits certifications.new o i }
     ensures certifications_ahead { ⟦<CIndex as Tables<CertRows>>⟧.ahead_costs certifications.new ≡ ⟦<CIndex as Tables<CertRows>>⟧.ahead_costs certifications.old }
-    ensures certifications_depth { length (⟦<CIndex as Tables<CertRows>>⟧.costs certifications.new) ≡ length (⟦<CIndex as Tables<CertRows>>⟧.costs certifications.old) }
+    ensures certifications_costs_stay { settled (⟦<CIndex as Tables<CertRows>>⟧.costs certifications.new) ≡ settled (⟦<CIndex as Tables<CertRows>>⟧.costs certifications.old) }
     ensures queue_marked { (s : List Queued) → ⟦<Queue as Tables<Entries>>⟧.marked queue.old s → ⟦<Queue as Tables<Entries>>⟧.marked queue.new s }
     ensures queue_waits { (o : List Queued) (i : ℕ) → ⟦<Queue as Tables<Entries>>⟧.waits queue.old o i → ⟦<Queue as Tables<Entries>>⟧.waits queue.new o i }
     ensures queue_ahead { ⟦<Queue as Tables<Entries>>⟧.ahead_costs queue.new ≡ ⟦<Queue as Tables<Entries>>⟧.ahead_costs queue.old }
-    ensures queue_depth { length (⟦<Queue as Tables<Entries>>⟧.costs queue.new) ≡ length (⟦<Queue as Tables<Entries>>⟧.costs queue.old) }
+    ensures queue_costs_stay { settled (⟦<Queue as Tables<Entries>>⟧.costs queue.new) ≡ settled (⟦<Queue as Tables<Entries>>⟧.costs queue.old) }
     ensures more { OnOk result ((s : Standing) → AreNoted ended.old s.over s.revoked s.ended → is_noted s (due_of due.now) ≡ false → IsOneMore (due_of due.now) ended.old ended.new) }
     ensures memberships_costs { OnOk result (AtMostMore (revoked_by (due_of due.now)) (⟦<MIndex as Tables<MemberRows>>⟧.costs memberships.old) (⟦<MIndex as Tables<MemberRows>>⟧.costs memberships.new)) }
     ensures certifications_costs { OnOk result (AtMostMore (5 * ended_by (due_of due.now)) (⟦<CIndex as Tables<CertRows>>⟧.costs certifications.old) (⟦<CIndex as Tables<CertRows>>⟧.costs certifications.new)) }
@@ -208,15 +209,15 @@ pub fn take_due<L: StepBook>(
     ensures memberships_marked { (s : List Members) → ⟦<MIndex as Tables<MemberRows>>⟧.marked memberships.old s → ⟦<MIndex as Tables<MemberRows>>⟧.marked memberships.new s }
     ensures memberships_waits { (o : List Members) (i : ℕ) → ⟦<MIndex as Tables<MemberRows>>⟧.waits memberships.old o i → ⟦<MIndex as Tables<MemberRows>>⟧.waits memberships.new o i }
     ensures memberships_ahead { ⟦<MIndex as Tables<MemberRows>>⟧.ahead_costs memberships.new ≡ ⟦<MIndex as Tables<MemberRows>>⟧.ahead_costs memberships.old }
-    ensures memberships_depth { length (⟦<MIndex as Tables<MemberRows>>⟧.costs memberships.new) ≡ length (⟦<MIndex as Tables<MemberRows>>⟧.costs memberships.old) }
+    ensures memberships_costs_stay { settled (⟦<MIndex as Tables<MemberRows>>⟧.costs memberships.new) ≡ settled (⟦<MIndex as Tables<MemberRows>>⟧.costs memberships.old) }
     ensures certifications_marked { (s : List Rows) → ⟦<CIndex as Tables<CertRows>>⟧.marked certifications.old s → ⟦<CIndex as Tables<CertRows>>⟧.marked certifications.new s }
     ensures certifications_waits { (o : List Rows) (i : ℕ) → ⟦<CIndex as Tables<CertRows>>⟧.waits certifications.old o i → ⟦<CIndex as Tables<CertRows>>⟧.waits certifications.new o i }
     ensures certifications_ahead { ⟦<CIndex as Tables<CertRows>>⟧.ahead_costs certifications.new ≡ ⟦<CIndex as Tables<CertRows>>⟧.ahead_costs certifications.old }
-    ensures certifications_depth { length (⟦<CIndex as Tables<CertRows>>⟧.costs certifications.new) ≡ length (⟦<CIndex as Tables<CertRows>>⟧.costs certifications.old) }
+    ensures certifications_costs_stay { settled (⟦<CIndex as Tables<CertRows>>⟧.costs certifications.new) ≡ settled (⟦<CIndex as Tables<CertRows>>⟧.costs certifications.old) }
     ensures queue_marked { (s : List Queued) → ⟦<Queue as Tables<Entries>>⟧.marked queue.old s → ⟦<Queue as Tables<Entries>>⟧.marked queue.new s }
     ensures queue_waits { (o : List Queued) (i : ℕ) → ⟦<Queue as Tables<Entries>>⟧.waits queue.old o i → ⟦<Queue as Tables<Entries>>⟧.waits queue.new o i }
     ensures queue_ahead { ⟦<Queue as Tables<Entries>>⟧.ahead_costs queue.new ≡ ⟦<Queue as Tables<Entries>>⟧.ahead_costs queue.old }
-    ensures queue_depth { length (⟦<Queue as Tables<Entries>>⟧.costs queue.new) ≡ length (⟦<Queue as Tables<Entries>>⟧.costs queue.old) }
+    ensures queue_costs_stay { settled (⟦<Queue as Tables<Entries>>⟧.costs queue.new) ≡ settled (⟦<Queue as Tables<Entries>>⟧.costs queue.old) }
     ensures counted { OnOk result ((c : Chain) (b : BlockValue) (s : Standing) → IsSound (b ∷ c) → IsSince c since → next.now.time ≡ now_of c b → IsTaking c b s
         → StandAs (⟦<MIndex as Tables<MemberRows>>⟧.at memberships.old) (⟦<CIndex as Tables<CertRows>>⟧.at certifications.old) (⟦<Queue as Tables<Entries>>⟧.at queue.old) ended.old s
         → IsCounted ended.old ended.new (⟦<MIndex as Tables<MemberRows>>⟧.costs memberships.old) (⟦<MIndex as Tables<MemberRows>>⟧.costs memberships.new) (⟦<CIndex as Tables<CertRows>>⟧.costs certifications.old) (⟦<CIndex as Tables<CertRows>>⟧.costs certifications.new) (⟦<Queue as Tables<Entries>>⟧.costs queue.old) (⟦<Queue as Tables<Entries>>⟧.costs queue.new) steps.old steps.new) }

@@ -1,5 +1,6 @@
-ghost use Rattle.std.specs.Prelude.{◌≡◌, ℕ, ◌∷◌, ◌++◌, List, length, OnOk, ◌+◌, ◌≤◌};
+ghost use Rattle.std.specs.Prelude.{◌≡◌, ℕ, ◌∷◌, ◌++◌, List, OnOk, ◌+◌, ◌≤◌};
 ghost use Rattle.std.specs.FinMap.{empty};
+ghost use Rattle.dubp_undo.specs.Numbers.{settled};
 ghost use Rattle.dubp_undo.specs.States.{AtMostMore, newest, states};
 ghost use Rattle.dubp_chain.specs.Chains.{Chain};
 ghost use Rattle.dubp_validity.specs.Records.{line_records, expiry_records, revocation_records, ended_records};
@@ -70,15 +71,15 @@ fn write_tables<L: StepBook>(
     ensures memberships_marked { (s : List Members) → ⟦<MIndex as Tables<MemberRows>>⟧.marked memberships.old s → ⟦<MIndex as Tables<MemberRows>>⟧.marked memberships.new s }
     ensures memberships_waits { (o : List Members) (i : ℕ) → ⟦<MIndex as Tables<MemberRows>>⟧.waits memberships.old o i → ⟦<MIndex as Tables<MemberRows>>⟧.waits memberships.new o i }
     ensures memberships_ahead { ⟦<MIndex as Tables<MemberRows>>⟧.ahead_costs memberships.new ≡ ⟦<MIndex as Tables<MemberRows>>⟧.ahead_costs memberships.old }
-    ensures memberships_depth { length (⟦<MIndex as Tables<MemberRows>>⟧.costs memberships.new) ≡ length (⟦<MIndex as Tables<MemberRows>>⟧.costs memberships.old) }
+    ensures memberships_costs_stay { settled (⟦<MIndex as Tables<MemberRows>>⟧.costs memberships.new) ≡ settled (⟦<MIndex as Tables<MemberRows>>⟧.costs memberships.old) }
     ensures certifications_marked { (s : List Rows) → ⟦<CIndex as Tables<CertRows>>⟧.marked certifications.old s → ⟦<CIndex as Tables<CertRows>>⟧.marked certifications.new s }
     ensures certifications_waits { (o : List Rows) (i : ℕ) → ⟦<CIndex as Tables<CertRows>>⟧.waits certifications.old o i → ⟦<CIndex as Tables<CertRows>>⟧.waits certifications.new o i }
     ensures certifications_ahead { ⟦<CIndex as Tables<CertRows>>⟧.ahead_costs certifications.new ≡ ⟦<CIndex as Tables<CertRows>>⟧.ahead_costs certifications.old }
-    ensures certifications_depth { length (⟦<CIndex as Tables<CertRows>>⟧.costs certifications.new) ≡ length (⟦<CIndex as Tables<CertRows>>⟧.costs certifications.old) }
+    ensures certifications_costs_stay { settled (⟦<CIndex as Tables<CertRows>>⟧.costs certifications.new) ≡ settled (⟦<CIndex as Tables<CertRows>>⟧.costs certifications.old) }
     ensures queue_marked { (s : List Queued) → ⟦<Queue as Tables<Entries>>⟧.marked queue.old s → ⟦<Queue as Tables<Entries>>⟧.marked queue.new s }
     ensures queue_waits { (o : List Queued) (i : ℕ) → ⟦<Queue as Tables<Entries>>⟧.waits queue.old o i → ⟦<Queue as Tables<Entries>>⟧.waits queue.new o i }
     ensures queue_ahead { ⟦<Queue as Tables<Entries>>⟧.ahead_costs queue.new ≡ ⟦<Queue as Tables<Entries>>⟧.ahead_costs queue.old }
-    ensures queue_depth { length (⟦<Queue as Tables<Entries>>⟧.costs queue.new) ≡ length (⟦<Queue as Tables<Entries>>⟧.costs queue.old) }
+    ensures queue_costs_stay { settled (⟦<Queue as Tables<Entries>>⟧.costs queue.new) ≡ settled (⟦<Queue as Tables<Entries>>⟧.costs queue.old) }
     ensures within { OnOk result ((c : Chain) → ⟦<Facts as Tables<Block>>⟧.at facts.now c → IsWritten c block.now next.now → IsSince c since
         → AreLeftBy c (⟦<MIndex as Tables<MemberRows>>⟧.at memberships.old) (⟦<CIndex as Tables<CertRows>>⟧.at certifications.old) (⟦<Queue as Tables<Entries>>⟧.at queue.old)
         → AreNoted ended.old (is_over_at_once c block.now) (is_revoked_at_once c block.now) (is_ended_at_once c block.now)
@@ -124,15 +125,15 @@ pub fn write_ends<L: StepBook>(
     ensures memberships_marked { (s : List Members) → ⟦<MIndex as Tables<MemberRows>>⟧.marked memberships.old s → ⟦<MIndex as Tables<MemberRows>>⟧.marked memberships.new s }
     ensures memberships_waits { (o : List Members) (i : ℕ) → ⟦<MIndex as Tables<MemberRows>>⟧.waits memberships.old o i → ⟦<MIndex as Tables<MemberRows>>⟧.waits memberships.new o i }
     ensures memberships_ahead { ⟦<MIndex as Tables<MemberRows>>⟧.ahead_costs memberships.new ≡ ⟦<MIndex as Tables<MemberRows>>⟧.ahead_costs memberships.old }
-    ensures memberships_depth { length (⟦<MIndex as Tables<MemberRows>>⟧.costs memberships.new) ≡ length (⟦<MIndex as Tables<MemberRows>>⟧.costs memberships.old) }
+    ensures memberships_costs_stay { settled (⟦<MIndex as Tables<MemberRows>>⟧.costs memberships.new) ≡ settled (⟦<MIndex as Tables<MemberRows>>⟧.costs memberships.old) }
     ensures certifications_marked { (s : List Rows) → ⟦<CIndex as Tables<CertRows>>⟧.marked certifications.old s → ⟦<CIndex as Tables<CertRows>>⟧.marked certifications.new s }
     ensures certifications_waits { (o : List Rows) (i : ℕ) → ⟦<CIndex as Tables<CertRows>>⟧.waits certifications.old o i → ⟦<CIndex as Tables<CertRows>>⟧.waits certifications.new o i }
     ensures certifications_ahead { ⟦<CIndex as Tables<CertRows>>⟧.ahead_costs certifications.new ≡ ⟦<CIndex as Tables<CertRows>>⟧.ahead_costs certifications.old }
-    ensures certifications_depth { length (⟦<CIndex as Tables<CertRows>>⟧.costs certifications.new) ≡ length (⟦<CIndex as Tables<CertRows>>⟧.costs certifications.old) }
+    ensures certifications_costs_stay { settled (⟦<CIndex as Tables<CertRows>>⟧.costs certifications.new) ≡ settled (⟦<CIndex as Tables<CertRows>>⟧.costs certifications.old) }
     ensures queue_marked { (s : List Queued) → ⟦<Queue as Tables<Entries>>⟧.marked queue.old s → ⟦<Queue as Tables<Entries>>⟧.marked queue.new s }
     ensures queue_waits { (o : List Queued) (i : ℕ) → ⟦<Queue as Tables<Entries>>⟧.waits queue.old o i → ⟦<Queue as Tables<Entries>>⟧.waits queue.new o i }
     ensures queue_ahead { ⟦<Queue as Tables<Entries>>⟧.ahead_costs queue.new ≡ ⟦<Queue as Tables<Entries>>⟧.ahead_costs queue.old }
-    ensures queue_depth { length (⟦<Queue as Tables<Entries>>⟧.costs queue.new) ≡ length (⟦<Queue as Tables<Entries>>⟧.costs queue.old) }
+    ensures queue_costs_stay { settled (⟦<Queue as Tables<Entries>>⟧.costs queue.new) ≡ settled (⟦<Queue as Tables<Entries>>⟧.costs queue.old) }
     ensures memberships_costs { OnOk result ((c : Chain) → ⟦<Facts as Tables<Block>>⟧.at facts.now c → IsWritten c block.now next.now → IsSince c since
         → AreLeftBy c (⟦<MIndex as Tables<MemberRows>>⟧.at memberships.old) (⟦<CIndex as Tables<CertRows>>⟧.at certifications.old) (⟦<Queue as Tables<Entries>>⟧.at queue.old) → AtMostMore (membership_sets c block.now) (⟦<MIndex as Tables<MemberRows>>⟧.costs memberships.old) (⟦<MIndex as Tables<MemberRows>>⟧.costs memberships.new)) }
     ensures certifications_costs { OnOk result ((c : Chain) → ⟦<Facts as Tables<Block>>⟧.at facts.now c → IsWritten c block.now next.now → IsSince c since

@@ -2,11 +2,11 @@
 use Rattle.std.proofs.Common.{◌≡◌, ℕ, zero, suc, ◌+◌, ◌<◌, ◌≤◌, List, [], ◌∷◌, length, take, fold, refl, sym, ap, subst, ◌∙◌, arith}
 use Rattle.std.specs.Prelude.{get_or}
 use Rattle.std.proofs.lemmas.List.Sums.{fold_more}
-use Rattle.dubp_undo.specs.Numbers.{add_last}
+use Rattle.dubp_undo.specs.Numbers.{add_last, settled}
 use Rattle.dubp_undo.specs.States.{AtMostMore, states}
 use Rattle.dubp_chain.specs.Chains.{Chain}
 use Rattle.dubp_left.specs.Left.{identities_left}
-use Rattle.dubp_undo.proofs.Numbers.{add_last-add_last, length-add_last}
+use Rattle.dubp_undo.proofs.Numbers.{add_last-add_last, settled-add_last}
 use Rattle.dubp_block.specs.declared.block.IdentityLine.{IdentityLine}
 use Rattle.dubp_iindex.specs.declared.index.IIndex.{IIndex}
 use Rattle.dubp_iindex.specs.contracts.index.IIndexTablesIdentityRows.TheImpl as tables
@@ -24,8 +24,8 @@ none_more n ns = record { more = 0; most = omega arith; is = nothing ns }
 pub more_and_more : {a b n : ℕ} {x y z : List ℕ} → a + b ≡ n → AtMostMore a x y → AtMostMore b y z → AtMostMore n x z
 more_and_more {x = x} e p q = record { more = p.more + q.more; most = omega (arith, p.most, q.most, e); is = q.is ∙ ap (add_last q.more) p.is ∙ add_last-add_last p.more q.more x }
 
-pub same_depth : {n : ℕ} {x y : List ℕ} → AtMostMore n x y → length y ≡ length x
-same_depth {x = x} p = ap length p.is ∙ length-add_last p.more x
+pub more_settled : {n : ℕ} {x y : List ℕ} → AtMostMore n x y → settled y ≡ settled x
+more_settled {x = x} p = ap settled p.is ∙ settled-add_last p.more x
 
 -- what is marked and what waits stay, and so many keys were set at most
 pub record IsOnward (n : ℕ) (old now : IIndex) : Type 0 where

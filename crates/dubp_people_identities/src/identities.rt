@@ -1,4 +1,5 @@
 ghost use Rattle.std.specs.Prelude.{◌≡◌, ℕ, ◌+◌, ◌*◌, ◌≤◌, List, ◌∷◌, Bool, false, fold, length, OnOk, OnErr};
+ghost use Rattle.dubp_undo.specs.Numbers.{settled};
 ghost use Rattle.dubp_undo.specs.States.{states, AtMostMore};
 ghost use Rattle.dubp_chain.specs.Chains.{Chain};
 ghost use Rattle.dubp_validity.specs.Rules.{IsSound};
@@ -25,7 +26,7 @@ pub fn write_identities<L: StepBook>(
     ensures marked { (s : List Rows) → ⟦<IIndex as Tables<IdentityRows>>⟧.marked index.old s → ⟦<IIndex as Tables<IdentityRows>>⟧.marked index.new s }
     ensures waits { (o : List Rows) (i : ℕ) → ⟦<IIndex as Tables<IdentityRows>>⟧.waits index.old o i → ⟦<IIndex as Tables<IdentityRows>>⟧.waits index.new o i }
     ensures ahead { ⟦<IIndex as Tables<IdentityRows>>⟧.ahead_costs index.new ≡ ⟦<IIndex as Tables<IdentityRows>>⟧.ahead_costs index.old }
-    ensures depth { length (⟦<IIndex as Tables<IdentityRows>>⟧.costs index.new) ≡ length (⟦<IIndex as Tables<IdentityRows>>⟧.costs index.old) }
+    ensures costs_stay { settled (⟦<IIndex as Tables<IdentityRows>>⟧.costs index.new) ≡ settled (⟦<IIndex as Tables<IdentityRows>>⟧.costs index.old) }
     ensures costs { OnOk result (AtMostMore (most_sets block.now) (⟦<IIndex as Tables<IdentityRows>>⟧.costs index.old) (⟦<IIndex as Tables<IdentityRows>>⟧.costs index.new)) }
     ensures steps { OnOk result (steps.new ≤ steps.old + most_sets block.now) }
 {
@@ -46,7 +47,7 @@ fn create_all<L: StepBook>(
     ensures marked { (s : List Rows) → ⟦<IIndex as Tables<IdentityRows>>⟧.marked index.old s → ⟦<IIndex as Tables<IdentityRows>>⟧.marked index.new s }
     ensures waits { (o : List Rows) (i : ℕ) → ⟦<IIndex as Tables<IdentityRows>>⟧.waits index.old o i → ⟦<IIndex as Tables<IdentityRows>>⟧.waits index.new o i }
     ensures ahead { ⟦<IIndex as Tables<IdentityRows>>⟧.ahead_costs index.new ≡ ⟦<IIndex as Tables<IdentityRows>>⟧.ahead_costs index.old }
-    ensures depth { length (⟦<IIndex as Tables<IdentityRows>>⟧.costs index.new) ≡ length (⟦<IIndex as Tables<IdentityRows>>⟧.costs index.old) }
+    ensures costs_stay { settled (⟦<IIndex as Tables<IdentityRows>>⟧.costs index.new) ≡ settled (⟦<IIndex as Tables<IdentityRows>>⟧.costs index.old) }
     ensures costs { OnOk result (AtMostMore (4 * length lines.now) (⟦<IIndex as Tables<IdentityRows>>⟧.costs index.old) (⟦<IIndex as Tables<IdentityRows>>⟧.costs index.new)) }
     ensures steps { OnOk result (steps.new ≤ steps.old + 4 * length lines.now) }
 {
@@ -67,7 +68,7 @@ fn create<L: StepBook>(
     ensures marked { (s : List Rows) → ⟦<IIndex as Tables<IdentityRows>>⟧.marked index.old s → ⟦<IIndex as Tables<IdentityRows>>⟧.marked index.new s }
     ensures waits { (o : List Rows) (i : ℕ) → ⟦<IIndex as Tables<IdentityRows>>⟧.waits index.old o i → ⟦<IIndex as Tables<IdentityRows>>⟧.waits index.new o i }
     ensures ahead { ⟦<IIndex as Tables<IdentityRows>>⟧.ahead_costs index.new ≡ ⟦<IIndex as Tables<IdentityRows>>⟧.ahead_costs index.old }
-    ensures depth { length (⟦<IIndex as Tables<IdentityRows>>⟧.costs index.new) ≡ length (⟦<IIndex as Tables<IdentityRows>>⟧.costs index.old) }
+    ensures costs_stay { settled (⟦<IIndex as Tables<IdentityRows>>⟧.costs index.new) ≡ settled (⟦<IIndex as Tables<IdentityRows>>⟧.costs index.old) }
     ensures costs { OnOk result (AtMostMore 4 (⟦<IIndex as Tables<IdentityRows>>⟧.costs index.old) (⟦<IIndex as Tables<IdentityRows>>⟧.costs index.new)) }
     ensures steps { OnOk result (steps.new ≤ steps.old + 4) }
 {
@@ -93,7 +94,7 @@ fn put<L: StepBook>(
     ensures marked { (s : List Rows) → ⟦<IIndex as Tables<IdentityRows>>⟧.marked index.old s → ⟦<IIndex as Tables<IdentityRows>>⟧.marked index.new s }
     ensures waits { (o : List Rows) (i : ℕ) → ⟦<IIndex as Tables<IdentityRows>>⟧.waits index.old o i → ⟦<IIndex as Tables<IdentityRows>>⟧.waits index.new o i }
     ensures ahead { ⟦<IIndex as Tables<IdentityRows>>⟧.ahead_costs index.new ≡ ⟦<IIndex as Tables<IdentityRows>>⟧.ahead_costs index.old }
-    ensures depth { length (⟦<IIndex as Tables<IdentityRows>>⟧.costs index.new) ≡ length (⟦<IIndex as Tables<IdentityRows>>⟧.costs index.old) }
+    ensures costs_stay { settled (⟦<IIndex as Tables<IdentityRows>>⟧.costs index.new) ≡ settled (⟦<IIndex as Tables<IdentityRows>>⟧.costs index.old) }
     ensures costs { OnOk result (AtMostMore 4 (⟦<IIndex as Tables<IdentityRows>>⟧.costs index.old) (⟦<IIndex as Tables<IdentityRows>>⟧.costs index.new)) }
     ensures steps { OnOk result (steps.new ≤ steps.old + 4) }
 {
@@ -112,7 +113,7 @@ fn join_all<L: StepBook>(
     ensures marked { (s : List Rows) → ⟦<IIndex as Tables<IdentityRows>>⟧.marked index.old s → ⟦<IIndex as Tables<IdentityRows>>⟧.marked index.new s }
     ensures waits { (o : List Rows) (i : ℕ) → ⟦<IIndex as Tables<IdentityRows>>⟧.waits index.old o i → ⟦<IIndex as Tables<IdentityRows>>⟧.waits index.new o i }
     ensures ahead { ⟦<IIndex as Tables<IdentityRows>>⟧.ahead_costs index.new ≡ ⟦<IIndex as Tables<IdentityRows>>⟧.ahead_costs index.old }
-    ensures depth { length (⟦<IIndex as Tables<IdentityRows>>⟧.costs index.new) ≡ length (⟦<IIndex as Tables<IdentityRows>>⟧.costs index.old) }
+    ensures costs_stay { settled (⟦<IIndex as Tables<IdentityRows>>⟧.costs index.new) ≡ settled (⟦<IIndex as Tables<IdentityRows>>⟧.costs index.old) }
     ensures costs { OnOk result (AtMostMore (4 * length lines.now) (⟦<IIndex as Tables<IdentityRows>>⟧.costs index.old) (⟦<IIndex as Tables<IdentityRows>>⟧.costs index.new)) }
     ensures steps { OnOk result (steps.new ≤ steps.old + 4 * length lines.now) }
 {
@@ -132,7 +133,7 @@ fn exclude_all<L: StepBook>(
     ensures marked { (s : List Rows) → ⟦<IIndex as Tables<IdentityRows>>⟧.marked index.old s → ⟦<IIndex as Tables<IdentityRows>>⟧.marked index.new s }
     ensures waits { (o : List Rows) (i : ℕ) → ⟦<IIndex as Tables<IdentityRows>>⟧.waits index.old o i → ⟦<IIndex as Tables<IdentityRows>>⟧.waits index.new o i }
     ensures ahead { ⟦<IIndex as Tables<IdentityRows>>⟧.ahead_costs index.new ≡ ⟦<IIndex as Tables<IdentityRows>>⟧.ahead_costs index.old }
-    ensures depth { length (⟦<IIndex as Tables<IdentityRows>>⟧.costs index.new) ≡ length (⟦<IIndex as Tables<IdentityRows>>⟧.costs index.old) }
+    ensures costs_stay { settled (⟦<IIndex as Tables<IdentityRows>>⟧.costs index.new) ≡ settled (⟦<IIndex as Tables<IdentityRows>>⟧.costs index.old) }
     ensures costs { OnOk result (AtMostMore (4 * length keys.now) (⟦<IIndex as Tables<IdentityRows>>⟧.costs index.old) (⟦<IIndex as Tables<IdentityRows>>⟧.costs index.new)) }
     ensures steps { OnOk result (steps.new ≤ steps.old + 4 * length keys.now) }
 {
@@ -153,7 +154,7 @@ fn set_member<L: StepBook>(
     ensures marked { (s : List Rows) → ⟦<IIndex as Tables<IdentityRows>>⟧.marked index.old s → ⟦<IIndex as Tables<IdentityRows>>⟧.marked index.new s }
     ensures waits { (o : List Rows) (i : ℕ) → ⟦<IIndex as Tables<IdentityRows>>⟧.waits index.old o i → ⟦<IIndex as Tables<IdentityRows>>⟧.waits index.new o i }
     ensures ahead { ⟦<IIndex as Tables<IdentityRows>>⟧.ahead_costs index.new ≡ ⟦<IIndex as Tables<IdentityRows>>⟧.ahead_costs index.old }
-    ensures depth { length (⟦<IIndex as Tables<IdentityRows>>⟧.costs index.new) ≡ length (⟦<IIndex as Tables<IdentityRows>>⟧.costs index.old) }
+    ensures costs_stay { settled (⟦<IIndex as Tables<IdentityRows>>⟧.costs index.new) ≡ settled (⟦<IIndex as Tables<IdentityRows>>⟧.costs index.old) }
     ensures costs { OnOk result (AtMostMore 4 (⟦<IIndex as Tables<IdentityRows>>⟧.costs index.old) (⟦<IIndex as Tables<IdentityRows>>⟧.costs index.new)) }
     ensures steps { OnOk result (steps.new ≤ steps.old + 4) }
 {

@@ -2,7 +2,7 @@
 use Rattle.std.proofs.Common.{◌≡◌, ℕ, ◌+◌, List, [], ◌∷◌, length, refl, ap, sym, ◌∙◌, arith}
 use Rattle.dubp_undo.specs.Numbers.{plus, add_last}
 use Rattle.dubp_undo.specs.States.{AtMostMore}
-use Rattle.dubp_undo.proofs.Numbers.{add_last-add_last, plus-add_last, length-plus}
+use Rattle.dubp_undo.proofs.Numbers.{add_last-add_last, plus-add_last}
 
 pub none_more : (n : ℕ) (ns : List ℕ) → AtMostMore n ns ns
 none_more n ns = record { more = 0; most = omega arith; is = nothing ns }
@@ -24,7 +24,3 @@ more_beside {xs = xs} {ys = ys} even p q = record {
 
 pub one_more : (xs xs' : List ℕ) → xs' ≡ add_last 1 xs → AtMostMore 1 xs xs'
 one_more xs xs' is = record { more = 1; most = omega arith; is = is }
-
--- tables side by side keep as many states
-pub same_length_beside : (xs xs' ys ys' : List ℕ) → length xs ≡ length ys → length xs' ≡ length xs → length ys' ≡ length ys → length (plus xs' ys') ≡ length (plus xs ys)
-same_length_beside xs xs' ys ys' even p q = length-plus xs' ys' (omega (arith, even, p, q)) ∙ p ∙ sym (length-plus xs ys even)

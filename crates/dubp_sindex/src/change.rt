@@ -1,4 +1,5 @@
-ghost use Rattle.std.specs.Prelude.{◌≡◌, ℕ, ◌+◌, ◌≤◌, ◌∷◌, List, length, min, option_map, IfOk, OnOk, OnErr};
+ghost use Rattle.std.specs.Prelude.{◌≡◌, ℕ, ◌+◌, ◌≤◌, ◌∷◌, List, min, option_map, IfOk, OnOk, OnErr};
+ghost use Rattle.dubp_undo.specs.Numbers.{settled};
 ghost use Rattle.dubp_undo.specs.States.{AtMostMore};
 ghost use Rattle.dubp_sindex.specs.Rows.{Entry, units};
 ghost use Rattle.dubp_sindex.specs.Derived.{balance_at};
@@ -74,7 +75,7 @@ fn move_balance<L: StepBook>(
     ensures marked { (s : States) → ⟦<BalanceTables as Tables<SourceRows>>⟧.marked tables.old s → ⟦<BalanceTables as Tables<SourceRows>>⟧.marked tables.new s }
     ensures waits { (o : States) (i : ℕ) → ⟦<BalanceTables as Tables<SourceRows>>⟧.waits tables.old o i → ⟦<BalanceTables as Tables<SourceRows>>⟧.waits tables.new o i }
     ensures ahead { ⟦<BalanceTables as Tables<SourceRows>>⟧.ahead_costs tables.new ≡ ⟦<BalanceTables as Tables<SourceRows>>⟧.ahead_costs tables.old }
-    ensures depth { length (⟦<BalanceTables as Tables<SourceRows>>⟧.costs tables.new) ≡ length (⟦<BalanceTables as Tables<SourceRows>>⟧.costs tables.old) }
+    ensures costs_stay { settled (⟦<BalanceTables as Tables<SourceRows>>⟧.costs tables.new) ≡ settled (⟦<BalanceTables as Tables<SourceRows>>⟧.costs tables.old) }
     ensures costs { OnOk result (AtMostMore 3 (⟦<BalanceTables as Tables<SourceRows>>⟧.costs tables.old) (⟦<BalanceTables as Tables<SourceRows>>⟧.costs tables.new)) }
     ensures steps { OnOk result (steps.new ≤ steps.old + 3) }
 
@@ -110,7 +111,7 @@ pub fn put<L: StepBook>(
     ensures marked { (s : States) → ⟦<SourceTables as Tables<SourceRows>>⟧.marked tables.old s → ⟦<SourceTables as Tables<SourceRows>>⟧.marked tables.new s }
     ensures waits { (o : States) (i : ℕ) → ⟦<SourceTables as Tables<SourceRows>>⟧.waits tables.old o i → ⟦<SourceTables as Tables<SourceRows>>⟧.waits tables.new o i }
     ensures ahead { ⟦<SourceTables as Tables<SourceRows>>⟧.ahead_costs tables.new ≡ ⟦<SourceTables as Tables<SourceRows>>⟧.ahead_costs tables.old }
-    ensures depth { length (⟦<SourceTables as Tables<SourceRows>>⟧.costs tables.new) ≡ length (⟦<SourceTables as Tables<SourceRows>>⟧.costs tables.old) }
+    ensures costs_stay { settled (⟦<SourceTables as Tables<SourceRows>>⟧.costs tables.new) ≡ settled (⟦<SourceTables as Tables<SourceRows>>⟧.costs tables.old) }
     ensures costs { OnOk result (AtMostMore 5 (⟦<SourceTables as Tables<SourceRows>>⟧.costs tables.old) (⟦<SourceTables as Tables<SourceRows>>⟧.costs tables.new)) }
     ensures steps { OnOk result (steps.new ≤ steps.old + 5) }
 

@@ -1,7 +1,7 @@
-ghost use Rattle.std.specs.Prelude.{◌≡◌, ℕ, ◌+◌, ◌≤◌, ◌==◌, ◌∷◌, if◌then◌else◌, List, Some, None, length, OnOk, OnErr, IsOk, IsTrue};
+ghost use Rattle.std.specs.Prelude.{◌≡◌, ℕ, ◌+◌, ◌≤◌, ◌==◌, ◌∷◌, if◌then◌else◌, List, Some, None, OnOk, OnErr, IsOk, IsTrue};
 ghost use Rattle.dubp_undo.specs.Definition.{IsAt, IsMarked, SameMaps};
 ghost use Rattle.dubp_undo.specs.MovingTable.{get, PlacesStay};
-ghost use Rattle.dubp_undo.specs.Numbers.{counts};
+ghost use Rattle.dubp_undo.specs.Numbers.{counts, settled};
 ghost use Rattle.dubp_undo.specs.States.{AtMostMore};
 ghost use Rattle.dubp_sindex.specs.Rows.{Entry};
 ghost use Rattle.dubp_sindex.specs.Derived.{pair_cmp, balance_at};
@@ -61,7 +61,7 @@ fn set_place<L: StepBook>(
     ensures marked { (s : States) → IsMarked pair_cmp order_of order.old.past s → IsMarked pair_cmp order_of order.new.past s }
     ensures ahead { order.new.ahead ≡ order.old.ahead }
     ensures root { order.new.root ≡ order.old.root }
-    ensures depth { length (counts order.new.past) ≡ length (counts order.old.past) }
+    ensures costs_stay { settled (counts order.new.past) ≡ settled (counts order.old.past) }
     ensures costs { OnOk result (AtMostMore 1 (counts order.old.past) (counts order.new.past)) }
     ensures steps { OnOk result (steps.new ≤ steps.old + 1) }
     ensures stay { OnOk result (PlacesStay pair_cmp order.old.placed order.new.placed) }
@@ -91,7 +91,7 @@ fn exchange<L: StepBook>(
     ensures marked { (s : States) → IsMarked pair_cmp order_of order.old.past s → IsMarked pair_cmp order_of order.new.past s }
     ensures ahead { order.new.ahead ≡ order.old.ahead }
     ensures root { order.new.root ≡ order.old.root }
-    ensures depth { length (counts order.new.past) ≡ length (counts order.old.past) }
+    ensures costs_stay { settled (counts order.new.past) ≡ settled (counts order.old.past) }
     ensures costs { OnOk result (AtMostMore 2 (counts order.old.past) (counts order.new.past)) }
     ensures steps { OnOk result (steps.new ≤ steps.old + 2) }
     ensures succeeds { IsReady 2 from order.old → IsReady 2 to order.old → IsOk result }
@@ -115,7 +115,7 @@ pub fn move_place<L: StepBook>(
     ensures marked { (s : States) → IsMarked pair_cmp order_of order.old.past s → IsMarked pair_cmp order_of order.new.past s }
     ensures ahead { order.new.ahead ≡ order.old.ahead }
     ensures root { order.new.root ≡ order.old.root }
-    ensures depth { length (counts order.new.past) ≡ length (counts order.old.past) }
+    ensures costs_stay { settled (counts order.new.past) ≡ settled (counts order.old.past) }
     ensures costs { OnOk result (AtMostMore 2 (counts order.old.past) (counts order.new.past)) }
     ensures steps { OnOk result (steps.new ≤ steps.old + 2) }
 

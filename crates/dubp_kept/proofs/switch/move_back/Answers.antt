@@ -1,8 +1,10 @@
 use Rattle.std.proofs.Common.{refl, ◌≡◌, ◌+◌, ◌-◌, ◌++◌, ◌∷◌, [], ◌∙◌, length, length-append, reverse, ap, sym, subst, option_to_list, arith}
 use Rattle.std.proofs.lemmas.List.{length-drop, length-reverse}
 use Rattle.dubp_chain.specs.Heads.{heads_of}
+use Rattle.dubp_kept.specs.KeptChain.{steps_of_last, StandsWithin, WaitsWithin}
 use Rattle.dubp_kept.specs.Moves.{HasMoved}
 use Rattle.dubp_kept.proofs.Moved.{length_heads, length_push, moved_back, time_small}
+use Rattle.dubp_kept.proofs.Within.{again_within, steps_on, within_again}
 use Rattle.dubp_kept.proofs.switch.move_back.Goals as goal
 
 pub put_back-requires-clause-time : goal.put_back-requires-clause-time
@@ -23,19 +25,27 @@ pub loop-block-preserved : goal.loop-block-preserved
 loop-block-preserved g c =
     let o = c.args.held.now.items ++ reverse c.args.blocks.now.items in
     let i = c.loop-block.invariant in
+    let old = c.loop-block.tables in
+    let new = c.again.new.self in
     let rest = c.pop.new.self.items in
     let a = c.again.ensures in
     let less = c.pop.ensures.items ∙ ap (λ r. rest ++ option_to_list r) c.in-Some.is in
     let heads_less = c.pop-in-Some.ensures.items ∙ ap (λ r. c.pop-in-Some.new.self.items ++ option_to_list r) c.unwrap-head.ensures in
     let one_less : length c.loop-block.held.items ≡ length rest + 1 = ap length less ∙ length_push rest c.in-Some.block in
-    let m = subst (λ n. HasMoved (g.T.Tables.stands c.loop-block.tables) (g.T.Tables.waits c.loop-block.tables) (length (g.T.Tables.ahead_costs c.loop-block.tables)) c.loop-block.heads c.loop-block.behind.items c.loop-block.blocks.items c.loop-block.held.items o n) one_less i.moved in
+    let m = subst (λ n. HasMoved (StandsWithin (g.T.Tables.stands old) (g.T.Tables.costs old)) (WaitsWithin (g.T.Tables.waits old) (g.T.Tables.ahead_costs old)) (length (g.T.Tables.ahead_costs c.loop-block.tables)) c.loop-block.heads c.loop-block.behind.items c.loop-block.blocks.items c.loop-block.held.items o n) one_less i.moved in
+    let n = c.again.new.steps - c.loop-block.steps in
+    let moved = a.moved o (length rest) m.stands_is.0 m.waits_is.0 in
+    let count : length (g.T.Tables.ahead_costs new) ≡ length rest = omega (arith, ap length a.ahead, m.ahead_is) in
+    let within = within_again (g.T.Tables.costs old) (g.T.Tables.costs new) (g.T.Tables.ahead_costs old) (g.T.Tables.ahead_costs new) n o (length rest) count (omega (arith, m.within)) a.costs a.ahead m.stands_is.1 m.waits_is.1 in
+    let least = again_within (g.T.Tables.ahead_costs old) (g.T.Tables.ahead_costs new) n o (length rest) count a.ahead m.waits_is.1 in
     record {
-      moved = moved_back (g.T.Tables.stands c.loop-block.tables) (g.T.Tables.stands c.again.new.self) (g.T.Tables.waits c.loop-block.tables) (g.T.Tables.waits c.again.new.self) (length (g.T.Tables.ahead_costs c.loop-block.tables)) (length (g.T.Tables.ahead_costs c.again.new.self)) c.loop-block.heads c.put_back.new.self c.loop-block.behind.items c.pop-in-Some.new.self.items c.loop-block.blocks.items c.push_reserved.new.self.items c.loop-block.held.items rest o (length rest) c.unwrap-head.result c.in-Some.block
+      moved = moved_back (StandsWithin (g.T.Tables.stands old) (g.T.Tables.costs old)) (StandsWithin (g.T.Tables.stands new) (g.T.Tables.costs new)) (WaitsWithin (g.T.Tables.waits old) (g.T.Tables.ahead_costs old)) (WaitsWithin (g.T.Tables.waits new) (g.T.Tables.ahead_costs new)) (length (g.T.Tables.ahead_costs c.loop-block.tables)) (length (g.T.Tables.ahead_costs c.again.new.self)) c.loop-block.heads c.put_back.new.self c.loop-block.behind.items c.pop-in-Some.new.self.items c.loop-block.blocks.items c.push_reserved.new.self.items c.loop-block.held.items rest o (length rest) c.unwrap-head.result c.in-Some.block
           m c.put_back.ensures.pushed (c.put_back.ensures.span ∙ ap (λ p. p.median_time_blocks) c.requires.params) c.push_reserved.ensures.items less heads_less
-          (omega (arith, ap length a.ahead)) (a.moved o (length rest) m.stands_is m.waits_is);
+          (omega (arith, ap length a.ahead)) ((moved.0, within.0), (moved.1, within.1));
       depth = omega (arith, one_less, ap length a.costs, length-append (g.T.Tables.costs c.loop-block.tables) ((c.again.new.steps - c.loop-block.steps) ∷ []), i.depth);
       room = omega (arith, i.room, c.push_reserved.ensures.len, c.push_reserved.ensures.capacity, one_less, c.pop.new.self.ok.0, c.loop-block.held.ok.0);
       capacity = c.push_reserved.ensures.capacity ∙ i.capacity;
+      steps = omega (arith, i.steps, a.steps, least, ap (λ k. steps_of_last k o) one_less, steps_on (length rest) o);
       keeps = record { room = omega (arith, i.keeps.room, c.put_back.ensures.keeps.room); width = omega (arith, i.keeps.width, c.put_back.ensures.keeps.width) };
     }
 
@@ -48,5 +58,6 @@ loop-block-init g c =
       depth = refl;
       room = omega (arith, c.requires.returns.fits, length-append held.items (reverse blocks.items), length-reverse blocks.items, blocks.ok.0, held.ok.0);
       capacity = refl;
+      steps = omega arith;
       keeps = record { room = omega arith; width = omega arith };
     }

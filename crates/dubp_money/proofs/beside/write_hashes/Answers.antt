@@ -1,9 +1,9 @@
-use Rattle.std.proofs.Common.{◌∙◌, refl, ap, length, arith}
+use Rattle.std.proofs.Common.{◌∙◌, refl, ap, arith}
 use Rattle.std.specs.Cmp.Lexicographic.{slice_cmp}
 use Rattle.std.specs.Ordering.{nat_cmp}
 use Rattle.dubp_undo.specs.MovingTable.{get}
-use Rattle.dubp_undo.specs.Numbers.{counts}
-use Rattle.dubp_undo.proofs.Numbers.{length-add_last}
+use Rattle.dubp_undo.specs.Numbers.{counts, settled}
+use Rattle.dubp_undo.proofs.Numbers.{settled-add_last}
 use Rattle.dubp_sindex.proofs.Numbers.{none_more, more_and_more, one_more}
 use Rattle.dubp_money.proofs.Noting.{noted_next, noted_all}
 use Rattle.dubp_money.proofs.beside.write_hashes.Goals as goal
@@ -33,11 +33,11 @@ loop-hash-preserved g c =
       steps = omega (arith, before.steps, set.step);
     }
 
-pub returns-in_err-set-clause-depth : goal.returns-in_err-set-clause-depth
-returns-in_err-set-clause-depth g c = c.set.ensures.depth ∙ (ap length c.loop-hash.invariant.costs.is ∙ length-add_last c.loop-hash.invariant.costs.more (counts c.args.table.now.past))
+pub returns-in_err-set-clause-costs_stay : goal.returns-in_err-set-clause-costs_stay
+returns-in_err-set-clause-costs_stay g c = c.set.ensures.costs_stay ∙ (ap settled c.loop-hash.invariant.costs.is ∙ settled-add_last c.loop-hash.invariant.costs.more (counts c.args.table.now.past))
 
-pub returns-clause-depth : goal.returns-clause-depth
-returns-clause-depth g c = ap length c.loop-hash.invariant.costs.is ∙ length-add_last c.loop-hash.invariant.costs.more (counts c.args.table.now.past)
+pub returns-clause-costs_stay : goal.returns-clause-costs_stay
+returns-clause-costs_stay g c = ap settled c.loop-hash.invariant.costs.is ∙ settled-add_last c.loop-hash.invariant.costs.more (counts c.args.table.now.past)
 
 pub returns-clause-at : goal.returns-clause-at
 returns-clause-at g c = λ chain b are at k.

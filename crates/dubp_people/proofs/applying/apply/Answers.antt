@@ -3,6 +3,7 @@ use Rattle.std.specs.Cmp.Lexicographic.{slice_cmp}
 use Rattle.std.specs.Ordering.{nat_cmp}
 use Rattle.dubp_rules.specs.declared.rule.Rule.TheVariants.{G51}
 use Rattle.dubp_undo.specs.Definition.{IsAt}
+use Rattle.dubp_undo.proofs.Numbers.{settled_length, settled_plus}
 use Rattle.dubp_facts.specs.contracts.facts.FactsTablesBlock.TheImpl as facts
 use Rattle.dubp_registry.specs.contracts.indexes.IndexesTablesBlock.TheImpl as indexes
 use Rattle.dubp_registry.specs.contracts.others.OthersTablesBlock.TheImpl as others
@@ -12,24 +13,43 @@ use Rattle.dubp_people_identities.specs.Writing.{most_sets}
 use Rattle.dubp_people_identities.proofs.Onward.{more_and_more}
 use Rattle.dubp_people_apply.specs.Counting.{membership_sets, certification_sets, queue_sets}
 use Rattle.dubp_people_apply.proofs.Fitting.{sets_fit}
-use Rattle.dubp_people.proofs.Beside.{two_depth, two_more, at_most}
+use Rattle.dubp_people.proofs.Beside.{two_more, at_most}
 use Rattle.dubp_people.proofs.applying.apply.Goals as goal
 
 pub returns-in_err-write_lines-clause-waits : goal.returns-in_err-write_lines-clause-waits
 returns-in_err-write_lines-clause-waits g c = λ o i w. (c.in_err-write_lines.ensures.waits o i w.0, c.in_err-write_lines.ensures.others_waits o i w.1)
 
-pub returns-in_err-write_lines-clause-depth : goal.returns-in_err-write_lines-clause-depth
-returns-in_err-write_lines-clause-depth g c =
-    two_depth ((indexes.ghosts).costs c.args.people.now.tables.first) ((indexes.ghosts).costs c.write_lines.new.indexes) ((others.ghosts).costs c.args.people.now.tables.second) ((others.ghosts).costs c.write_lines.new.others)
-    c.args.people.now.tables.even c.in_err-write_lines.ensures.depth (c.in_err-write_lines.ensures.others_depth)
+pub invariant_of-tables : goal.invariant_of-tables
+invariant_of-tables g c =
+    let old = c.args.people.now.tables in
+    let indexed = settled_length ((indexes.ghosts).costs c.write_lines.new.indexes) ((indexes.ghosts).costs old.first) c.write_lines.ensures.costs_stay in
+    record {
+      even = indexed ∙ old.even ∙ sym (settled_length ((others.ghosts).costs c.write_lines.new.others) ((others.ghosts).costs old.second) c.write_lines.ensures.others_costs_stay);
+      even_ahead = ap length c.write_lines.ensures.ahead ∙ old.even_ahead ∙ sym (ap length c.write_lines.ensures.others_ahead);
+    }
+
+pub invariant_of-tables-2 : goal.invariant_of-tables-2
+invariant_of-tables-2 g c =
+    let old = c.args.people.now.tables in
+    let indexed = settled_length ((indexes.ghosts).costs c.write_lines.new.indexes) ((indexes.ghosts).costs old.first) c.write_lines.ensures.costs_stay in
+    let other = settled_length ((others.ghosts).costs c.write_others.new.others) ((others.ghosts).costs old.second) (c.write_others.ensures.costs_stay ∙ c.write_lines.ensures.others_costs_stay) in
+    record {
+      even = indexed ∙ old.even ∙ sym other;
+      even_ahead = ap length c.write_lines.ensures.ahead ∙ old.even_ahead ∙ sym (ap length (c.write_others.ensures.ahead ∙ c.write_lines.ensures.others_ahead));
+    }
+
+pub returns-in_err-write_lines-clause-costs_stay : goal.returns-in_err-write_lines-clause-costs_stay
+returns-in_err-write_lines-clause-costs_stay g c =
+    settled_plus ((indexes.ghosts).costs c.args.people.now.tables.first) ((indexes.ghosts).costs c.write_lines.new.indexes) ((others.ghosts).costs c.args.people.now.tables.second) ((others.ghosts).costs c.write_lines.new.others)
+    c.args.people.now.tables.even c.in_err-write_lines.ensures.costs_stay (c.in_err-write_lines.ensures.others_costs_stay)
 
 pub returns-in_err-write_others-clause-waits : goal.returns-in_err-write_others-clause-waits
 returns-in_err-write_others-clause-waits g c = λ o i w. (c.in_ok-write_lines.ensures.waits o i w.0, c.in_err-write_others.ensures.waits o i (c.in_ok-write_lines.ensures.others_waits o i w.1))
 
-pub returns-in_err-write_others-clause-depth : goal.returns-in_err-write_others-clause-depth
-returns-in_err-write_others-clause-depth g c =
-    two_depth ((indexes.ghosts).costs c.args.people.now.tables.first) ((indexes.ghosts).costs c.write_lines.new.indexes) ((others.ghosts).costs c.args.people.now.tables.second) ((others.ghosts).costs c.write_others.new.others)
-    c.args.people.now.tables.even c.in_ok-write_lines.ensures.depth (c.in_err-write_others.ensures.depth ∙ c.in_ok-write_lines.ensures.others_depth)
+pub returns-in_err-write_others-clause-costs_stay : goal.returns-in_err-write_others-clause-costs_stay
+returns-in_err-write_others-clause-costs_stay g c =
+    settled_plus ((indexes.ghosts).costs c.args.people.now.tables.first) ((indexes.ghosts).costs c.write_lines.new.indexes) ((others.ghosts).costs c.args.people.now.tables.second) ((others.ghosts).costs c.write_others.new.others)
+    c.args.people.now.tables.even c.in_ok-write_lines.ensures.costs_stay (c.in_err-write_others.ensures.costs_stay ∙ c.in_ok-write_lines.ensures.others_costs_stay)
 
 pub returns-in_err-append-clause-marked : goal.returns-in_err-append-clause-marked
 returns-in_err-append-clause-marked g c = λ chain m. (c.in_ok-write_lines.ensures.marked chain m.0, c.in_ok-write_others.ensures.marked chain (c.in_ok-write_lines.ensures.others_marked chain m.1))
@@ -37,10 +57,10 @@ returns-in_err-append-clause-marked g c = λ chain m. (c.in_ok-write_lines.ensur
 pub returns-in_err-append-clause-waits : goal.returns-in_err-append-clause-waits
 returns-in_err-append-clause-waits g c = λ o i w. (c.in_ok-write_lines.ensures.waits o i w.0, c.in_ok-write_others.ensures.waits o i (c.in_ok-write_lines.ensures.others_waits o i w.1))
 
-pub returns-in_err-append-clause-depth : goal.returns-in_err-append-clause-depth
-returns-in_err-append-clause-depth g c =
-    two_depth ((indexes.ghosts).costs c.args.people.now.tables.first) ((indexes.ghosts).costs c.write_lines.new.indexes) ((others.ghosts).costs c.args.people.now.tables.second) ((others.ghosts).costs c.write_others.new.others)
-    c.args.people.now.tables.even c.in_ok-write_lines.ensures.depth (c.in_ok-write_others.ensures.depth ∙ c.in_ok-write_lines.ensures.others_depth)
+pub returns-in_err-append-clause-costs_stay : goal.returns-in_err-append-clause-costs_stay
+returns-in_err-append-clause-costs_stay g c =
+    settled_plus ((indexes.ghosts).costs c.args.people.now.tables.first) ((indexes.ghosts).costs c.write_lines.new.indexes) ((others.ghosts).costs c.args.people.now.tables.second) ((others.ghosts).costs c.write_others.new.others)
+    c.args.people.now.tables.even c.in_ok-write_lines.ensures.costs_stay (c.in_ok-write_others.ensures.costs_stay ∙ c.in_ok-write_lines.ensures.others_costs_stay)
 
 pub returns-clause-marked : goal.returns-clause-marked
 returns-clause-marked g c = λ chain m. (c.in_ok-write_lines.ensures.marked chain m.0, c.in_ok-write_others.ensures.marked chain (c.in_ok-write_lines.ensures.others_marked chain m.1))
@@ -48,10 +68,10 @@ returns-clause-marked g c = λ chain m. (c.in_ok-write_lines.ensures.marked chai
 pub returns-clause-waits : goal.returns-clause-waits
 returns-clause-waits g c = λ o i w. (c.in_ok-write_lines.ensures.waits o i w.0, c.in_ok-write_others.ensures.waits o i (c.in_ok-write_lines.ensures.others_waits o i w.1))
 
-pub returns-clause-depth : goal.returns-clause-depth
-returns-clause-depth g c =
-    two_depth ((indexes.ghosts).costs c.args.people.now.tables.first) ((indexes.ghosts).costs c.write_lines.new.indexes) ((others.ghosts).costs c.args.people.now.tables.second) ((others.ghosts).costs c.write_others.new.others)
-    c.args.people.now.tables.even c.in_ok-write_lines.ensures.depth (c.in_ok-write_others.ensures.depth ∙ c.in_ok-write_lines.ensures.others_depth)
+pub returns-clause-costs_stay : goal.returns-clause-costs_stay
+returns-clause-costs_stay g c =
+    settled_plus ((indexes.ghosts).costs c.args.people.now.tables.first) ((indexes.ghosts).costs c.write_lines.new.indexes) ((others.ghosts).costs c.args.people.now.tables.second) ((others.ghosts).costs c.write_others.new.others)
+    c.args.people.now.tables.even c.in_ok-write_lines.ensures.costs_stay (c.in_ok-write_others.ensures.costs_stay ∙ c.in_ok-write_lines.ensures.others_costs_stay)
 
 pub returns-clause-at : goal.returns-clause-at
 returns-clause-at g c = λ chain applied at. (

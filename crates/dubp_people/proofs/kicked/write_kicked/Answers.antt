@@ -9,7 +9,7 @@ use Rattle.dubp_steps.specs.Loops.{kicked_record}
 use Rattle.dubp_steps.specs.Steps.{touches}
 use Rattle.dubp_steps.specs.Taken.{kicked_by}
 use Rattle.dubp_steps.proofs.Lines.{kicked_fold}
-use Rattle.dubp_people_identities.proofs.Onward.{none_more, more_and_more, same_depth, fold_next, fold_whole}
+use Rattle.dubp_people_identities.proofs.Onward.{none_more, more_and_more, more_settled, fold_next, fold_whole}
 use Rattle.dubp_people.proofs.Rows.{unit_of, some_of}
 use Rattle.dubp_people.proofs.kicked.write_kicked.Goals as goal
 
@@ -40,8 +40,8 @@ loop-record-preserved g c =
       steps = omega (arith, before.steps, now.steps);
     }
 
-pub returns-in_err-renew-clause-depth : goal.returns-in_err-renew-clause-depth
-returns-in_err-renew-clause-depth g c = c.in_err-renew.ensures.depth ∙ same_depth c.loop-record.invariant.costs
+pub returns-in_err-renew-clause-costs_stay : goal.returns-in_err-renew-clause-costs_stay
+returns-in_err-renew-clause-costs_stay g c = c.in_err-renew.ensures.costs_stay ∙ more_settled c.loop-record.invariant.costs
 
 pub returns-clause-at : goal.returns-clause-at
 returns-clause-at g c = λ chain b w e at at' at'' old k.
@@ -52,5 +52,5 @@ returns-clause-at g c = λ chain b w e at at' at'' old k.
     ∙ (λ i. fold (kicked_record chain b k) (some_of was (is_to_be_excluded chain k) (old k) i) (e i))
     ∙ kicked_fold chain b w.sound k)
 
-pub returns-clause-depth : goal.returns-clause-depth
-returns-clause-depth g c = same_depth c.loop-record.invariant.costs
+pub returns-clause-costs_stay : goal.returns-clause-costs_stay
+returns-clause-costs_stay g c = more_settled c.loop-record.invariant.costs

@@ -3,29 +3,43 @@ use Rattle.std.specs.Cmp.Lexicographic.{slice_cmp}
 use Rattle.std.specs.Ordering.{nat_cmp}
 use Rattle.dubp_undo.specs.Definition.{Waits}
 use Rattle.dubp_undo.specs.Numbers.{counts}
+use Rattle.dubp_undo.proofs.Numbers.{settled_length}
 use Rattle.dubp_left.specs.Left.{kicked_at}
 use Rattle.dubp_expiry.specs.contracts.queue.QueueTablesEntries.TheImpl as queue
 use Rattle.dubp_facts.specs.contracts.facts.FactsTablesBlock.TheImpl as facts
 use Rattle.dubp_people_identities.proofs.Onward.{none_more}
-use Rattle.dubp_people.proofs.Beside.{three_depth, three_more}
+use Rattle.dubp_people.proofs.Beside.{three_settled, three_more}
 use Rattle.dubp_people.proofs.writing.write_others.Goals as goal
 
 pub returns-in_err-write_kicked-clause-marked : goal.returns-in_err-write_kicked-clause-marked
 returns-in_err-write_kicked-clause-marked g c = λ chain m. (m.0, c.in_err-write_kicked.ensures.marked chain m.1, m.2)
 
-pub returns-in_err-write_kicked-clause-depth : goal.returns-in_err-write_kicked-clause-depth
-returns-in_err-write_kicked-clause-depth g c =
+pub returns-in_err-write_kicked-clause-costs_stay : goal.returns-in_err-write_kicked-clause-costs_stay
+returns-in_err-write_kicked-clause-costs_stay g c =
     let old = c.args.others.now.tables in
-    three_depth ((queue.ghosts).costs old.first.tables) ((queue.ghosts).costs old.first.tables) (counts old.second.past) (counts c.write_kicked.new.kicked.past) ((facts.ghosts).costs old.third) ((facts.ghosts).costs old.third)
-    old.even old.even_last refl c.in_err-write_kicked.ensures.depth refl
+    three_settled ((queue.ghosts).costs old.first.tables) ((queue.ghosts).costs old.first.tables) (counts old.second.past) (counts c.write_kicked.new.kicked.past) ((facts.ghosts).costs old.third) ((facts.ghosts).costs old.third)
+    old.even old.even_last refl c.in_err-write_kicked.ensures.costs_stay refl
+
+pub invariant_of-others : goal.invariant_of-others
+invariant_of-others g c =
+    let old = c.args.others.now.tables in
+    let kicked = c.write_kicked.ensures in
+    let as_long = settled_length (counts c.write_kicked.new.kicked.past) (counts old.second.past) kicked.costs_stay in
+    record {
+      even = old.even ∙ sym as_long;
+      even_last = as_long ∙ old.even_last;
+      even_ahead = old.even_ahead ∙ sym (ap (λ a. length (counts a)) kicked.ahead);
+      even_ahead_last = ap (λ a. length (counts a)) kicked.ahead ∙ old.even_ahead_last;
+    }
 
 pub invariant_of-others-2 : goal.invariant_of-others-2
 invariant_of-others-2 g c =
     let old = c.args.others.now.tables in
     let kicked = c.in_ok-write_kicked.ensures in
+    let as_long = settled_length (counts c.write_kicked.new.kicked.past) (counts old.second.past) kicked.costs_stay in
     record {
-      even = old.even ∙ sym kicked.depth;
-      even_last = kicked.depth ∙ old.even_last ∙ sym c.write_facts.ensures.depth;
+      even = old.even ∙ sym as_long;
+      even_last = as_long ∙ old.even_last ∙ sym (settled_length ((facts.ghosts).costs c.write_facts.new.facts) ((facts.ghosts).costs old.third) c.write_facts.ensures.costs_stay);
       even_ahead = old.even_ahead ∙ sym (ap (λ a. length (counts a)) kicked.ahead);
       even_ahead_last = ap (λ a. length (counts a)) kicked.ahead ∙ old.even_ahead_last ∙ sym (ap length c.write_facts.ensures.ahead);
     }
@@ -33,20 +47,20 @@ invariant_of-others-2 g c =
 pub returns-in_err-write_facts-clause-marked : goal.returns-in_err-write_facts-clause-marked
 returns-in_err-write_facts-clause-marked g c = λ chain m. (m.0, c.in_ok-write_kicked.ensures.marked chain m.1, c.in_err-write_facts.ensures.marked chain m.2)
 
-pub returns-in_err-write_facts-clause-depth : goal.returns-in_err-write_facts-clause-depth
-returns-in_err-write_facts-clause-depth g c =
+pub returns-in_err-write_facts-clause-costs_stay : goal.returns-in_err-write_facts-clause-costs_stay
+returns-in_err-write_facts-clause-costs_stay g c =
     let old = c.args.others.now.tables in
-    three_depth ((queue.ghosts).costs old.first.tables) ((queue.ghosts).costs old.first.tables) (counts old.second.past) (counts c.write_kicked.new.kicked.past) ((facts.ghosts).costs old.third) ((facts.ghosts).costs c.write_facts.new.facts)
-    old.even old.even_last refl c.in_ok-write_kicked.ensures.depth c.in_err-write_facts.ensures.depth
+    three_settled ((queue.ghosts).costs old.first.tables) ((queue.ghosts).costs old.first.tables) (counts old.second.past) (counts c.write_kicked.new.kicked.past) ((facts.ghosts).costs old.third) ((facts.ghosts).costs c.write_facts.new.facts)
+    old.even old.even_last refl c.in_ok-write_kicked.ensures.costs_stay c.in_err-write_facts.ensures.costs_stay
 
 pub returns-clause-marked : goal.returns-clause-marked
 returns-clause-marked g c = λ chain m. (m.0, c.in_ok-write_kicked.ensures.marked chain m.1, c.in_ok-write_facts.ensures.marked chain m.2)
 
-pub returns-clause-depth : goal.returns-clause-depth
-returns-clause-depth g c =
+pub returns-clause-costs_stay : goal.returns-clause-costs_stay
+returns-clause-costs_stay g c =
     let old = c.args.others.now.tables in
-    three_depth ((queue.ghosts).costs old.first.tables) ((queue.ghosts).costs old.first.tables) (counts old.second.past) (counts c.write_kicked.new.kicked.past) ((facts.ghosts).costs old.third) ((facts.ghosts).costs c.write_facts.new.facts)
-    old.even old.even_last refl c.in_ok-write_kicked.ensures.depth c.in_ok-write_facts.ensures.depth
+    three_settled ((queue.ghosts).costs old.first.tables) ((queue.ghosts).costs old.first.tables) (counts old.second.past) (counts c.write_kicked.new.kicked.past) ((facts.ghosts).costs old.third) ((facts.ghosts).costs c.write_facts.new.facts)
+    old.even old.even_last refl c.in_ok-write_kicked.ensures.costs_stay c.in_ok-write_facts.ensures.costs_stay
 
 pub returns-clause-waits : goal.returns-clause-waits
 returns-clause-waits g c = λ o i w. (

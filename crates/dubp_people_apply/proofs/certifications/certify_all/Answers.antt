@@ -15,12 +15,12 @@ loop-line-init g c =
       certifications_marked = λ s m. m;
       certifications_waits = λ o i w. w;
       certifications_ahead = refl;
-      certifications_depth = refl;
+      certifications_costs_stay = refl;
       certifications_costs = none_more 0 _;
       queue_marked = λ s m. m;
       queue_waits = λ o i w. w;
       queue_ahead = refl;
-      queue_depth = refl;
+      queue_costs_stay = refl;
       queue_costs = none_more 0 _;
       steps = omega arith;
     }
@@ -34,12 +34,12 @@ loop-line-preserved g c =
       certifications_marked = λ s m. c.in_ok-certify.ensures.certifications_marked s (c.loop-line.invariant.certifications_marked s m);
       certifications_waits = λ o i w. c.in_ok-certify.ensures.certifications_waits o i (c.loop-line.invariant.certifications_waits o i w);
       certifications_ahead = c.in_ok-certify.ensures.certifications_ahead ∙ c.loop-line.invariant.certifications_ahead;
-      certifications_depth = c.in_ok-certify.ensures.certifications_depth ∙ c.loop-line.invariant.certifications_depth;
+      certifications_costs_stay = c.in_ok-certify.ensures.certifications_costs_stay ∙ c.loop-line.invariant.certifications_costs_stay;
       certifications_costs = more_within (5 * c.loop-line.line-index) 5 (5 * (c.loop-line.line-index + 1)) (omega arith) c.loop-line.invariant.certifications_costs c.in_ok-certify.ensures.certifications_costs;
       queue_marked = λ s m. c.in_ok-certify.ensures.queue_marked s (c.loop-line.invariant.queue_marked s m);
       queue_waits = λ o i w. c.in_ok-certify.ensures.queue_waits o i (c.loop-line.invariant.queue_waits o i w);
       queue_ahead = c.in_ok-certify.ensures.queue_ahead ∙ c.loop-line.invariant.queue_ahead;
-      queue_depth = c.in_ok-certify.ensures.queue_depth ∙ c.loop-line.invariant.queue_depth;
+      queue_costs_stay = c.in_ok-certify.ensures.queue_costs_stay ∙ c.loop-line.invariant.queue_costs_stay;
       queue_costs = more_within (2 * c.loop-line.line-index) 2 (2 * (c.loop-line.line-index + 1)) (omega arith) c.loop-line.invariant.queue_costs c.in_ok-certify.ensures.queue_costs;
       steps = let a = c.in_ok-certify.ensures.steps in let b = c.loop-line.invariant.steps in omega (arith, a, b);
     }

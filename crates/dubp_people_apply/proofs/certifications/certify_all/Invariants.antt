@@ -1,4 +1,5 @@
-use Rattle.std.proofs.Common.{◌≡◌, ℕ, ◌+◌, ◌*◌, ◌≤◌, List, length, take, fold}
+use Rattle.std.proofs.Common.{◌≡◌, ℕ, ◌+◌, ◌*◌, ◌≤◌, List, take, fold}
+use Rattle.dubp_undo.specs.Numbers.{settled}
 use Rattle.dubp_undo.specs.States.{AtMostMore}
 use Rattle.dubp_cindex.specs.Rows.{Rows}
 use Rattle.dubp_cindex.specs.contracts.index.CIndexTablesCertRows.TheImpl as cindex
@@ -19,12 +20,12 @@ invariant-loop-line g l = record {
   certifications_marked : (s : List Rows) → (cindex.ghosts).marked l.initial.certifications s → (cindex.ghosts).marked l.certifications s;
   certifications_waits : (o : List Rows) (i : ℕ) → (cindex.ghosts).waits l.initial.certifications o i → (cindex.ghosts).waits l.certifications o i;
   certifications_ahead : (cindex.ghosts).ahead_costs l.certifications ≡ (cindex.ghosts).ahead_costs l.initial.certifications;
-  certifications_depth : length ((cindex.ghosts).costs l.certifications) ≡ length ((cindex.ghosts).costs l.initial.certifications);
+  certifications_costs_stay : settled ((cindex.ghosts).costs l.certifications) ≡ settled ((cindex.ghosts).costs l.initial.certifications);
   certifications_costs : AtMostMore (5 * l.line-index) ((cindex.ghosts).costs l.initial.certifications) ((cindex.ghosts).costs l.certifications);
   queue_marked : (s : List Queued) → (queue_tables.ghosts).marked l.initial.queue s → (queue_tables.ghosts).marked l.queue s;
   queue_waits : (o : List Queued) (i : ℕ) → (queue_tables.ghosts).waits l.initial.queue o i → (queue_tables.ghosts).waits l.queue o i;
   queue_ahead : (queue_tables.ghosts).ahead_costs l.queue ≡ (queue_tables.ghosts).ahead_costs l.initial.queue;
-  queue_depth : length ((queue_tables.ghosts).costs l.queue) ≡ length ((queue_tables.ghosts).costs l.initial.queue);
+  queue_costs_stay : settled ((queue_tables.ghosts).costs l.queue) ≡ settled ((queue_tables.ghosts).costs l.initial.queue);
   queue_costs : AtMostMore (2 * l.line-index) ((queue_tables.ghosts).costs l.initial.queue) ((queue_tables.ghosts).costs l.queue);
   steps : l.steps ≤ l.initial.steps + 7 * l.line-index;
 }

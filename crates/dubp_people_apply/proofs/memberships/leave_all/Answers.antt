@@ -14,7 +14,7 @@ loop-line-init g c =
       memberships_marked = λ s m. m;
       memberships_waits = λ o i w. w;
       memberships_ahead = refl;
-      memberships_depth = refl;
+      memberships_costs_stay = refl;
       memberships_costs = none_more 0 _;
       steps = omega arith;
     }
@@ -28,7 +28,7 @@ loop-line-preserved g c =
       memberships_marked = λ s m. c.in_ok-leave.ensures.memberships_marked s (c.loop-line.invariant.memberships_marked s m);
       memberships_waits = λ o i w. c.in_ok-leave.ensures.memberships_waits o i (c.loop-line.invariant.memberships_waits o i w);
       memberships_ahead = c.in_ok-leave.ensures.memberships_ahead ∙ c.loop-line.invariant.memberships_ahead;
-      memberships_depth = c.in_ok-leave.ensures.memberships_depth ∙ c.loop-line.invariant.memberships_depth;
+      memberships_costs_stay = c.in_ok-leave.ensures.memberships_costs_stay ∙ c.loop-line.invariant.memberships_costs_stay;
       memberships_costs = more_within c.loop-line.line-index 1 (c.loop-line.line-index + 1) (omega arith) c.loop-line.invariant.memberships_costs c.in_ok-leave.ensures.memberships_costs;
       steps = let a = c.in_ok-leave.ensures.steps in let b = c.loop-line.invariant.steps in omega (arith, a, b);
     }

@@ -1,4 +1,5 @@
-use Rattle.std.proofs.Common.{◌≡◌, ℕ, ◌+◌, ◌≤◌, List, length, take, fold}
+use Rattle.std.proofs.Common.{◌≡◌, ℕ, ◌+◌, ◌≤◌, List, take, fold}
+use Rattle.dubp_undo.specs.Numbers.{settled}
 use Rattle.dubp_undo.specs.States.{AtMostMore}
 use Rattle.dubp_mindex.specs.Members.{Members}
 use Rattle.dubp_mindex.specs.contracts.member.MIndexTablesMemberRows.TheImpl as mindex
@@ -17,7 +18,7 @@ invariant-loop-line g l = record {
   memberships_marked : (s : List Members) → (mindex.ghosts).marked l.initial.memberships s → (mindex.ghosts).marked l.memberships s;
   memberships_waits : (o : List Members) (i : ℕ) → (mindex.ghosts).waits l.initial.memberships o i → (mindex.ghosts).waits l.memberships o i;
   memberships_ahead : (mindex.ghosts).ahead_costs l.memberships ≡ (mindex.ghosts).ahead_costs l.initial.memberships;
-  memberships_depth : length ((mindex.ghosts).costs l.memberships) ≡ length ((mindex.ghosts).costs l.initial.memberships);
+  memberships_costs_stay : settled ((mindex.ghosts).costs l.memberships) ≡ settled ((mindex.ghosts).costs l.initial.memberships);
   memberships_costs : AtMostMore (l.line-index) ((mindex.ghosts).costs l.initial.memberships) ((mindex.ghosts).costs l.memberships);
   steps : l.steps ≤ l.initial.steps + l.line-index;
 }

@@ -14,12 +14,12 @@ loop-line-init g c =
       memberships_marked = λ s m. m;
       memberships_waits = λ o i w. w;
       memberships_ahead = refl;
-      memberships_depth = refl;
+      memberships_costs_stay = refl;
       memberships_costs = none_more 0 _;
       queue_marked = λ s m. m;
       queue_waits = λ o i w. w;
       queue_ahead = refl;
-      queue_depth = refl;
+      queue_costs_stay = refl;
       queue_costs = none_more 0 _;
       steps = omega arith;
     }
@@ -33,12 +33,12 @@ loop-line-preserved g c =
       memberships_marked = λ s m. c.in_ok-revoke.ensures.memberships_marked s (c.loop-line.invariant.memberships_marked s m);
       memberships_waits = λ o i w. c.in_ok-revoke.ensures.memberships_waits o i (c.loop-line.invariant.memberships_waits o i w);
       memberships_ahead = c.in_ok-revoke.ensures.memberships_ahead ∙ c.loop-line.invariant.memberships_ahead;
-      memberships_depth = c.in_ok-revoke.ensures.memberships_depth ∙ c.loop-line.invariant.memberships_depth;
+      memberships_costs_stay = c.in_ok-revoke.ensures.memberships_costs_stay ∙ c.loop-line.invariant.memberships_costs_stay;
       memberships_costs = more_within c.loop-line.line-index 1 (c.loop-line.line-index + 1) (omega arith) c.loop-line.invariant.memberships_costs c.in_ok-revoke.ensures.memberships_costs;
       queue_marked = λ s m. c.in_ok-revoke.ensures.queue_marked s (c.loop-line.invariant.queue_marked s m);
       queue_waits = λ o i w. c.in_ok-revoke.ensures.queue_waits o i (c.loop-line.invariant.queue_waits o i w);
       queue_ahead = c.in_ok-revoke.ensures.queue_ahead ∙ c.loop-line.invariant.queue_ahead;
-      queue_depth = c.in_ok-revoke.ensures.queue_depth ∙ c.loop-line.invariant.queue_depth;
+      queue_costs_stay = c.in_ok-revoke.ensures.queue_costs_stay ∙ c.loop-line.invariant.queue_costs_stay;
       queue_costs = more_within c.loop-line.line-index 1 (c.loop-line.line-index + 1) (omega arith) c.loop-line.invariant.queue_costs c.in_ok-revoke.ensures.queue_costs;
       steps = let a = c.in_ok-revoke.ensures.steps in let b = c.loop-line.invariant.steps in omega (arith, a, b);
     }

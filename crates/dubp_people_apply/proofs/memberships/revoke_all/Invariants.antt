@@ -1,4 +1,5 @@
-use Rattle.std.proofs.Common.{◌≡◌, ℕ, ◌+◌, ◌*◌, ◌≤◌, List, length, take, fold}
+use Rattle.std.proofs.Common.{◌≡◌, ℕ, ◌+◌, ◌*◌, ◌≤◌, List, take, fold}
+use Rattle.dubp_undo.specs.Numbers.{settled}
 use Rattle.dubp_undo.specs.States.{AtMostMore}
 use Rattle.dubp_mindex.specs.Members.{Members}
 use Rattle.dubp_mindex.specs.contracts.member.MIndexTablesMemberRows.TheImpl as mindex
@@ -19,12 +20,12 @@ invariant-loop-line g l = record {
   memberships_marked : (s : List Members) → (mindex.ghosts).marked l.initial.memberships s → (mindex.ghosts).marked l.memberships s;
   memberships_waits : (o : List Members) (i : ℕ) → (mindex.ghosts).waits l.initial.memberships o i → (mindex.ghosts).waits l.memberships o i;
   memberships_ahead : (mindex.ghosts).ahead_costs l.memberships ≡ (mindex.ghosts).ahead_costs l.initial.memberships;
-  memberships_depth : length ((mindex.ghosts).costs l.memberships) ≡ length ((mindex.ghosts).costs l.initial.memberships);
+  memberships_costs_stay : settled ((mindex.ghosts).costs l.memberships) ≡ settled ((mindex.ghosts).costs l.initial.memberships);
   memberships_costs : AtMostMore (l.line-index) ((mindex.ghosts).costs l.initial.memberships) ((mindex.ghosts).costs l.memberships);
   queue_marked : (s : List Queued) → (queue_tables.ghosts).marked l.initial.queue s → (queue_tables.ghosts).marked l.queue s;
   queue_waits : (o : List Queued) (i : ℕ) → (queue_tables.ghosts).waits l.initial.queue o i → (queue_tables.ghosts).waits l.queue o i;
   queue_ahead : (queue_tables.ghosts).ahead_costs l.queue ≡ (queue_tables.ghosts).ahead_costs l.initial.queue;
-  queue_depth : length ((queue_tables.ghosts).costs l.queue) ≡ length ((queue_tables.ghosts).costs l.initial.queue);
+  queue_costs_stay : settled ((queue_tables.ghosts).costs l.queue) ≡ settled ((queue_tables.ghosts).costs l.initial.queue);
   queue_costs : AtMostMore (l.line-index) ((queue_tables.ghosts).costs l.initial.queue) ((queue_tables.ghosts).costs l.queue);
   steps : l.steps ≤ l.initial.steps + 2 * l.line-index;
 }

@@ -12,15 +12,15 @@ taking-init g c =
       memberships_marked = λ s m. m;
       memberships_waits = λ o i w. w;
       memberships_ahead = refl;
-      memberships_depth = refl;
+      memberships_costs_stay = refl;
       certifications_marked = λ s m. m;
       certifications_waits = λ o i w. w;
       certifications_ahead = refl;
-      certifications_depth = refl;
+      certifications_costs_stay = refl;
       queue_marked = λ s m. m;
       queue_waits = λ o i w. w;
       queue_ahead = refl;
-      queue_depth = refl;
+      queue_costs_stay = refl;
     }
 
 pub taking-preserved : goal.taking-preserved
@@ -36,15 +36,15 @@ taking-preserved g c =
       memberships_marked = λ s m. c.in_ok-take_one.ensures.memberships_marked s (c.taking.invariant.memberships_marked s m);
       memberships_waits = λ o i w. c.in_ok-take_one.ensures.memberships_waits o i (c.taking.invariant.memberships_waits o i w);
       memberships_ahead = c.in_ok-take_one.ensures.memberships_ahead ∙ c.taking.invariant.memberships_ahead;
-      memberships_depth = c.in_ok-take_one.ensures.memberships_depth ∙ c.taking.invariant.memberships_depth;
+      memberships_costs_stay = c.in_ok-take_one.ensures.memberships_costs_stay ∙ c.taking.invariant.memberships_costs_stay;
       certifications_marked = λ s m. c.in_ok-take_one.ensures.certifications_marked s (c.taking.invariant.certifications_marked s m);
       certifications_waits = λ o i w. c.in_ok-take_one.ensures.certifications_waits o i (c.taking.invariant.certifications_waits o i w);
       certifications_ahead = c.in_ok-take_one.ensures.certifications_ahead ∙ c.taking.invariant.certifications_ahead;
-      certifications_depth = c.in_ok-take_one.ensures.certifications_depth ∙ c.taking.invariant.certifications_depth;
+      certifications_costs_stay = c.in_ok-take_one.ensures.certifications_costs_stay ∙ c.taking.invariant.certifications_costs_stay;
       queue_marked = λ s m. c.in_ok-take_one.ensures.queue_marked s (c.taking.invariant.queue_marked s m);
       queue_waits = λ o i w. c.in_ok-take_one.ensures.queue_waits o i (c.taking.invariant.queue_waits o i w);
       queue_ahead = c.in_ok-take_one.ensures.queue_ahead ∙ c.taking.invariant.queue_ahead;
-      queue_depth = c.in_ok-take_one.ensures.queue_depth ∙ c.taking.invariant.queue_depth;
+      queue_costs_stay = c.in_ok-take_one.ensures.queue_costs_stay ∙ c.taking.invariant.queue_costs_stay;
     }
 
 pub returns-in_default-clause-taken : goal.returns-in_default-clause-taken

@@ -1,7 +1,7 @@
 use Rattle.std.proofs.Common.{◌∷◌, ◌∙◌, refl, sym, subst, fold, take, arith}
 use Rattle.dubp_iindex.specs.contracts.index.IIndexTablesIdentityRows.TheImpl as tables
 use Rattle.dubp_people_identities.specs.Writing.{created}
-use Rattle.dubp_people_identities.proofs.Onward.{none_more, more_and_more, same_depth, fold_next, fold_whole, new_at}
+use Rattle.dubp_people_identities.proofs.Onward.{none_more, more_and_more, more_settled, fold_next, fold_whole, new_at}
 use Rattle.dubp_people_identities.proofs.identities.create_all.Goals as goal
 
 pub loop-line-init : goal.loop-line-init
@@ -32,12 +32,12 @@ loop-line-preserved g c =
 pub returns-in_err-create-clause-waits : goal.returns-in_err-create-clause-waits
 returns-in_err-create-clause-waits g c = λ o i w. c.in_err-create.ensures.waits o i (c.loop-line.invariant.onward.waits o i w)
 
-pub returns-in_err-create-clause-depth : goal.returns-in_err-create-clause-depth
-returns-in_err-create-clause-depth g c = c.in_err-create.ensures.depth ∙ same_depth c.loop-line.invariant.onward.costs
+pub returns-in_err-create-clause-costs_stay : goal.returns-in_err-create-clause-costs_stay
+returns-in_err-create-clause-costs_stay g c = c.in_err-create.ensures.costs_stay ∙ more_settled c.loop-line.invariant.onward.costs
 
 pub returns-clause-at : goal.returns-clause-at
 returns-clause-at g c = λ rows t new at.
     subst (λ r. (tables.ghosts).at c.loop-line.index (r ∷ t)) (fold_whole (created c.args.number) c.args.lines.now rows c.loop-line.line-index (omega (arith, c.loop-line-test.false))) (c.loop-line.invariant.at rows t new at)
 
-pub returns-clause-depth : goal.returns-clause-depth
-returns-clause-depth g c = same_depth c.loop-line.invariant.onward.costs
+pub returns-clause-costs_stay : goal.returns-clause-costs_stay
+returns-clause-costs_stay g c = more_settled c.loop-line.invariant.onward.costs

@@ -2,7 +2,7 @@ use Rattle.std.proofs.Common.{◌∷◌, ◌∙◌, refl, sym, subst, fold, take
 use Rattle.dubp_iindex.specs.contracts.index.IIndexTablesIdentityRows.TheImpl as tables
 use Rattle.dubp_people_identities.specs.Writing.{joined}
 use Rattle.dubp_people_identities.proofs.Changed.{joined_apart}
-use Rattle.dubp_people_identities.proofs.Onward.{none_more, more_and_more, same_depth, fold_next, fold_whole}
+use Rattle.dubp_people_identities.proofs.Onward.{none_more, more_and_more, more_settled, fold_next, fold_whole}
 use Rattle.dubp_people_identities.proofs.identities.join_all.Goals as goal
 
 pub loop-line-init : goal.loop-line-init
@@ -33,12 +33,12 @@ loop-line-preserved g c =
 pub returns-in_err-set_member-clause-waits : goal.returns-in_err-set_member-clause-waits
 returns-in_err-set_member-clause-waits g c = λ o i w. c.in_err-set_member.ensures.waits o i (c.loop-line.invariant.onward.waits o i w)
 
-pub returns-in_err-set_member-clause-depth : goal.returns-in_err-set_member-clause-depth
-returns-in_err-set_member-clause-depth g c = c.in_err-set_member.ensures.depth ∙ same_depth c.loop-line.invariant.onward.costs
+pub returns-in_err-set_member-clause-costs_stay : goal.returns-in_err-set_member-clause-costs_stay
+returns-in_err-set_member-clause-costs_stay g c = c.in_err-set_member.ensures.costs_stay ∙ more_settled c.loop-line.invariant.onward.costs
 
 pub returns-clause-at : goal.returns-clause-at
 returns-clause-at g c = λ rows t new at.
     subst (λ r. (tables.ghosts).at c.loop-line.index (r ∷ t)) (fold_whole joined c.args.lines.now rows c.loop-line.line-index (omega (arith, c.loop-line-test.false))) (c.loop-line.invariant.at rows t new at)
 
-pub returns-clause-depth : goal.returns-clause-depth
-returns-clause-depth g c = same_depth c.loop-line.invariant.onward.costs
+pub returns-clause-costs_stay : goal.returns-clause-costs_stay
+returns-clause-costs_stay g c = more_settled c.loop-line.invariant.onward.costs

@@ -1,14 +1,30 @@
 use Rattle.std.proofs.Common.{cond, ap, sym, ◌∙◌, length}
 use Rattle.dubp_cond.specs.SourceOrder.{derived_cmp}
 use Rattle.dubp_undo.specs.MovingTable.{get}
-use Rattle.dubp_undo.specs.Numbers.{plus, counts, add_last}
+use Rattle.dubp_undo.specs.Numbers.{plus, counts, add_last, settled}
 use Rattle.dubp_undo.specs.Standing.{marked_same, waits_same}
-use Rattle.dubp_undo.proofs.Numbers.{length-plus}
+use Rattle.dubp_undo.proofs.Numbers.{length-plus, settled_length, settled_plus}
 use Rattle.dubp_sindex.specs.Derived.{pair_cmp}
 use Rattle.dubp_sindex.specs.States.{sources_of, places_of}
 use Rattle.dubp_sindex.proofs.Derived.{tied_sources, tied_pairs}
-use Rattle.dubp_sindex.proofs.Numbers.{more_beside, one_more, same_length_beside}
+use Rattle.dubp_sindex.proofs.Numbers.{more_beside, one_more}
 use Rattle.dubp_sindex.proofs.change.put.Goals as goal
+
+pub invariant_of-tables-2 : goal.invariant_of-tables-2
+invariant_of-tables-2 g c =
+    let old = c.args.tables.now in
+    let balances = old.third.tables in
+    let after = c.move_balance.new.tables.tables in
+    let first = settled_length (counts c.set-2.new.self.past) (counts c.ready.new.self.past) c.set-2.ensures.costs_stay ∙ ap (λ p. length (counts p)) c.ready.ensures.same.past in
+    let second = settled_length (counts c.set.new.self.past) (counts c.ready-2.new.self.past) c.set.ensures.costs_stay ∙ ap (λ p. length (counts p)) c.ready-2.ensures.same.past in
+    let second_ahead = ap (λ p. length (counts p)) (c.set.ensures.ahead ∙ c.ready-2.ensures.same.ahead) in
+    record {
+      even = first ∙ old.even ∙ sym second;
+      even_last = second ∙ old.even_last
+          ∙ sym (settled_length (plus (counts after.first.past) (counts after.second.past)) (plus (counts balances.first.past) (counts balances.second.past)) c.move_balance.ensures.costs_stay);
+      even_ahead = ap (λ p. length (counts p)) (c.set-2.ensures.ahead ∙ c.ready.ensures.same.ahead) ∙ old.even_ahead ∙ sym second_ahead;
+      even_ahead_last = second_ahead ∙ old.even_ahead_last ∙ sym (ap length c.move_balance.ensures.ahead);
+    }
 
 pub returns-clause-at : goal.returns-clause-at
 returns-clause-at g c = λ s t rows at changed. (
@@ -39,15 +55,15 @@ returns-clause-waits g c = λ o i w.
       c.move_balance.ensures.waits o i w.2,
     )
 
-pub returns-clause-depth : goal.returns-clause-depth
-returns-clause-depth g c =
+pub returns-clause-costs_stay : goal.returns-clause-costs_stay
+returns-clause-costs_stay g c =
     let tables = c.args.tables.now in
     let balances = tables.third.tables in
     let after = c.move_balance.new.tables.tables in
     let last = plus (counts balances.first.past) (counts balances.second.past) in
-    same_length_beside (counts tables.first.past) (counts c.set-2.new.self.past)
+    settled_plus (counts tables.first.past) (counts c.set-2.new.self.past)
     (plus (counts tables.second.past) last) (plus (counts c.set.new.self.past) (plus (counts after.first.past) (counts after.second.past)))
     (tables.even ∙ sym (length-plus (counts tables.second.past) last tables.even_last))
-    (c.set-2.ensures.depth ∙ ap (λ p. length (counts p)) c.ready.ensures.same.past)
-    (same_length_beside (counts tables.second.past) (counts c.set.new.self.past) last (plus (counts after.first.past) (counts after.second.past)) tables.even_last
-    (c.set.ensures.depth ∙ ap (λ p. length (counts p)) c.ready-2.ensures.same.past) c.move_balance.ensures.depth)
+    (c.set-2.ensures.costs_stay ∙ ap (λ p. settled (counts p)) c.ready.ensures.same.past)
+    (settled_plus (counts tables.second.past) (counts c.set.new.self.past) last (plus (counts after.first.past) (counts after.second.past)) tables.even_last
+    (c.set.ensures.costs_stay ∙ ap (λ p. settled (counts p)) c.ready-2.ensures.same.past) c.move_balance.ensures.costs_stay)

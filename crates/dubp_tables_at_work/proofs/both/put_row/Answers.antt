@@ -1,11 +1,29 @@
-use Rattle.std.proofs.Common.{◌≡◌, ◌∙◌, cond, Some, ap}
+use Rattle.std.proofs.Common.{◌≡◌, ◌∙◌, cond, length, Some, ap, sym}
 use Rattle.std.specs.Prelude.{◌==◌}
 use Rattle.std.specs.Ordering.{nat_cmp}
 use Rattle.std.specs.Cmp.{unsigned_tied}
 use Rattle.dubp_undo.specs.MovingTable.{get}
 use Rattle.dubp_undo.specs.Numbers.{counts, add_last}
-use Rattle.dubp_undo.proofs.Numbers.{plus-add_last}
+use Rattle.dubp_undo.proofs.Numbers.{plus-add_last, settled_length}
 use Rattle.dubp_tables_at_work.proofs.both.put_row.Goals as goal
+
+pub invariant_of-index-3 : goal.invariant_of-index-3
+invariant_of-index-3 g c =
+    let old = c.args.index.now in
+    record {
+      even = settled_length (counts c.set.new.self.past) (counts c.ready.new.self.past) c.set.ensures.costs_stay ∙ ap (λ p. length (counts p)) c.ready.ensures.same.past
+          ∙ old.even ∙ sym (ap (λ p. length (counts p)) c.ready-2.ensures.same.past);
+      even_ahead = ap (λ p. length (counts p)) (c.set.ensures.ahead ∙ c.ready.ensures.same.ahead) ∙ old.even_ahead ∙ sym (ap (λ p. length (counts p)) c.ready-2.ensures.same.ahead);
+    }
+
+pub invariant_of-index-4 : goal.invariant_of-index-4
+invariant_of-index-4 g c =
+    let old = c.args.index.now in
+    record {
+      even = settled_length (counts c.set.new.self.past) (counts c.ready.new.self.past) c.set.ensures.costs_stay ∙ ap (λ p. length (counts p)) c.ready.ensures.same.past
+          ∙ old.even ∙ sym (settled_length (counts c.set-2.new.self.past) (counts c.ready-2.new.self.past) c.set-2.ensures.costs_stay ∙ ap (λ p. length (counts p)) c.ready-2.ensures.same.past);
+      even_ahead = ap (λ p. length (counts p)) (c.set.ensures.ahead ∙ c.ready.ensures.same.ahead) ∙ old.even_ahead ∙ sym (ap (λ p. length (counts p)) (c.set-2.ensures.ahead ∙ c.ready-2.ensures.same.ahead));
+    }
 
 pub returns-clause-at : goal.returns-clause-at
 returns-clause-at g c = λ chain a.

@@ -1,8 +1,9 @@
-use Rattle.std.proofs.Common.{◌≡◌, ◌+◌, ap}
+use Rattle.std.proofs.Common.{◌+◌, ◌∙◌, length, sym, ap}
 use Rattle.std.specs.FinMap.{empty, insert}
 use Rattle.dubp_undo.specs.Numbers.{counts, plus}
 use Rattle.dubp_undo.specs.States.{newest}
 use Rattle.dubp_undo.specs.Standing.{waits_same}
+use Rattle.dubp_undo.proofs.Numbers.{settled_length}
 use Rattle.dubp_cindex.specs.Changes.{sets_of}
 use Rattle.dubp_cindex.specs.Orders.{place_cmp}
 use Rattle.dubp_cindex.specs.Rows.{rows_along, received_in, number_if, issuer_in}
@@ -10,6 +11,43 @@ use Rattle.dubp_cindex.proofs.Numbers.{three_more}
 use Rattle.dubp_cindex.proofs.Making.{rows_put, received_by_put, issued_by_put, keyed_put}
 use Rattle.dubp_cindex.proofs.Puts.{received-other, issuer-other}
 use Rattle.dubp_cindex.proofs.index.CIndex.make_all.Goals as goal
+
+pub invariant_of-self : goal.invariant_of-self
+invariant_of-self g c =
+    let old = c.args.self.now.tables in
+    let first = settled_length (counts c.set.new.self.past) (counts old.first.past) c.set.ensures.costs_stay in
+    let first_ahead = ap (λ p. length (counts p)) c.set.ensures.ahead in
+    record { even = first ∙ old.even; even_last = old.even_last; even_ahead = first_ahead ∙ old.even_ahead; even_ahead_last = old.even_ahead_last }
+
+pub invariant_of-self-2 : goal.invariant_of-self-2
+invariant_of-self-2 g c =
+    let old = c.args.self.now.tables in
+    let first = settled_length (counts c.set.new.self.past) (counts old.first.past) c.set.ensures.costs_stay in
+    let first_ahead = ap (λ p. length (counts p)) c.set.ensures.ahead in
+    let received = settled_length (plus (counts c.make_side.new.side.first.past) (counts c.make_side.new.side.second.past)) (plus (counts old.second.tables.first.past) (counts old.second.tables.second.past)) c.make_side.ensures.costs_stay in
+    let received_ahead = ap length c.make_side.ensures.ahead in
+    record {
+      even = first ∙ old.even ∙ sym received;
+      even_last = received ∙ old.even_last;
+      even_ahead = first_ahead ∙ old.even_ahead ∙ sym received_ahead;
+      even_ahead_last = received_ahead ∙ old.even_ahead_last;
+    }
+
+pub invariant_of-self-3 : goal.invariant_of-self-3
+invariant_of-self-3 g c =
+    let old = c.args.self.now.tables in
+    let first = settled_length (counts c.set.new.self.past) (counts old.first.past) c.set.ensures.costs_stay in
+    let first_ahead = ap (λ p. length (counts p)) c.set.ensures.ahead in
+    let received = settled_length (plus (counts c.make_side.new.side.first.past) (counts c.make_side.new.side.second.past)) (plus (counts old.second.tables.first.past) (counts old.second.tables.second.past)) c.make_side.ensures.costs_stay in
+    let received_ahead = ap length c.make_side.ensures.ahead in
+    let issued = settled_length (plus (counts c.make_side-2.new.side.first.past) (counts c.make_side-2.new.side.second.past)) (plus (counts old.third.tables.first.past) (counts old.third.tables.second.past)) c.make_side-2.ensures.costs_stay in
+    let issued_ahead = ap length c.make_side-2.ensures.ahead in
+    record {
+      even = first ∙ old.even ∙ sym received;
+      even_last = received ∙ old.even_last ∙ sym issued;
+      even_ahead = first_ahead ∙ old.even_ahead ∙ sym received_ahead;
+      even_ahead_last = received_ahead ∙ old.even_ahead_last ∙ sym issued_ahead;
+    }
 
 pub returns-in_err-make_side-clause-marked : goal.returns-in_err-make_side-clause-marked
 returns-in_err-make_side-clause-marked g c = λ s m. (c.set.ensures.marked s m.0, c.make_side.ensures.marked s m.1, m.2)

@@ -1,14 +1,33 @@
-use Rattle.std.proofs.Common.{◌≡◌, ◌+◌, ◌∙◌, length, ap, subst}
+use Rattle.std.proofs.Common.{◌≡◌, ◌+◌, ◌∙◌, length, sym, ap, subst}
 use Rattle.std.specs.FinMap as map
 use Rattle.dubp_undo.specs.MovingTable.{get}
 use Rattle.dubp_undo.specs.Numbers.{counts, plus, add_last}
 use Rattle.dubp_undo.specs.Standing.{marked_same}
+use Rattle.dubp_undo.proofs.Numbers.{settled_length}
 use Rattle.dubp_iindex.specs.Rows.{newest_rows, texts, one, row_at, key_at, member_at, counts_at, counts_of}
 use Rattle.dubp_iindex.specs.Writing.{IsWritten, sets, uid_write, member_write, was_member, counts_write}
 use Rattle.dubp_iindex.proofs.Numbers.{costs_written, even_after, few_sets}
 use Rattle.dubp_iindex.proofs.Numbered.{all_sets}
 use Rattle.dubp_iindex.proofs.Putting.{rows_put, uids_put, members_put, counts_put}
 use Rattle.dubp_iindex.proofs.index.IIndex.put_row.Goals as goal
+
+pub invariant_of-derived-2 : goal.invariant_of-derived-2
+invariant_of-derived-2 g c =
+    let old = c.args.self.now.tables.second in
+    let ready = c.make_ready.ensures in
+    let now = c.set_all.ensures in
+    let uids = settled_length (counts c.set_all.new.uids.past) (counts c.make_ready.new.uids.past) now.uids_now.costs_stay ∙ ap (λ p. length (counts p)) ready.same_uids.past in
+    let uids_ahead = ap (λ p. length (counts p)) (now.uids_now.ahead ∙ ready.same_uids.ahead) in
+    let members = settled_length (counts c.set_all.new.members.past) (counts c.make_ready.new.members.past) now.members_now.costs_stay ∙ ap (λ p. length (counts p)) ready.same_members.past in
+    let members_ahead = ap (λ p. length (counts p)) (now.members_now.ahead ∙ ready.same_members.ahead) in
+    let numbers = settled_length (counts c.set_all.new.counts.past) (counts c.make_ready.new.counts.past) now.counts_now.costs_stay ∙ ap (λ p. length (counts p)) ready.same_counts.past in
+    let numbers_ahead = ap (λ p. length (counts p)) (now.counts_now.ahead ∙ ready.same_counts.ahead) in
+    record {
+      even = uids ∙ old.even ∙ sym members;
+      even_last = members ∙ old.even_last ∙ sym numbers;
+      even_ahead = uids_ahead ∙ old.even_ahead ∙ sym members_ahead;
+      even_ahead_last = members_ahead ∙ old.even_ahead_last ∙ sym numbers_ahead;
+    }
 
 pub invariant_of-tables-2 : goal.invariant_of-tables-2
 invariant_of-tables-2 g c =
@@ -18,10 +37,10 @@ invariant_of-tables-2 g c =
     record {
       even =
           even_after (counts old.first.past) (counts old.second.first.past) (counts old.second.second.past) (counts old.second.third.past) (counts c.set_all.new.rows.past) (counts c.set_all.new.uids.past) (counts c.set_all.new.members.past) (counts c.set_all.new.counts.past)
-          (now.rows_now.depth ∙ ap (λ p. length (counts p)) ready.same_rows.past)
-          (now.uids_now.depth ∙ ap (λ p. length (counts p)) ready.same_uids.past)
-          (now.members_now.depth ∙ ap (λ p. length (counts p)) ready.same_members.past)
-          (now.counts_now.depth ∙ ap (λ p. length (counts p)) ready.same_counts.past)
+          (settled_length (counts c.set_all.new.rows.past) (counts c.make_ready.new.rows.past) now.rows_now.costs_stay ∙ ap (λ p. length (counts p)) ready.same_rows.past)
+          (settled_length (counts c.set_all.new.uids.past) (counts c.make_ready.new.uids.past) now.uids_now.costs_stay ∙ ap (λ p. length (counts p)) ready.same_uids.past)
+          (settled_length (counts c.set_all.new.members.past) (counts c.make_ready.new.members.past) now.members_now.costs_stay ∙ ap (λ p. length (counts p)) ready.same_members.past)
+          (settled_length (counts c.set_all.new.counts.past) (counts c.make_ready.new.counts.past) now.counts_now.costs_stay ∙ ap (λ p. length (counts p)) ready.same_counts.past)
           old.even old.second.even old.second.even_last;
       even_ahead =
           even_after (counts old.first.ahead) (counts old.second.first.ahead) (counts old.second.second.ahead) (counts old.second.third.ahead) (counts c.set_all.new.rows.ahead) (counts c.set_all.new.uids.ahead) (counts c.set_all.new.members.ahead) (counts c.set_all.new.counts.ahead)

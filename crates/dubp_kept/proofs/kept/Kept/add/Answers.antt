@@ -1,5 +1,5 @@
 use Rattle.std.proofs.Common.{◌≡◌, ◌∙◌, ◌∷◌, length, reverse, min, cond, ap, sym, subst, arith}
-use Rattle.dubp_kept.specs.KeptChain.{HasRoom, IsKnown, MayJoin, most_kept}
+use Rattle.dubp_kept.specs.KeptChain.{HasRoom, IsKnown, MayJoin, most_kept, StandsWithin, WaitsWithin}
 use Rattle.dubp_kept.proofs.Known.{known_more, turned}
 use Rattle.dubp_kept.proofs.Stands.{room_more, stands_on, trimmed_most, trimmed_few, trimmed_all}
 use Rattle.dubp_kept.proofs.kept.Kept.add.Goals as goal
@@ -20,11 +20,11 @@ invariant_of-self-2 g c =
     let depth = length (g.T.Tables.costs c.trim_unless.new.tables) in
     let trimmed = subst (λ all. depth ≡ cond all entered (min entered most_kept)) c.is_some.ensures c.trim_unless.ensures.depth in
     record {
-      stands_is = subst (λ x. g.T.Tables.stands c.trim_unless.new.tables x) more stands;
+      stands_is = subst (λ x. StandsWithin (g.T.Tables.stands c.trim_unless.new.tables) (g.T.Tables.costs c.trim_unless.new.tables) x) more stands;
       fits = omega (arith, ap length (sym more), trimmed_most s.out entered depth trimmed, c.in-Ok.ensures.depth, c.self.invariant.fits);
       known = subst (λ x. IsKnown x c.push.new.self) more known;
       heads_room = subst (HasRoom c.push.new.self) more wide;
-      out_is = stands_on s.out (g.T.Tables.waits s.tables) (g.T.Tables.waits c.trim_unless.new.tables) before depth (length (g.T.Tables.ahead_costs s.tables)) (length (g.T.Tables.ahead_costs c.trim_unless.new.tables)) s.heads c.push.new.self s.behind.items old (reverse c.push_reserved.new.self.items) _ _
+      out_is = stands_on s.out (WaitsWithin (g.T.Tables.waits s.tables) (g.T.Tables.ahead_costs s.tables)) (WaitsWithin (g.T.Tables.waits c.trim_unless.new.tables) (g.T.Tables.ahead_costs c.trim_unless.new.tables)) before depth (length (g.T.Tables.ahead_costs s.tables)) (length (g.T.Tables.ahead_costs c.trim_unless.new.tables)) s.heads c.push.new.self s.behind.items old (reverse c.push_reserved.new.self.items) _ _
           c.self.invariant.out_is (λ o i w. c.trim_unless.ensures.waits o i (c.enter.ensures.waits o i w)) (ap length (c.trim_unless.ensures.ahead ∙ c.enter.ensures.ahead)) c.push.ensures.keeps
           (omega (arith, c.reserve.ensures.capacity, c.push_reserved.ensures.capacity)) (trimmed_few s.out entered depth trimmed) (λ o e. omega (arith, ap length (sym more), trimmed_all s.out entered depth trimmed o e, c.in-Ok.ensures.depth));
     }

@@ -11,4 +11,4 @@ put_back-requires g c =
 pub invariant_of-self : goal.invariant_of-self
 invariant_of-self g c =
     let s = c.self.inside in
-    comes_back s.traces c.put_back.new.self s.kept c.restore.new.self c.args.held c.self.invariant (subst (λ k. IsHeldBy c.args.held k.out) (sym c.self.view_is) c.requires.held) (subst (λ k. IsAsHeld k.chain k.out) (sym c.self.view_is) c.requires.chain) c.put_back.ensures.standing c.restore.ensures
+    comes_back s.traces c.put_back.new.self s.kept c.restore.new.self c.args.held c.self.invariant (subst (λ k. IsHeldBy c.args.held k.out) (sym c.self.view_is) c.requires.held) (subst (λ k. IsAsHeld k.chain k.out) (sym c.self.view_is) c.requires.chain) c.put_back.ensures.standing c.restore.ensures.restored
