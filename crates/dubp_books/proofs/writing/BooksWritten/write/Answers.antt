@@ -20,6 +20,12 @@ invariant_of-tables g c =
     let peopled = settled_length ((people.ghosts).costs c.apply.new.people) ((people.ghosts).costs old.first) c.apply.ensures.costs_stay in
     record { even = peopled ∙ old.even; even_ahead = ap length c.apply.ensures.ahead ∙ old.even_ahead }
 
+pub invariant_of-tables-in-Break-branch-2 : goal.invariant_of-tables-in-Break-branch-2
+invariant_of-tables-in-Break-branch-2 g c =
+    let old = c.args.self.now.tables in
+    let peopled = settled_length ((people.ghosts).costs c.apply.new.people) ((people.ghosts).costs old.first) c.apply.ensures.costs_stay in
+    record { even = peopled ∙ old.even; even_ahead = ap length c.apply.ensures.ahead ∙ old.even_ahead }
+
 pub invariant_of-tables-2 : goal.invariant_of-tables-2
 invariant_of-tables-2 g c =
     let old = c.args.self.now.tables in
