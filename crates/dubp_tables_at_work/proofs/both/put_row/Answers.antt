@@ -7,17 +7,8 @@ use Rattle.dubp_undo.specs.Numbers.{counts, add_last}
 use Rattle.dubp_undo.proofs.Numbers.{plus-add_last, settled_length}
 use Rattle.dubp_tables_at_work.proofs.both.put_row.Goals as goal
 
-pub invariant_of-index-3 : goal.invariant_of-index-3
-invariant_of-index-3 g c =
-    let old = c.args.index.now in
-    record {
-      even = settled_length (counts c.set.new.self.past) (counts c.ready.new.self.past) c.set.ensures.costs_stay ∙ ap (λ p. length (counts p)) c.ready.ensures.same.past
-          ∙ old.even ∙ sym (ap (λ p. length (counts p)) c.ready-2.ensures.same.past);
-      even_ahead = ap (λ p. length (counts p)) (c.set.ensures.ahead ∙ c.ready.ensures.same.ahead) ∙ old.even_ahead ∙ sym (ap (λ p. length (counts p)) c.ready-2.ensures.same.ahead);
-    }
-
-pub invariant_of-index-4 : goal.invariant_of-index-4
-invariant_of-index-4 g c =
+pub invariant_of-index-2 : goal.invariant_of-index-2
+invariant_of-index-2 g c =
     let old = c.args.index.now in
     record {
       even = settled_length (counts c.set.new.self.past) (counts c.ready.new.self.past) c.set.ensures.costs_stay ∙ ap (λ p. length (counts p)) c.ready.ensures.same.past
