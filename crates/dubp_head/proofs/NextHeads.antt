@@ -10,7 +10,7 @@ use Rattle.dubp_params.specs.Ranges.{IsInRange}
 use Rattle.dubp_time.specs.Median.{median_of}
 use Rattle.dubp_pow.specs.Difficulty.{issuer_diff_of}
 use Rattle.dubp_block.specs.declared.block.Block.{Block}
-use Rattle.dubp_block.specs.Text.{size_of}
+use Rattle.dubp_block.specs.Text.{block_hash_of, size_of}
 use Rattle.dubp_rules.specs.declared.rule.Rule.{Rule}
 use Rattle.dubp_rules.specs.First.{IsFirst, FirstOf}
 use Rattle.dubp_rules.proofs.FirstLaws.{IsFirst_from_FirstOf}
@@ -39,6 +39,11 @@ without_dividend-newest p count (g ∷ hs) b h e =
 -- the money put on the head without it
 later_head-money : (p : Params) (count : ℕ) (h : Head) (hs : List Head) (b : Block) → with_money (later_without p count h hs b) (money_at p count h (next_median_time p h hs)) ≡ later_head p count h hs b
 later_head-money p count h hs b = refl
+
+-- the next head has the hash of its block
+pub next_head-hash : (p : Params) (count : ℕ) (hs : List Head) (b : Block) → (next_head p count hs b).hash ≡ block_hash_of b
+next_head-hash p count [] b = refl
+next_head-hash p count (h ∷ hs) b = refl
 
 -- the limits, of the newest head
 first_limit : (p : Params) (count : ℕ) (hs : List Head) (b : Block) (h : Head) (answer : Option Rule) → newest hs ≡ Some h → FirstOf (MoneyHolds p count h (next_median_time p h hs)) limit_rules answer → FirstOf (LimitHolds p count hs b) limit_rules answer

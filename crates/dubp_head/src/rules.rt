@@ -16,7 +16,7 @@ use crate::difficulties::difficulty_over;
 use crate::frame::Frame;
 use crate::heads::Heads;
 use dubp_atoms::NoMemory;
-use dubp_block::{Block, block_hash, size};
+use dubp_block::{Block, size};
 use dubp_chain::Head;
 use dubp_params::Params;
 use dubp_pow::meets;
@@ -79,6 +79,7 @@ fn first_broken(
     requires over { AreOver heads.now params.now }
     requires heads { AreHeads params.now heads.now.list }
     requires frame { frame.now ≡ frame_issuers heads.now.list }
+    requires hash { head.now.hash ≡ block_hash_of block.now }
     requires size { size_of block.now < 2 ^ 53 }
     requires short { length heads.now.list ≤ 2 ^ 40 }
     ensures { IfOk result (FirstOf (HeaderHolds params.now heads.now.list head.now block.now) header_rules) }
@@ -93,7 +94,7 @@ fn first_broken(
         Rule::G59 => block.unit_base == head.unit_base as u64,
         Rule::G60 => block.members == head.members,
         Rule::G61 => block.pow_min == head.pow_min,
-        Rule::G62 => meets_difficulty(alloc, heads, frame, params, block)?,
+        Rule::G62 => meets_difficulty(alloc, heads, frame, params, head, block)?,
     ))
 }
 
@@ -148,14 +149,16 @@ fn meets_difficulty(
     heads: &Heads,
     frame: &Frame,
     params: &Params,
+    head: &Head,
     block: &Block,
 ) -> Result<bool, NoMemory>
     requires valid { IsInRange params.now }
     requires over { AreOver heads.now params.now }
     requires heads { AreHeads params.now heads.now.list }
     requires frame { frame.now ≡ frame_issuers heads.now.list }
+    requires hash { head.now.hash ≡ block_hash_of block.now }
     ensures { IfOk result (λ right. IsTrue right ↔ Meets (block_hash_of block.now) (difficulty_for params.now heads.now.list block.now.pow_min block.now.issuer)) }
 {
     let difficulty = difficulty_over(alloc, heads, frame, params, block.pow_min, &block.issuer)?;
-    Ok(meets(&block_hash(block), difficulty))
+    Ok(meets(&head.hash, difficulty))
 }

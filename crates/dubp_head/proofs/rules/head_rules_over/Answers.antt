@@ -1,6 +1,11 @@
+use Rattle.std.proofs.Common.{ap, ◌∙◌}
 use Rattle.dubp_head.specs.NextHead.{HeaderHolds, header_rules}
-use Rattle.dubp_head.proofs.NextHeads.{first_is}
+use Rattle.dubp_head.proofs.NextHeads.{first_is, next_head-hash}
 use Rattle.dubp_head.proofs.rules.head_rules_over.Goals as goal
+
+pub first_broken-requires-clause-hash : goal.first_broken-requires-clause-hash
+first_broken-requires-clause-hash c =
+    ap (λ h. h.hash) c.requires.head ∙ next_head-hash c.args.params.now c.args.head.now.members c.args.heads.now.list c.args.block.now
 
 pub returns : goal.returns
 returns c =
