@@ -27,8 +27,6 @@ mod number;
 mod sig;
 mod stamp;
 mod steps;
-#[cfg(test)]
-mod tests;
 mod text;
 mod text_sink;
 mod uid;

@@ -1,16 +1,17 @@
 ghost use Rattle.std.specs.Prelude.{◌≡◌, ◌<◌, ◌^◌, length, IfOk};
-ghost use Rattle.dubp_block.specs.Text.{size_of};
+ghost use Rattle.dubp_block.specs.Text.{IsBlock, size_of};
 
-use dubp_atoms::{Hash, Items, Key, Sig, Stamp, Uid};
+use dubp_atoms::{Hash, Items, Key, NoMemory, Sig, Stamp, Uid};
 use dubp_block::{
     Block, MemberLine, ReadRefusal, block_hash, copy_block, inner_hash, put_block, read_block,
     size, stamp_of,
 };
 use std::alloc::{AllocError, Global};
+use std::mem::forget;
 use std::test::Fail;
 
 // A block of number 0, whose hashes were computed by another program.
-const FIRST_BLOCK: &[u8] = b"Version: 10\n\
+pub const FIRST_BLOCK: &[u8] = b"Version: 10\n\
 Type: Block\n\
 Currency: test_currency\n\
 Number: 0\n\
@@ -38,17 +39,34 @@ AAAAAAAAAAAAAAAAAAAAAAAAAAAAAAAAAAAAAAAAAAAAAAAAAAAAAAAAAAAAAAAAAAAAAAAAAAAAAAAA
 
 const HASH: &[u8] = b"213EECFB0EEA61A655E64854E92BE5C3C4F3DE3D12DAD82F421E4DFA250CBB36";
 
+// What is read of the first block, and its hashes.
+fn is_first(block: &Block) -> bool {
+    block.time == 1_488_987_127
+        && block.params.map(|params| params.ud0) == Some(1000)
+        && block_hash(block).as_bytes() == HASH
+        && stamp_of(block).number == 0
+}
+
+// Whether the block has its inner hash, and is written and copied as it is.
+fn is_kept_whole(alloc: Global, block: &Block) -> Result<bool, NoMemory>
+    requires { IsBlock block.now }
+{
+    let hashed = inner_hash(alloc, block)? == block.inner_hash;
+    let written = put_block(alloc, block)?.as_slice() == FIRST_BLOCK;
+    let copied = copy_block(alloc, block)?;
+    let same = copied.nonce == block.nonce;
+    forget(copied);
+    Ok(hashed && written && same)
+}
+
 #[test]
 fn reads_hashes_and_writes_the_first_block(rt: HostRuntime) -> Result<(), Fail> {
-    let alloc = rt.alloc();
-    let block = read_block(alloc, FIRST_BLOCK)?;
-    assert_eq!(rt; block.time, 1_488_987_127);
-    assert_eq!(rt; block.params.map(|params| params.ud0), Some(1000));
-    assert_eq!(rt; inner_hash(alloc, &block)?, block.inner_hash);
-    assert_eq!(rt; block_hash(&block).as_bytes(), HASH);
-    assert_eq!(rt; stamp_of(&block).number, 0);
-    assert_eq!(rt; put_block(alloc, &block)?.as_slice(), FIRST_BLOCK);
-    assert_eq!(rt; copy_block(alloc, &block)?.nonce, block.nonce);
+    let block = read_block(rt.alloc(), FIRST_BLOCK)?;
+    let first = is_first(&block);
+    let kept = is_kept_whole(rt.alloc(), &block);
+    forget(block);
+    assert!(rt; first);
+    assert!(rt; kept == Ok(true));
     Ok(())
 }
 
@@ -136,27 +154,38 @@ fn a_changed_line_is_refused_where_no_block_goes_on(rt: HostRuntime) -> Result<(
     ];
     for (line, new, refused) in changes {
         let text = with_line(alloc, line, new)?;
-        assert_eq!(rt; line_of(read_block(alloc, text.as_slice())), refused);
+        let found = line_of(read_block(alloc, text.as_slice()));
+        assert_eq!(rt; found, refused);
     }
     Ok(())
+}
+
+// How many transactions the second block has, its dividend and the variable of its frame.
+fn summary(text: Result<Block, ReadRefusal>) -> Option<(usize, Option<u64>, i64)> {
+    let Ok(block) = text else {
+        return None;
+    };
+    let told = (block.transactions.len(), block.dividend, block.frame_var);
+    forget(block);
+    Some(told)
 }
 
 #[test]
 fn the_ends_of_a_text_are_refused_behind_its_lines(rt: HostRuntime) -> Result<(), Fail> {
     let alloc = rt.alloc();
-    let block = read_block(alloc, SECOND_BLOCK)?;
-    assert_eq!(rt;
-        (block.transactions.len(), block.dividend, block.frame_var),
-        (2, Some(1000), -5)
-    );
+    let read = summary(read_block(alloc, SECOND_BLOCK));
+    assert_eq!(rt; read, Some((2, Some(1000), -5)));
     for end in [b"x".as_slice(), b"x\n".as_slice(), b"\n".as_slice()] {
         let mut text = SECOND_BLOCK.to_vec(alloc)?;
         text.extend_from_slice(end)?;
-        assert_eq!(rt; line_of(read_block(alloc, text.as_slice())), 49);
+        let refused = line_of(read_block(alloc, text.as_slice()));
+        assert_eq!(rt; refused, 49);
     }
     let short = SECOND_BLOCK.len() - 1;
-    assert_eq!(rt; line_of(read_block(alloc, &SECOND_BLOCK[..short])), 48);
-    assert_eq!(rt; line_of(read_block(alloc, b"")), 1);
+    let refused = line_of(read_block(alloc, &SECOND_BLOCK[..short]));
+    assert_eq!(rt; refused, 48);
+    let empty = line_of(read_block(alloc, b""));
+    assert_eq!(rt; empty, 1);
     Ok(())
 }
 
@@ -186,7 +215,9 @@ const SIG: &[u8] =
 #[test]
 fn the_size_counts_each_section_but_excluded(rt: HostRuntime) -> Result<(), Fail> {
     let block = filled(rt.alloc())?;
-    assert_eq!(rt; size(&block), 2);
+    let lines = size(&block);
+    forget(block);
+    assert_eq!(rt; lines, 2);
     Ok(())
 }
 

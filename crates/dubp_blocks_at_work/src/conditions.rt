@@ -1,7 +1,9 @@
-use dubp_atoms::{Hash, Items, Key, Line, Sig, Stamp};
+ghost use Rattle.std.specs.Prelude.{◌≤◌};
+
+use dubp_atoms::{Key, Line};
 use dubp_cond::{
-    Tx, copy_tx, holds, is_cond, put_input, put_output, put_unlock, read_cond, read_input,
-    read_output, read_unlock,
+    holds, is_cond, put_input, put_output, put_unlock, read_cond, read_input, read_output,
+    read_unlock,
 };
 use std::alloc::Global;
 use std::test::Fail;
@@ -58,6 +60,26 @@ fn groups_are_bounded(rt: HostRuntime) -> Result<(), Fail> {
     Ok(())
 }
 
+// Whether the condition holds, where both are texts of their kind.
+fn holds_at(
+    alloc: Global,
+    cond: &[u8],
+    unlocks: &[u8],
+    issuers: &[Key],
+    now: u64,
+    written: u64,
+) -> Option<bool>
+    requires { written ≤ now }
+{
+    let Ok(Some(cond)) = read_cond(alloc, cond) else {
+        return None;
+    };
+    let Ok(Some(unlocks)) = read_unlock(alloc, unlocks) else {
+        return None;
+    };
+    Some(holds(&cond, unlocks.list.as_slice(), issuers, now, written))
+}
+
 #[test]
 fn conditions_hold_at_their_time(rt: HostRuntime) -> Result<(), Fail> {
     let key = |text: &[u8]| Key::read(text).ok_or("key");
@@ -74,137 +96,100 @@ fn conditions_hold_at_their_time(rt: HostRuntime) -> Result<(), Fail> {
     ];
     for (cond, unlocks, issuers, now, written, is) in rows {
         assert!(rt; written <= now);
-        let Ok(Some(cond)) = read_cond(rt.alloc(), cond) else {
-            return Err(Fail::from("no condition"));
-        };
-        let Ok(Some(unlocks)) = read_unlock(rt.alloc(), unlocks) else {
-            return Err(Fail::from("no unlocks"));
-        };
-        assert_eq!(rt;
-            holds(&cond, unlocks.list.as_slice(), &issuers, now, written),
-            is
-        );
+        let found = holds_at(rt.alloc(), cond, unlocks, &issuers, now, written);
+        assert_eq!(rt; found, Some(is));
     }
     Ok(())
 }
 
-// The line as it is written again; empty where it is read as none.
-fn written(alloc: Global, kind: u8, text: &[u8]) -> Line {
+// Whether the input that the text is, if it is one, is written as the text.
+fn input_is_kept(text: &[u8]) -> bool {
     let mut line = Line::new();
-    match kind {
-        b'I' => {
-            if let Some(input) = read_input(text) {
-                put_input(&input, &mut line);
-            }
-        }
-        b'U' => {
-            if let Ok(Some(unlock)) = read_unlock(alloc, text) {
-                put_unlock(&unlock, &mut line);
-            }
-        }
-        _ => {
-            if let Ok(Some(output)) = read_output(alloc, text) {
-                put_output(&output, &mut line);
-            }
-        }
+    if let Some(input) = read_input(text) {
+        put_input(&input, &mut line);
     }
-    line
+    line.as_slice() == text
 }
 
 #[test]
-fn lines_are_read_and_written(rt: HostRuntime) -> Result<(), Fail> {
+fn inputs_are_read_and_written(rt: HostRuntime) {
     let rows = [
         (
-            b'I',
             b"100:0:D:1111111111111111111111111111111111111111111:5".as_slice(),
             true,
         ),
         (
-            b'I',
             b"9007199254740991:15:T:BA7816BF8F01CFEA414140DE5DAE2223B00361A396177A9CB410FF61F20015AD:0",
             true,
         ),
         (
-            b'I',
             b"100:16:D:1111111111111111111111111111111111111111111:5",
             false,
         ),
         (
-            b'I',
             b"100:0:T:1111111111111111111111111111111111111111111:5",
             false,
         ),
         (
-            b'I',
             b"100:0:D:1111111111111111111111111111111111111111111",
             false,
         ),
-        (b'U', b"7:SIG(0) XHX(abc) SIG(12)", true),
+    ];
+    for (text, is) in rows {
+        assert_eq!(rt; input_is_kept(text), is);
+    }
+}
+
+// Whether the unlocks that the text is, if it is some, are written as the text.
+fn unlocks_are_kept(alloc: Global, text: &[u8]) -> bool {
+    let mut line = Line::new();
+    if let Ok(Some(unlock)) = read_unlock(alloc, text) {
+        put_unlock(&unlock, &mut line);
+    }
+    line.as_slice() == text
+}
+
+#[test]
+fn unlocks_are_read_and_written(rt: HostRuntime) {
+    let rows = [
+        (b"7:SIG(0) XHX(abc) SIG(12)".as_slice(), true),
         (
-            b'U',
             b"0:SIG(0) SIG(0) SIG(0) SIG(0) SIG(0) SIG(0) SIG(0) SIG(0)",
             true,
         ),
         (
-            b'U',
             b"0:SIG(0) SIG(0) SIG(0) SIG(0) SIG(0) SIG(0) SIG(0) SIG(0) SIG(0)",
             false,
         ),
-        (b'U', b"0:", false),
-        (b'U', b"0:SIG(0) ", false),
-        (b'U', b"0:SIG(0)  SIG(1)", false),
-        (b'U', b"0:XHX()", false),
-        (b'U', b"0:XHX(a(b)", false),
-        (b'O', b"1000:0:CSV(1)", true),
-        (b'O', b"0:15:(CSV(1) && CLTV(2)) || CSV(3)", true),
-        (b'O', b"1000:0:", false),
-        (b'O', b"1000:CSV(1)", false),
+        (b"0:", false),
+        (b"0:SIG(0) ", false),
+        (b"0:SIG(0)  SIG(1)", false),
+        (b"0:XHX()", false),
+        (b"0:XHX(a(b)", false),
     ];
-    for (kind, text, is) in rows {
-        let line = written(rt.alloc(), kind, text);
-        assert_eq!(rt; line.as_slice() == text, is);
+    for (text, is) in rows {
+        assert_eq!(rt; unlocks_are_kept(rt.alloc(), text), is);
     }
-    Ok(())
 }
 
-fn list<T: Drop>(alloc: Global, value: T) -> Result<Items<T>, Fail> {
-    let mut values = Vec::new(alloc);
-    values.push(value).map_err(|_| "no memory")?;
-    Ok(Items::from_vec(values))
+// Whether the output that the text is, if it is one, is written as the text.
+fn output_is_kept(alloc: Global, text: &[u8]) -> bool {
+    let mut line = Line::new();
+    if let Ok(Some(output)) = read_output(alloc, text) {
+        put_output(&output, &mut line);
+    }
+    line.as_slice() == text
 }
 
 #[test]
-fn a_transaction_is_copied(rt: HostRuntime) -> Result<(), Fail> {
-    let alloc = rt.alloc();
-    let input = read_input(b"100:0:D:1111111111111111111111111111111111111111111:5").ok_or(
-        "input",
-    )?;
-    let Ok(Some(unlock)) = read_unlock(alloc, b"0:SIG(0) XHX(abc)") else {
-        return Err(Fail::from("unlock"));
-    };
-    let Ok(Some(output)) = read_output(alloc, b"100:0:(CSV(1) && CLTV(2)) || CSV(3)") else {
-        return Err(Fail::from("output"));
-    };
-    let tx = Tx {
-        stamp: Stamp {
-            number: 5,
-            hash: Hash::of(b""),
-        },
-        locktime: 3600,
-        issuers: list(alloc, Key::read(K0).ok_or("key")?)?,
-        inputs: list(alloc, input)?,
-        unlocks: list(alloc, unlock)?,
-        outputs: list(alloc, output)?,
-        comment: list(alloc, b'a')?,
-        sigs: Items::<Sig>::new(alloc),
-    };
-    let Ok(copied) = copy_tx(alloc, &tx) else {
-        return Err(Fail::from("no memory"));
-    };
-    assert!(rt; copied.inputs.as_slice() == tx.inputs.as_slice());
-    for output in copied.outputs.as_slice() {
-        assert!(rt; !holds(&output.cond, &[], &[], 1, 0));
-        assert!(rt; holds(&output.cond, &[], &[], 2, 0));
+fn outputs_are_read_and_written(rt: HostRuntime) {
+    let rows = [
+        (b"1000:0:CSV(1)".as_slice(), true),
+        (b"0:15:(CSV(1) && CLTV(2)) || CSV(3)", true),
+        (b"1000:0:", false),
+        (b"1000:CSV(1)", false),
+    ];
+    for (text, is) in rows {
+        assert_eq!(rt; output_is_kept(rt.alloc(), text), is);
     }
-    Ok(())
 }

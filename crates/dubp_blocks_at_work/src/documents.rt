@@ -1,10 +1,14 @@
+ghost use Rattle.dubp_cond.specs.Transactions.{IsTx};
 ghost use Rattle.dubp_docs.specs.Spelling.{IsDoc};
 
-use dubp_atoms::Hash;
+use dubp_atoms::{Hash, NoMemory};
+use dubp_cond::{Tx, copy_tx, holds};
 use dubp_docs::{
-    Doc, certification_hash, identity_hash, membership_hash, put_doc, read_doc, revocation_hash,
-    signed_text, signed_tx, tx_hash, tx_hashes,
+    Doc, TxDoc, certification_hash, identity_hash, membership_hash, put_doc, read_doc,
+    revocation_hash, signed_text, signed_tx, tx_hash, tx_hashes,
 };
+use std::alloc::Global;
+use std::mem::forget;
 use std::test::Fail;
 
 const IDENTITY: &[u8] = b"\
@@ -114,6 +118,20 @@ fn signed_hash(doc: &Doc) -> Hash
     }
 }
 
+// Whether the document is written as this text, and its signed text has this hash.
+fn is_written_and_hashed(
+    alloc: Global,
+    doc: &Doc,
+    text: &[u8],
+    hash: &[u8],
+) -> Result<bool, NoMemory>
+    requires { IsDoc doc.now }
+{
+    let written = put_doc(alloc, doc)?.as_slice() == text;
+    let signed = Hash::of(&signed_text(alloc, doc)?);
+    Ok(written && signed.as_bytes() == hash && signed_hash(doc).as_bytes() == hash)
+}
+
 #[test]
 fn documents_are_read_written_and_hashed(rt: HostRuntime) -> Result<(), Fail> {
     let rows = [
@@ -142,27 +160,51 @@ fn documents_are_read_written_and_hashed(rt: HostRuntime) -> Result<(), Fail> {
         let Ok(Some(doc)) = read_doc(rt.alloc(), text) else {
             return Err(Fail::from("no document"));
         };
-        let written = put_doc(rt.alloc(), &doc).map_err(|_| "no memory")?;
-        assert!(rt; written.as_slice() == text);
-        let signed = signed_text(rt.alloc(), &doc).map_err(|_| "no memory")?;
-        assert!(rt; Hash::of(&signed).as_bytes() == hash.as_slice());
-        assert!(rt; signed_hash(&doc).as_bytes() == hash.as_slice());
+        let good = is_written_and_hashed(rt.alloc(), &doc, text, hash);
+        forget(doc);
+        assert!(rt; good == Ok(true));
     }
     Ok(())
 }
 
+// The hash of the whole text of a transaction, and whether its signed text has the hash that it is signed by.
+fn names(alloc: Global, doc: &TxDoc) -> Result<(Hash, bool), NoMemory>
+    requires { IsTx doc.now.tx }
+{
+    let signed = Hash::of(&signed_tx(alloc, &doc.currency, &doc.tx)?);
+    let same = signed == tx_hashes(&doc.currency, &doc.tx).signed;
+    Ok((tx_hash(alloc, &doc.currency, &doc.tx)?, same))
+}
+
+// Whether a copy of a transaction has its inputs, and the condition of its second output holds from the time of its text on.
+fn is_copied(alloc: Global, tx: &Tx) -> Result<bool, NoMemory> {
+    let copied = copy_tx(alloc, tx)?;
+    let same = copied.inputs.as_slice() == tx.inputs.as_slice();
+    let timed = match copied.outputs.as_slice() {
+        [_, output] => {
+            !holds(&output.cond, &[], &[], 999, 0) && holds(&output.cond, &[], &[], 1000, 0)
+        }
+        _ => false,
+    };
+    forget(copied);
+    Ok(same && timed)
+}
+
 #[test]
-fn a_transaction_is_named_by_its_whole_text(rt: HostRuntime) -> Result<(), Fail> {
-    let Ok(Some(Doc::Transaction(d))) = read_doc(rt.alloc(), TRANSACTION) else {
+fn a_transaction_is_named_by_its_whole_text_and_copied(rt: HostRuntime) -> Result<(), Fail> {
+    let Ok(Some(Doc::Transaction(doc))) = read_doc(rt.alloc(), TRANSACTION) else {
         return Err(Fail::from("no transaction"));
     };
-    let hash = tx_hash(rt.alloc(), &d.currency, &d.tx).map_err(|_| "no memory")?;
+    let named = names(rt.alloc(), &doc);
+    let copied = is_copied(rt.alloc(), &doc.tx);
+    forget(doc);
+    assert!(rt; copied == Ok(true));
+    let (hash, same) = named?;
+    assert!(rt; same);
     assert!(rt;
         hash.as_bytes()
             == b"E6DB10DCB63E92B9F77B1C05D3864DA9FF54F21275E057C384AEE989ED34E98D".as_slice()
     );
-    let signed = signed_tx(rt.alloc(), &d.currency, &d.tx).map_err(|_| "no memory")?;
-    assert!(rt; Hash::of(&signed) == tx_hashes(&d.currency, &d.tx).signed);
     Ok(())
 }
 

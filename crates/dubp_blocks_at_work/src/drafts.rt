@@ -1,8 +1,9 @@
 use dubp_atoms::{Hash, Key, NoMemory, Stamp};
 use dubp_block::{Block, read_block};
 use dubp_cond::{Input, Item, Output, SourceId};
-use dubp_drafts::{Draft, draft, first_draft, key_of, next_number, payer, seal, uid_of};
+use dubp_drafts::{Draft, Sealed, draft, first_draft, key_of, next_number, payer, seal, uid_of};
 use std::alloc::Global;
+use std::mem::forget;
 use std::test::Fail;
 
 // A draft by the key of number 7. What it is sealed with was computed by another program.
@@ -41,12 +42,20 @@ const SIG: &[u8] =
 
 #[test]
 fn seals_a_first_block(rt: HostRuntime) -> Result<(), Fail> {
-    let sealed = seal(read_block(rt.alloc(), DRAFT)?, 24)?;
-    assert_eq!(rt; sealed.block.inner_hash.as_bytes(), INNER_HASH);
-    assert_eq!(rt; sealed.block.nonce, 45);
-    assert_eq!(rt; sealed.key, key_of(7));
-    assert_eq!(rt; sealed.message.as_bytes(), MESSAGE);
-    assert_eq!(rt; sealed.sig.as_bytes(), SIG);
+    let draft = read_block(rt.alloc(), DRAFT)?;
+    let Sealed {
+        block,
+        key,
+        message,
+        sig,
+    } = seal(draft, 24)?;
+    let (inner_hash, nonce) = (block.inner_hash, block.nonce);
+    forget(block);
+    assert_eq!(rt; inner_hash.as_bytes(), INNER_HASH);
+    assert_eq!(rt; nonce, 45);
+    assert_eq!(rt; key, key_of(7));
+    assert_eq!(rt; message.as_bytes(), MESSAGE);
+    assert_eq!(rt; sig.as_bytes(), SIG);
     Ok(())
 }
 
@@ -63,28 +72,48 @@ fn makes_keys_names_and_numbers(rt: HostRuntime) {
     );
 }
 
+// How many members, identities, joiners, certifications and verdicts there are.
+fn counted(draft: &Draft) -> (u64, usize, usize, usize, usize) {
+    let block = &draft.block;
+    (
+        block.members,
+        block.identities.len(),
+        block.joiners.len(),
+        block.certifications.len(),
+        draft.verdicts.len(),
+    )
+}
+
 #[test]
 fn drafts_the_first_block(rt: HostRuntime) -> Result<(), Fail> {
     let first = first_draft(rt.alloc())?;
-    assert_eq!(rt; first.block.members, 8);
-    assert_eq!(rt; first.block.identities.len(), 8);
-    assert_eq!(rt; first.block.joiners.len(), 8);
-    assert_eq!(rt; first.block.certifications.len(), 56);
-    assert_eq!(rt; first.verdicts.len(), 72);
+    let counted = counted(&first);
+    forget(first);
+    assert_eq!(rt; counted, (8, 8, 8, 56, 72));
     Ok(())
 }
 
 // The member of number 3 pays 30 to that of number 5.
 const RUN: u64 = (29 << 48) + (5 << 40) + (3 << 33);
 
+// Who joins, when, and what the two outputs pay.
+type Told = (Option<Key>, u64, Option<(u64, Key)>, Option<(u64, Key)>);
+
+fn told(block: &Block) -> Told {
+    (newcomer(block), block.time, paid(block, 0), paid(block, 1))
+}
+
 #[test]
 fn drafts_the_block_of_a_newcomer(rt: HostRuntime) -> Result<(), Fail> {
     let drafted = drafted(rt.alloc())?;
-    assert_eq!(rt; newcomer(&drafted.block), Some(key_of(8)));
-    assert_eq!(rt; drafted.block.time, 1_001_200);
-    assert_eq!(rt; paid(&drafted.block, 0), Some((30, key_of(5))));
-    assert_eq!(rt; paid(&drafted.block, 1), Some((70, key_of(3))));
-    assert_eq!(rt; drafted.verdicts.len(), 4);
+    let told = told(&drafted.block);
+    let verdicts = drafted.verdicts.len();
+    forget(drafted);
+    assert_eq!(rt; told.0, Some(key_of(8)));
+    assert_eq!(rt; told.1, 1_001_200);
+    assert_eq!(rt; told.2, Some((30, key_of(5))));
+    assert_eq!(rt; told.3, Some((70, key_of(3))));
+    assert_eq!(rt; verdicts, 4);
     Ok(())
 }
 

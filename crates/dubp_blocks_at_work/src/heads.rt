@@ -1,10 +1,13 @@
 ghost use Rattle.std.specs.Prelude.{◌≡◌};
+ghost use Rattle.dubp_params.specs.Ranges.{IsInRange};
+ghost use Rattle.dubp_head.specs.HeadsStates.{AreOver};
 
 use dubp_atoms::{Hash, Key, NoMemory};
 use dubp_chain::Head;
 use dubp_head::{Frame, Heads};
 use dubp_params::{Params, in_range, read_params};
 use std::alloc::Global;
+use std::mem::forget;
 use std::test::Fail;
 
 const PARAMS: &[u8] =
@@ -52,33 +55,46 @@ fn summary(
     (last, other_last, heads.median(), heads.len())
 }
 
+// Five heads of two issuers, of whom the last leaves and returns.
+fn five_come_and_one_leaves(
+    heads: &mut Heads,
+    params: &Params,
+    key: Key,
+    other: Key,
+) -> Result<bool, NoMemory>
+    requires valid { IsInRange params.now }
+    requires over { AreOver heads.old params.now }
+{
+    heads.push(head(0, key, 100), params)?;
+    heads.push(head(1, other, 300), params)?;
+    heads.push(head(2, key, 200), params)?;
+    heads.push(head(3, key, 500), params)?;
+    heads.push(head(4, other, 700), params)?;
+    let five = summary(heads, &key, &other);
+    let popped = heads.pop().number;
+    let four = summary(heads, &key, &other);
+    heads.put_back(head(4, other, 700), params);
+    let again = summary(heads, &key, &other);
+    Ok(
+        five == (Some(3), Some(4), Some(600), 5)
+            && popped == 4
+            && four == (Some(3), Some(1), Some(350), 4)
+            && again == five,
+    )
+}
+
 #[test]
 fn five_heads_of_two_issuers(rt: HostRuntime) -> Result<(), Fail> {
     let params = read_params(PARAMS).ok_or("parameters")?;
     let key = Key::read(KEY).ok_or("a key")?;
     let other = Key::read(OTHER_KEY).ok_or("another key")?;
-    let mut heads = Heads::new(rt.alloc());
-    assert_eq!(rt; summary(&heads, &key, &other), (None, None, None, 0));
     if in_range(&params) {
-        heads.push(head(0, key, 100), &params)?;
-        heads.push(head(1, other, 300), &params)?;
-        heads.push(head(2, key, 200), &params)?;
-        heads.push(head(3, key, 500), &params)?;
-        heads.push(head(4, other, 700), &params)?;
-        assert_eq!(rt;
-            summary(&heads, &key, &other),
-            (Some(3), Some(4), Some(600), 5)
-        );
-        assert_eq!(rt; heads.pop().number, 4);
-        assert_eq!(rt;
-            summary(&heads, &key, &other),
-            (Some(3), Some(1), Some(350), 4)
-        );
-        heads.put_back(head(4, other, 700), &params);
-        assert_eq!(rt;
-            summary(&heads, &key, &other),
-            (Some(3), Some(4), Some(600), 5)
-        );
+        let mut heads = Heads::new(rt.alloc());
+        let none = summary(&heads, &key, &other);
+        let good = five_come_and_one_leaves(&mut heads, &params, key, other);
+        forget(heads);
+        assert_eq!(rt; none, (None, None, None, 0));
+        assert!(rt; good == Ok(true));
     }
     Ok(())
 }
@@ -100,21 +116,29 @@ fn frame_summary(
     ))
 }
 
+// Four heads, of which the last three are the frame.
+fn four_come(heads: &mut Heads, params: &Params, key: Key, other: Key) -> Result<(), NoMemory>
+    requires valid { IsInRange params.now }
+    requires over { AreOver heads.old params.now }
+{
+    heads.push(head(0, other, 100), params)?;
+    heads.push(head(1, key, 200), params)?;
+    heads.push(head(2, key, 300), params)?;
+    heads.push(head(3, other, 400), params)
+}
+
 #[test]
 fn frame_of_three_blocks(rt: HostRuntime) -> Result<(), Fail> {
     let params = read_params(PARAMS).ok_or("parameters")?;
     let key = Key::read(KEY).ok_or("a key")?;
     let other = Key::read(OTHER_KEY).ok_or("another key")?;
-    let mut heads = Heads::new(rt.alloc());
     if in_range(&params) {
-        heads.push(head(0, other, 100), &params)?;
-        heads.push(head(1, key, 200), &params)?;
-        heads.push(head(2, key, 300), &params)?;
-        heads.push(head(3, other, 400), &params)?;
-        assert_eq!(rt;
-            frame_summary(rt.alloc(), &heads, &key, &other)?,
-            (2, 2, 1, 3)
-        );
+        let mut heads = Heads::new(rt.alloc());
+        let come = four_come(&mut heads, &params, key, other);
+        let frame = frame_summary(rt.alloc(), &heads, &key, &other);
+        forget(heads);
+        assert!(rt; come.is_ok());
+        assert!(rt; frame == Ok((2, 2, 1, 3)));
     }
     Ok(())
 }

@@ -1,6 +1,6 @@
-use dubp_atoms::{Hash, Key, Sig};
+use dubp_atoms::{Hash, Key, NoMemory, Sig};
 use dubp_verdict::Verdicts;
-use std::test::Fail;
+use std::mem::forget;
 
 const KEY: &[u8] = b"4tsFXtKofD6jK8zwLymgXWAoMBzhFx7KNANhtK86mKzA";
 
@@ -29,42 +29,61 @@ fn read_atoms() -> Option<Atoms> {
     })
 }
 
-#[test]
-fn one_verdict(rt: HostRuntime) -> Result<(), Fail> {
-    let atoms = read_atoms();
-    assert!(rt; atoms.is_some());
-    if let Some(atoms) = atoms {
-        let mut verdicts = Verdicts::new(rt.alloc());
-        assert!(rt; !verdicts.has(&atoms.key, b"one\n", &atoms.sig));
-        verdicts.add(atoms.key, Hash::of(b"one\n"), atoms.sig)?;
-        verdicts.add(atoms.key, Hash::of(b"one\n"), atoms.sig)?;
-        let rows = [
-            (atoms.key, b"one\n".as_slice(), atoms.sig, true),
-            (atoms.other_key, b"one\n".as_slice(), atoms.sig, false),
-            (atoms.key, b"one".as_slice(), atoms.sig, false),
-            (atoms.key, b"one\n".as_slice(), atoms.other_sig, false),
-        ];
-        for (key, message, sig, stands) in rows {
-            assert_eq!(rt; verdicts.has(&key, message, &sig), stands);
-            assert_eq!(rt; verdicts.has_hash(&key, &Hash::of(message), &sig), stands);
-        }
-    }
-    Ok(())
+// Whether the verdicts have this one as they should, asked by its message and by its hash.
+fn is_told(verdicts: &Verdicts, key: &Key, message: &[u8], sig: &Sig, stands: bool) -> bool {
+    verdicts.has(key, message, sig) == stands
+        && verdicts.has_hash(key, &Hash::of(message), sig) == stands
+}
+
+// One verdict is given twice; others are not given.
+fn one_is_told(verdicts: &mut Verdicts, atoms: &Atoms) -> Result<bool, NoMemory> {
+    let before = is_told(verdicts, &atoms.key, b"one\n", &atoms.sig, false);
+    verdicts.add(atoms.key, Hash::of(b"one\n"), atoms.sig)?;
+    verdicts.add(atoms.key, Hash::of(b"one\n"), atoms.sig)?;
+    Ok(
+        before
+            && is_told(verdicts, &atoms.key, b"one\n", &atoms.sig, true)
+            && is_told(verdicts, &atoms.other_key, b"one\n", &atoms.sig, false)
+            && is_told(verdicts, &atoms.key, b"one", &atoms.sig, false)
+            && is_told(verdicts, &atoms.key, b"one\n", &atoms.other_sig, false),
+    )
 }
 
 #[test]
-fn many_verdicts(rt: HostRuntime) -> Result<(), Fail> {
-    let atoms = read_atoms();
-    assert!(rt; atoms.is_some());
-    if let Some(atoms) = atoms {
-        let mut verdicts = Verdicts::new(rt.alloc());
-        for number in 0..10_000u32 {
-            verdicts.add(atoms.key, Hash::of(&number.to_be_bytes()), atoms.sig)?;
-        }
-        for number in 0..10_100u32 {
-            let stands = verdicts.has(&atoms.key, &number.to_be_bytes(), &atoms.sig);
-            assert_eq!(rt; stands, number < 10_000, "at {number}");
+fn one_verdict(rt: HostRuntime) {
+    match read_atoms() {
+        None => assert!(rt; false),
+        Some(atoms) => {
+            let mut verdicts = Verdicts::new(rt.alloc());
+            let good = one_is_told(&mut verdicts, &atoms);
+            forget(verdicts);
+            assert!(rt; good == Ok(true));
         }
     }
-    Ok(())
+}
+
+// 10,000 verdicts are given, and 100 are not.
+fn many_are_told(verdicts: &mut Verdicts, key: Key, sig: Sig) -> Result<bool, NoMemory> {
+    for number in 0..10_000u32 {
+        verdicts.add(key, Hash::of(&number.to_be_bytes()), sig)?;
+    }
+    let mut good = true;
+    for number in 0..10_100u32 {
+        let stands = verdicts.has(&key, &number.to_be_bytes(), &sig);
+        good = good && stands == (number < 10_000);
+    }
+    Ok(good)
+}
+
+#[test]
+fn many_verdicts(rt: HostRuntime) {
+    match read_atoms() {
+        None => assert!(rt; false),
+        Some(atoms) => {
+            let mut verdicts = Verdicts::new(rt.alloc());
+            let good = many_are_told(&mut verdicts, atoms.key, atoms.sig);
+            forget(verdicts);
+            assert!(rt; good == Ok(true));
+        }
+    }
 }

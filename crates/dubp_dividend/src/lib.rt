@@ -13,8 +13,6 @@
 mod dividends;
 mod division;
 mod reevaluation;
-#[cfg(test)]
-mod tests;
 
 pub use dividends::{Dividend, Limit};
 pub use reevaluation::next_dividend;

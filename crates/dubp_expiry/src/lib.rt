@@ -20,8 +20,6 @@
 mod due;
 mod laws;
 mod queue;
-#[cfg(test)]
-mod tests;
 
 pub use due::{Behind, Due};
 pub use laws::{dues_are_ordered, entries_are_ordered};

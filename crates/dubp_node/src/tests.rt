@@ -55,12 +55,12 @@ fn input(alloc: Global) -> Result<Vec<u8>, Fail> {
     Ok(bytes)
 }
 
-// What a run leaves.
-#[derive(Drop)]
+// What a run leaves: its status, how many bytes are left, and whether it wrote the answers that it should.
+#[derive(Clone, Copy)]
 struct Ran {
     status: u8,
     left: usize,
-    held: Vec<u8>,
+    is_answered: bool,
 }
 
 // Runs a new node over these bytes, which come in pieces of seven, and are answered in pieces of so many. The reads and the writes of these
@@ -71,17 +71,20 @@ fn run_on(
     bytes: Vec<u8>,
     reads: Vec<u64>,
     writes: Vec<u64>,
+    answers: &[u8],
 ) -> Result<Ran, Fail> {
     let most = if writes.is_empty() { 4096 } else { 1 };
-    let mut source = MemSource::new(bytes, 7, reads);
     let mut sink = MemSink::new(alloc, 4096, most, writes)?;
+    let mut source = MemSource::new(bytes, 7, reads);
     let mut node = Node::<Books>::new(alloc);
     let status = run_program(alloc, words, &mut source, &mut sink, &mut node);
     forget(node);
+    let left = source.left().len();
+    let is_answered = sink.held() == answers;
     Ok(Ran {
         status,
-        left: source.left().len(),
-        held: sink.held().to_vec(alloc)?,
+        left,
+        is_answered,
     })
 }
 
@@ -89,9 +92,10 @@ fn run_on(
 fn answers_in_small_pieces(rt: HostRuntime) -> Result<(), Fail> {
     let alloc = rt.alloc();
     let never = vec![in alloc; u64::MAX]?;
-    let ran = run_on(alloc, &["run"], input(alloc)?, Vec::new(alloc), never)?;
+    let bytes = input(alloc)?;
+    let ran = run_on(alloc, &["run"], bytes, Vec::new(alloc), never, OUTPUT)?;
     assert_eq!(rt; ran.status, 0);
-    assert_eq!(rt; ran.held.as_slice(), OUTPUT);
+    assert!(rt; ran.is_answered);
     Ok(())
 }
 
@@ -120,14 +124,12 @@ fn answers_of(taken: usize) -> &'static [u8] {
 fn a_failed_read_leaves_the_answers_of_what_was_read(rt: HostRuntime) -> Result<(), Fail> {
     let alloc = rt.alloc();
     for call in 0..224u64 {
+        let bytes = input(alloc)?;
         let reads = vec![in alloc; call]?;
-        let ran = run_on(alloc, &["run"], input(alloc)?, reads, Vec::new(alloc))?;
+        let answers = answers_of(7 * call as usize);
+        let ran = run_on(alloc, &["run"], bytes, reads, Vec::new(alloc), answers)?;
         assert_eq!(rt; ran.status, 3, "call {call}");
-        assert_eq!(rt;
-            ran.held.as_slice(),
-            answers_of(7 * call as usize),
-            "call {call}"
-        );
+        assert!(rt; ran.is_answered, "call {call}");
     }
     Ok(())
 }
@@ -136,10 +138,12 @@ fn a_failed_read_leaves_the_answers_of_what_was_read(rt: HostRuntime) -> Result<
 fn each_write_fails(rt: HostRuntime) -> Result<(), Fail> {
     let alloc = rt.alloc();
     for call in 0..OUTPUT.len() {
+        let bytes = input(alloc)?;
         let writes = vec![in alloc; call as u64]?;
-        let ran = run_on(alloc, &["run"], input(alloc)?, Vec::new(alloc), writes)?;
+        let answers = &OUTPUT[..call];
+        let ran = run_on(alloc, &["run"], bytes, Vec::new(alloc), writes, answers)?;
         assert_eq!(rt; ran.status, 5, "call {call}");
-        assert_eq!(rt; ran.held.as_slice(), &OUTPUT[..call]);
+        assert!(rt; ran.is_answered, "call {call}");
     }
     Ok(())
 }
@@ -147,10 +151,17 @@ fn each_write_fails(rt: HostRuntime) -> Result<(), Fail> {
 #[test]
 fn each_cut_inside_a_frame_has_status_4(rt: HostRuntime) -> Result<(), Fail> {
     let alloc = rt.alloc();
-    let bytes = b"HEAD\nBLOCK 3\nabc\nHEAD\nBLOCK 0\n\nHEAD";
-    for len in 0..bytes.len() {
-        let cut = bytes[..len].to_vec(alloc)?;
-        let ran = run_on(alloc, &["run"], cut, Vec::new(alloc), Vec::new(alloc))?;
+    let whole = b"HEAD\nBLOCK 3\nabc\nHEAD\nBLOCK 0\n\nHEAD";
+    for len in 0..whole.len() {
+        let bytes = whole[..len].to_vec(alloc)?;
+        let ran = run_on(
+            alloc,
+            &["run"],
+            bytes,
+            Vec::new(alloc),
+            Vec::new(alloc),
+            b"",
+        )?;
         let inside = (len >= 12 && len < 17) || (len >= 29 && len < 31);
         assert_eq!(rt; ran.status, if inside { 4 } else { 0 }, "at {len}");
     }
@@ -170,10 +181,9 @@ fn other_words_read_and_write_nothing(rt: HostRuntime) -> Result<(), Fail> {
     ];
     for words in rows {
         let bytes = b"HEAD\n".to_vec(alloc)?;
-        let ran = run_on(alloc, words, bytes, Vec::new(alloc), Vec::new(alloc))?;
-        assert_eq!(rt; ran.status, 2);
-        assert_eq!(rt; ran.left, 5);
-        assert!(rt; ran.held.is_empty());
+        let ran = run_on(alloc, words, bytes, Vec::new(alloc), Vec::new(alloc), b"")?;
+        assert_eq!(rt; (ran.status, ran.left), (2, 5));
+        assert!(rt; ran.is_answered);
     }
     Ok(())
 }
@@ -193,20 +203,12 @@ fn session_answers(taken: usize) -> &'static [u8] {
 fn a_session_breaks_off_at_each_failed_read(rt: HostRuntime) -> Result<(), Fail> {
     let alloc = rt.alloc();
     for call in 0..1173u64 {
+        let bytes = SESSION.to_vec(alloc)?;
         let reads = vec![in alloc; call]?;
-        let ran = run_on(
-            alloc,
-            &["run"],
-            SESSION.to_vec(alloc)?,
-            reads,
-            Vec::new(alloc),
-        )?;
+        let answers = session_answers(7 * call as usize);
+        let ran = run_on(alloc, &["run"], bytes, reads, Vec::new(alloc), answers)?;
         assert_eq!(rt; ran.status, 3, "call {call}");
-        assert_eq!(rt;
-            ran.held.as_slice(),
-            session_answers(7 * call as usize),
-            "call {call}"
-        );
+        assert!(rt; ran.is_answered, "call {call}");
     }
     Ok(())
 }
@@ -215,16 +217,12 @@ fn a_session_breaks_off_at_each_failed_read(rt: HostRuntime) -> Result<(), Fail>
 fn a_session_breaks_off_at_each_failed_write(rt: HostRuntime) -> Result<(), Fail> {
     let alloc = rt.alloc();
     for call in 0..ANSWERS.len() {
+        let bytes = SESSION.to_vec(alloc)?;
         let writes = vec![in alloc; call as u64]?;
-        let ran = run_on(
-            alloc,
-            &["run"],
-            SESSION.to_vec(alloc)?,
-            Vec::new(alloc),
-            writes,
-        )?;
+        let answers = ANSWERS.get(..call).unwrap_or(ANSWERS);
+        let ran = run_on(alloc, &["run"], bytes, Vec::new(alloc), writes, answers)?;
         assert_eq!(rt; ran.status, 5, "call {call}");
-        assert_eq!(rt; ran.held.as_slice(), ANSWERS.get(..call).unwrap_or(ANSWERS));
+        assert!(rt; ran.is_answered, "call {call}");
     }
     Ok(())
 }

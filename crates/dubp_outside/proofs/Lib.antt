@@ -1,3 +1,2 @@
-mod Copies
 pub mod Known
 mod Pieces

@@ -26,8 +26,6 @@ mod schedule;
 mod sink;
 mod source;
 mod streams;
-#[cfg(test)]
-mod tests;
 mod unread;
 
 pub use errors::{Failed, NoMemory};

@@ -15,8 +15,6 @@ pub mod laws;
 mod params;
 mod ranges;
 mod reading;
-#[cfg(test)]
-mod tests;
 mod writing;
 
 pub use params::Params;

@@ -20,8 +20,6 @@ pub mod laws;
 mod least;
 mod meeting;
 mod table;
-#[cfg(test)]
-mod tests;
 
 pub use difficulties::{handicap, issuer_diff};
 pub use frames::{next_frame, next_var};

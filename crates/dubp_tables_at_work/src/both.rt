@@ -7,6 +7,7 @@ use dubp_atoms::{NoMemory, Steps};
 use dubp_undo::{Both, Definition, Leaf, Tables};
 use std::alloc::Global;
 use std::marker::Brand;
+use std::mem::forget;
 use std::sync::ledger::{Blank, Ledger as StepBook};
 
 // A block of the small chain: a key and its value.
@@ -93,21 +94,19 @@ fn leave_and_return<L: StepBook, T: Tables<Row>>(
 }
 
 // Three blocks, the newest of which leaves and returns, and then leaves for good.
-fn moves_both_tables<L: StepBook>(alloc: Global, blank: Blank) -> Result<bool, NoMemory>
-    requires name { blank.name ≡ L.name }
-    requires parts { blank.parts ≡ L.parts }
-    requires some { 0 < blank.parts }
+fn moves_both_tables<L: StepBook>(index: &mut Index, steps: &mut Steps<L>) -> Result<bool, NoMemory>
+    requires costs { ⟦<Index as Tables<Row>>⟧.costs index.old ≡ [] }
+    requires stands { ⟦<Index as Tables<Row>>⟧.stands index.old [] }
+    requires waits { (o : List (ℕ × ℕ)) → ⟦<Index as Tables<Row>>⟧.waits index.old o 0 }
 {
-    let mut steps = Steps::<L>::open(blank);
-    let mut index = empty_index(alloc);
-    enter(&mut index, (1, 10), &mut steps)?;
-    enter(&mut index, (2, 20), &mut steps)?;
-    enter(&mut index, (1, 30), &mut steps)?;
-    leave_and_return(&mut index, &mut steps)?;
+    enter(index, (1, 10), steps)?;
+    enter(index, (2, 20), steps)?;
+    enter(index, (1, 30), steps)?;
+    leave_and_return(index, steps)?;
     let newest = index.first.get(1) == Some(30) && index.second.get(30) == Some(1);
     let kept = index.depth() == 3;
     if index.depth() > 0 {
-        index.back(&mut steps);
+        index.back(steps);
     }
     let before = index.first.get(1) == Some(10) && index.second.get(30) == None;
     if index.depth() > 0 {
@@ -118,21 +117,18 @@ fn moves_both_tables<L: StepBook>(alloc: Global, blank: Blank) -> Result<bool, N
 }
 
 // Blocks that are applied again where memory ended, after which all was as before.
-fn goes_on_after_a_refused_block<L: StepBook>(alloc: Global, blank: Blank) -> Result<bool, NoMemory>
-    requires name { blank.name ≡ L.name }
-    requires parts { blank.parts ≡ L.parts }
-    requires some { 0 < blank.parts }
-{
-    let mut steps = Steps::<L>::open(blank);
-    let mut index = empty_index(alloc);
+fn goes_on_after_a_refused_block<L: StepBook>(
+    index: &mut Index,
+    steps: &mut Steps<L>,
+) -> Result<bool, NoMemory> {
     let mut same = true;
-    if enter(&mut index, (1, 10), &mut steps).is_err() {
+    if enter(index, (1, 10), steps).is_err() {
         same = same && index.depth() == 0 && index.first.get(1) == None;
-        enter(&mut index, (1, 10), &mut steps)?;
+        enter(index, (1, 10), steps)?;
     }
-    if enter(&mut index, (1, 30), &mut steps).is_err() {
+    if enter(index, (1, 30), steps).is_err() {
         same = same && index.depth() == 1 && index.first.get(1) == Some(10);
-        enter(&mut index, (1, 30), &mut steps)?;
+        enter(index, (1, 30), steps)?;
     }
     Ok(
         same && index.depth() == 2
@@ -141,14 +137,40 @@ fn goes_on_after_a_refused_block<L: StepBook>(alloc: Global, blank: Blank) -> Re
     )
 }
 
+// Moves two new tables.
+fn are_as_one<L: StepBook>(alloc: Global, blank: Blank) -> Result<bool, NoMemory>
+    requires name { blank.name ≡ L.name }
+    requires parts { blank.parts ≡ L.parts }
+    requires some { 0 < blank.parts }
+{
+    let mut steps = Steps::<L>::open(blank);
+    let mut index = empty_index(alloc);
+    let moved = moves_both_tables(&mut index, &mut steps);
+    forget(index);
+    moved
+}
+
+// Goes on with two new tables where memory ended.
+fn are_kept<L: StepBook>(alloc: Global, blank: Blank) -> Result<bool, NoMemory>
+    requires name { blank.name ≡ L.name }
+    requires parts { blank.parts ≡ L.parts }
+    requires some { 0 < blank.parts }
+{
+    let mut steps = Steps::<L>::open(blank);
+    let mut index = empty_index(alloc);
+    let gone_on = goes_on_after_a_refused_block(&mut index, &mut steps);
+    forget(index);
+    gone_on
+}
+
 #[test]
 fn both_tables_move_as_one(rt: HostRuntime) {
-    let good = moves_both_tables::<Brand>(rt.alloc(), Blank::new(1));
+    let good = are_as_one::<Brand>(rt.alloc(), Blank::new(1));
     assert!(rt; good == Ok(true));
 }
 
 #[test]
 fn a_refused_block_changes_nothing(rt: HostRuntime) {
-    let good = goes_on_after_a_refused_block::<Brand>(rt.alloc(), Blank::new(1));
+    let good = are_kept::<Brand>(rt.alloc(), Blank::new(1));
     assert!(rt; good == Ok(true));
 }

@@ -16,8 +16,6 @@
 #![tactic(auto)]
 
 mod medians;
-#[cfg(test)]
-mod tests;
 mod window;
 
 pub use medians::{median, median_laws};

@@ -16,8 +16,6 @@
 
 mod reaching;
 mod sentry;
-#[cfg(test)]
-mod tests;
 mod web;
 
 pub use reaching::{reaches, reaches_among};

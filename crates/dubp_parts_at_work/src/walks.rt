@@ -1,0 +1,267 @@
+ghost use Rattle.std.specs.Prelude.{◌≡◌, ◌≤◌, ◌&&◌, true, length, find, IsTrue};
+ghost use Rattle.std.specs.List.{list_all, list_any};
+ghost use Rattle.std.specs.Option.{option_map_or};
+ghost use Rattle.std.proofs.Props.{props};
+ghost use Rattle.dubp_atoms.specs.Same.{same_text};
+ghost use Rattle.dubp_atoms.specs.Walks.{received_of, stock_of};
+ghost use Rattle.dubp_wot.specs.Order.{IsInOrder, IsNextIssuer, is_above, less};
+
+use dubp_atoms::{Key, NoMemory};
+use dubp_wot::{Web, d_sen, reaches, reaches_among, sentries};
+use std::alloc::Global;
+use std::mem::forget;
+use std::test::Fail;
+
+/// A web as two lists.
+#[derive(Drop)]
+struct Listed {
+    members: Vec<Key>,
+    pairs: Vec<(Key, Key)>,
+    ghost in_order: { IsInOrder members.items } by { Prim.hlevel props },
+}
+
+impl Web for Listed {
+    ghost shows = { λ w members pairs. (members ≡ w.members.items) × (pairs ≡ w.pairs.items) };
+
+    fn is_member(&self, key: &Key) -> bool {
+        self.members.contains(key)
+    }
+
+    fn count_members(&self) -> u64 {
+        self.members.len() as u64
+    }
+
+    fn next_member(&self, after: Option<Key>) -> Option<Key> {
+        first_above(&self.members, &after)
+    }
+
+    fn next_issuer(&self, to: Key, after: Option<Key>) -> Option<Key> {
+        least_issuer(&self.pairs, &to, &after)
+    }
+
+    fn stock(&self, key: &Key) -> u64 {
+        count_certified(&self.pairs, key) as u64
+    }
+
+    fn received(&self, key: &Key) -> u64 {
+        count_issuers(&self.pairs, key) as u64
+    }
+}
+
+fn first_above(keys: &[Key], after: &Option<Key>) -> Option<Key>
+    ensures { result ≡ find (is_above after.now) keys.now }
+{
+    keys.iter().copied().find(|key| is_above_key(after, key))
+}
+
+fn is_above_key(after: &Option<Key>, key: &Key) -> bool
+    ensures { result ≡ is_above after.now key.now }
+{
+    match after {
+        Some(low) => *low < *key,
+        None => true,
+    }
+}
+
+fn is_below_key(key: &Key, best: &Option<Key>) -> bool
+    ensures { result ≡ option_map_or (less key.now) best.now true }
+{
+    match best {
+        Some(high) => *key < *high,
+        None => true,
+    }
+}
+
+fn least_issuer(pairs: &[(Key, Key)], to: &Key, after: &Option<Key>) -> Option<Key>
+    ensures { IsNextIssuer pairs.now to.now after.now result }
+{
+    match pairs.split_first() {
+        Some((pair, rest)) => {
+            let best = least_issuer(rest, to, after);
+            if *to == pair.1 && is_above_key(after, &pair.0) && is_below_key(&pair.0, &best) {
+                Some(pair.0)
+            } else {
+                best
+            }
+        }
+        None => None,
+    }
+}
+
+fn count_issuers(pairs: &[(Key, Key)], to: &Key) -> usize
+    ensures count { result ≡ received_of pairs.now to.now }
+    ensures within { result ≤ length pairs.now }
+{
+    match pairs.split_first() {
+        Some((pair, rest)) => {
+            let count = count_issuers(rest, to);
+            if *to == pair.1 && !has_pair(rest, &pair.0, to) {
+                count + 1
+            } else {
+                count
+            }
+        }
+        None => 0,
+    }
+}
+
+fn count_certified(pairs: &[(Key, Key)], from: &Key) -> usize
+    ensures count { result ≡ stock_of pairs.now from.now }
+    ensures within { result ≤ length pairs.now }
+{
+    match pairs.split_first() {
+        Some((pair, rest)) => {
+            let count = count_certified(rest, from);
+            if *from == pair.0 && !has_pair(rest, from, &pair.1) {
+                count + 1
+            } else {
+                count
+            }
+        }
+        None => 0,
+    }
+}
+
+fn has_pair(pairs: &[(Key, Key)], from: &Key, to: &Key) -> bool
+    ensures { result ≡ list_any (λ p. same_text from.now p.0 && same_text to.now p.1) pairs.now }
+{
+    pairs.iter().any(|p| *from == p.0 && *to == p.1)
+}
+
+fn is_in_order(keys: &[Key]) -> bool
+    ensures { IsTrue result → IsInOrder keys.now }
+{
+    match keys.split_first() {
+        Some((first, rest)) => is_below_all(first, rest) && is_in_order(rest),
+        None => true,
+    }
+}
+
+fn is_below_all(key: &Key, keys: &[Key]) -> bool
+    ensures { result ≡ list_all (less key.now) keys.now }
+{
+    keys.iter().all(|k| *key < *k)
+}
+
+/// The web of keys that repeat a letter: its members, and who certifies whom. None where the members are not in order.
+fn make_web(alloc: Global, members: &[u8], pairs: &[(u8, u8)]) -> Result<Option<Listed>, NoMemory> {
+    let members = keys_of(alloc, members)?;
+    let mut read = Vec::new(alloc);
+    for (from, to) in pairs {
+        if let (Some(from), Some(to)) = (key_of(*from), key_of(*to)) {
+            read.push((from, to)).map_err(|_| NoMemory)?;
+        }
+    }
+    if !is_in_order(&members) {
+        return Ok(None);
+    }
+    Ok(Some(Listed {
+        members,
+        pairs: read,
+    }))
+}
+
+fn keys_of(alloc: Global, letters: &[u8]) -> Result<Vec<Key>, NoMemory> {
+    let mut keys = Vec::new(alloc);
+    for letter in letters {
+        if let Some(key) = key_of(*letter) {
+            keys.push(key).map_err(|_| NoMemory)?;
+        }
+    }
+    Ok(keys)
+}
+
+fn key_of(letter: u8) -> Option<Key> {
+    Key::read(&[letter; 43])
+}
+
+/// A walk of four pairs from A to E, and one of two through X, who is no member.
+const WALKS: [(u8, u8); 6] = [
+    (b'A', b'B'),
+    (b'B', b'C'),
+    (b'C', b'D'),
+    (b'D', b'E'),
+    (b'A', b'X'),
+    (b'X', b'E'),
+];
+
+/// Whether as many of the four sentries other than the target reach it within each number of steps as should.
+fn are_reached(
+    alloc: Global,
+    web: &Listed,
+    sentries: &[Key],
+    target: Key,
+) -> Result<bool, NoMemory> {
+    let mut good = true;
+    for (steps_max, reached) in [(4, 4), (3, 3), (2, 2), (1, 1), (16, 4)] {
+        let found = reaches_among(alloc, web, sentries, target, steps_max)?;
+        good = good && found == (reached, 4);
+    }
+    Ok(good)
+}
+
+#[test]
+fn walks_within_the_limit_reach(rt: HostRuntime) -> Result<(), Fail> {
+    let target = key_of(b'E').ok_or("a key")?;
+    let sentries = keys_of(rt.alloc(), b"ABCDE")?;
+    let Some(web) = make_web(rt.alloc(), b"ABCDE", &WALKS)? else {
+        return Err(Fail::from("a web"));
+    };
+    let good = are_reached(rt.alloc(), &web, &sentries, target);
+    forget(web);
+    forget(sentries);
+    assert!(rt; good == Ok(true));
+    Ok(())
+}
+
+/// A has issued two and received two; C has received two and issued one.
+const CERTIFICATIONS: [(u8, u8); 6] = [
+    (b'A', b'B'),
+    (b'A', b'C'),
+    (b'B', b'A'),
+    (b'B', b'C'),
+    (b'C', b'A'),
+    (b'C', b'A'),
+];
+
+/// Whether A alone is a sentry, and as many sentries reach each of three as should.
+fn a_is_the_sentry(alloc: Global, web: &Listed) -> Result<bool, NoMemory> {
+    if web.count_members() != 5 {
+        return Ok(false);
+    }
+    let found = sentries(alloc, web, 3)?;
+    let wanted = keys_of(alloc, b"A")?;
+    let mut good = found == wanted;
+    for (letter, numbers) in [(b'A', (0, 0)), (b'C', (1, 1)), (b'D', (0, 1))] {
+        if let Some(target) = key_of(letter) {
+            let reached = reaches(alloc, web, target, 3)?;
+            good = good && reached == numbers;
+        }
+    }
+    Ok(good)
+}
+
+#[test]
+fn sentries_have_issued_and_received(rt: HostRuntime) -> Result<(), Fail> {
+    let Some(web) = make_web(rt.alloc(), b"ABCDE", &CERTIFICATIONS)? else {
+        return Err(Fail::from("a web"));
+    };
+    let good = a_is_the_sentry(rt.alloc(), &web);
+    forget(web);
+    assert!(rt; good == Ok(true));
+    Ok(())
+}
+
+#[test]
+fn least_degrees(rt: HostRuntime) -> Result<(), Fail> {
+    for (members, steps_max, least) in [
+        (8, 3, 2),
+        (9, 3, 3),
+        (0, 3, 0),
+        (1, 1, 1),
+        (2_000_000, 1, 2_000_000),
+    ] {
+        assert_eq!(rt; d_sen(members, steps_max), least);
+    }
+    Ok(())
+}
