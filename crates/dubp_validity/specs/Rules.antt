@@ -107,8 +107,8 @@ pub record IsTextOf (bytes : List ℕ) (b : Block) : Type 0 where
 abbrev pub longest_block : ℕ
 longest_block = 1048576
 
--- What each rule says of raw bytes: X01, that they are at most 1,048,576; P01, that they are a block's text; every other rule
--- speaks of the block whose text they are.
+-- What each rule says of raw bytes. X01: The raw block has at most 1,048,576 bytes. P01: The bytes are the text of a block. Every
+-- other rule speaks of the block whose text they are.
 abbrev pub HoldsRaw : Verdicts → Chain → List ℕ → Rule → Type 0
 HoldsRaw v c bytes X01 = length bytes ≤ longest_block
 HoldsRaw v c bytes P01 = (b : Block) × IsTextOf bytes b
