@@ -32,10 +32,10 @@ use std::sync::ledger::Ledger as StepBook;
 pub(crate) type KickedTable = Leaf<Block, Key, (), KickedOf>;
 
 /// The key for which the record may change whether it has to be excluded.
-fn touched(record: &Record) -> Option<Key>
-    ensures { (k : Text) → touches k record.now ≡ option_map_or (same_text k) result false }
+fn touched(entry: &Record) -> Option<Key>
+    ensures { (k : Text) → touches k entry.now ≡ option_map_or (same_text k) result false }
 {
-    match record {
+    match entry {
         Record::Enter { key } => Some(*key),
         Record::Exit { key } => Some(*key),
         Record::Active { key, .. } => Some(*key),
@@ -141,10 +141,10 @@ fn renew<L: StepBook>(
     memberships: &MIndex,
     certifications: &CIndex,
     next: &Next,
-    record: &Record,
+    entry: &Record,
     steps: &mut Steps<L>,
 ) -> Result<(), NoMemory>
-    ensures now { OnOk result ((c : Chain) → ⟦<IIndex as Tables<IdentityRows>>⟧.at identities.now (states identities_left c) → ⟦<MIndex as Tables<MemberRows>>⟧.at memberships.now (states memberships_left c) → ⟦<CIndex as Tables<CertRows>>⟧.at certifications.now (states certifications_left c) → (k : Text) → is_some (get (slice_cmp nat_cmp) kicked.new.now k) ≡ (if touches k record.now then kicked_by next.now.params next.now.time (received c k) (identity_row c k) (membership_row c k) else is_some (get (slice_cmp nat_cmp) kicked.old.now k))) }
+    ensures now { OnOk result ((c : Chain) → ⟦<IIndex as Tables<IdentityRows>>⟧.at identities.now (states identities_left c) → ⟦<MIndex as Tables<MemberRows>>⟧.at memberships.now (states memberships_left c) → ⟦<CIndex as Tables<CertRows>>⟧.at certifications.now (states certifications_left c) → (k : Text) → is_some (get (slice_cmp nat_cmp) kicked.new.now k) ≡ (if touches k entry.now then kicked_by next.now.params next.now.time (received c k) (identity_row c k) (membership_row c k) else is_some (get (slice_cmp nat_cmp) kicked.old.now k))) }
     ensures marked { (c : Chain) → IsMarked (slice_cmp nat_cmp) kicked_at kicked.old.past c → IsMarked (slice_cmp nat_cmp) kicked_at kicked.new.past c }
     ensures ahead { kicked.new.ahead ≡ kicked.old.ahead }
     ensures root { kicked.new.root ≡ kicked.old.root }
@@ -152,7 +152,7 @@ fn renew<L: StepBook>(
     ensures costs { OnOk result (AtMostMore 1 (counts kicked.old.past) (counts kicked.new.past)) }
     ensures steps { OnOk result (steps.new ≤ steps.old + 1) }
 {
-    match touched(record) {
+    match touched(entry) {
         Some(key) => {
             let is = has_to_be_excluded(identities, memberships, certifications, next, key);
             note(kicked, key, is, steps)?;
