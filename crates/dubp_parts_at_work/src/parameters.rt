@@ -52,7 +52,7 @@ fn other_spellings_are_refused(rt: HostRuntime) {
 }
 
 #[test]
-fn ranges_and_times(rt: HostRuntime) -> Result<(), Fail> {
+fn times_between_blocks(rt: HostRuntime) -> Result<(), Fail> {
     let params = read_params(TEXT).ok_or("parameters")?;
     assert!(rt; in_range(&params));
     assert_eq!(rt;
@@ -63,87 +63,30 @@ fn ranges_and_times(rt: HostRuntime) -> Result<(), Fail> {
         ),
         (357, 252, 8568)
     );
-    let changed = [
-        (
-            Params {
-                avg_gen_time: 1,
-                ..params
-            },
-            false,
-        ),
-        (
-            Params {
-                avg_gen_time: 2,
-                ..params
-            },
-            true,
-        ),
-        (
-            Params {
-                avg_gen_time: 1_048_576,
-                ..params
-            },
-            true,
-        ),
-        (
-            Params {
-                avg_gen_time: 1_048_577,
-                ..params
-            },
-            false,
-        ),
-        (Params { dt: 0, ..params }, false),
-        (
-            Params {
-                sig_qty: 0,
-                ..params
-            },
-            true,
-        ),
-        (
-            Params {
-                sig_qty: 65_537,
-                ..params
-            },
-            false,
-        ),
-        (
-            Params {
-                step_max: 17,
-                ..params
-            },
-            false,
-        ),
-        (
-            Params {
-                c: Dec {
-                    mantissa: 1,
-                    places: 0,
-                },
-                ..params
-            },
-            true,
-        ),
-        (
-            Params {
-                c: Dec {
-                    mantissa: 11,
-                    places: 1,
-                },
-                ..params
-            },
-            false,
-        ),
-        (
-            Params {
-                ud_time0: 1_099_511_627_776,
-                ..params
-            },
-            false,
-        ),
-    ];
-    for (params, is) in changed {
-        assert_eq!(rt; in_range(&params), is);
+    Ok(())
+}
+
+#[test]
+fn ranges(rt: HostRuntime) -> Result<(), Fail> {
+    let params = read_params(TEXT).ok_or("parameters")?;
+    for (avg_gen_time, is) in [(1, false), (2, true), (1_048_576, true), (1_048_577, false)] {
+        let changed = Params {
+            avg_gen_time,
+            ..params
+        };
+        assert_eq!(rt; in_range(&changed), is);
     }
+    for (sig_qty, is) in [(0, true), (65_537, false)] {
+        assert_eq!(rt; in_range(&Params { sig_qty, ..params }), is);
+    }
+    for (mantissa, places, is) in [(1, 0, true), (11, 1, false)] {
+        let c = Dec { mantissa, places };
+        assert_eq!(rt; in_range(&Params { c, ..params }), is);
+    }
+    let ud_time0 = 1_099_511_627_776;
+    assert!(rt; !in_range(&Params { ud_time0, ..params }));
+    assert!(rt; !in_range(&Params { dt: 0, ..params }));
+    let step_max = 17;
+    assert!(rt; !in_range(&Params { step_max, ..params }));
     Ok(())
 }
