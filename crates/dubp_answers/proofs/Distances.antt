@@ -7,7 +7,7 @@ use Rattle.dubp_block.specs.declared.block.IdentityLine.{IdentityLine}
 use Rattle.dubp_chain.specs.Chains.{Chain}
 use Rattle.dubp_chain.specs.Distance.{IsNear, sentry_count}
 use Rattle.dubp_chain.specs.People.{Written, identity}
-use Rattle.dubp_laws.proofs.Elements.{is_false}
+use Rattle.dubp_lists.proofs.Elements.{is_false}
 use Rattle.dubp_people_views.specs.Nearness.{distance_texts, verdict_text, IsDistanceOf}
 use Rattle.dubp_people_views.specs.declared.distances.DistanceView.{DistanceView}
 use Rattle.dubp_replay.specs.Answers.{distance_line, none_answer, values_line, IsDistance}

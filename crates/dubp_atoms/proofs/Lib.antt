@@ -6,3 +6,5 @@ pub mod Digests
 pub mod Signed
 pub mod Decs
 pub mod Adding
+pub mod Padding
+pub mod Same

@@ -6,3 +6,4 @@ pub mod Spelling
 pub mod Same
 pub mod Walks
 pub mod Adding
+pub mod Secrets

@@ -1,9 +1,9 @@
-ghost use Rattle.std.specs.Prelude.{◌≡◌, ℕ, ◌<◌, ◌≤◌, List, length, IfSome, IsSome, ◌↔◌, slice_set, ◌++◌, replicate, nat_eq};
+ghost use Rattle.std.specs.Prelude.{◌≡◌, ◌<◌, ◌≤◌, [], ◌∷◌, length, nat_eq};
 ghost use Rattle.std.proofs.Common.{rules};
 ghost use Rattle.std.specs.Cmp.{partial_order_from_own_ties};
 ghost use Rattle.std.specs.Cmp.Lexicographic.{pointwise, slice_cmp};
 ghost use Rattle.std.specs.Cmp.Rules.{comparing};
-ghost use Rattle.std.specs.Hash as fed;
+ghost use Rattle.dubp_atoms.specs.Padded.{padded};
 ghost use Rattle.std.specs.Ordering.{nat_cmp, as_partial_cmp};
 
 use std::cmp::Ordering;
@@ -18,9 +18,8 @@ pub struct Text<const CAP: usize> {
 }
 
 impl<const CAP: usize> Model for Text<CAP> {
-    ghost use Rattle.std.specs.Prelude.{ℕ, List, take, length, replicate, ◌++◌, ◌-◌};
-    ghost use Rattle.std.proofs.Common.{ap};
-    ghost use Rattle.dubp_atoms.specs.Padded.{IsPadded, array_of_text, length_padded};
+    ghost use Rattle.std.specs.Prelude.{ℕ, List, take, length};
+    ghost use Rattle.dubp_atoms.specs.Padded.{IsPadded, padded, array_of_text, length_padded};
 
     ghost Value = { List ℕ };
 
@@ -28,7 +27,7 @@ impl<const CAP: usize> Model for Text<CAP> {
 
     ghost invariant = { λ t. IsPadded CAP t.bytes t.len };
 
-    ghost inverse = { λ s. record { bytes = s ++ replicate (CAP - length s) 0; len = length s } };
+    ghost inverse = { λ s. record { bytes = padded CAP s; len = length s } };
 
     ghost inverse_ok = { λ a h. Prim.rw (array_of_text CAP a.bytes a.len h, length_padded CAP a.bytes a.len h) };
 }
@@ -61,7 +60,7 @@ impl<const CAP: usize> PartialEq for Text<CAP> {
     ghost laws = { Prim.search (comparing, rules) };
 
     fn eq(&self, other: &Self) -> bool {
-        self.as_bytes() == other.as_bytes()
+        self.len == other.len && self.bytes == other.bytes
     }
 }
 
@@ -89,16 +88,16 @@ impl<const CAP: usize> Ord for Text<CAP> {
     ghost matches_eq = { Prim.search (comparing, rules) };
 
     fn cmp(&self, other: &Self) -> Ordering {
-        self.as_bytes().cmp(&other.as_bytes())
+        self.bytes.cmp(&other.bytes).then(self.len.cmp(&other.len))
     }
 }
 
 impl<const CAP: usize> Hash for Text<CAP> {
-    ghost hash_input = { fed.slice fed.u8 };
+    ghost hash_input = { λ t. padded CAP t ∷ [] };
 
     ghost respects_eq = { Prim.search (comparing, rules) };
 
     fn hash<H: Hasher>(&self, state: &mut H) {
-        self.as_bytes().hash(state)
+        state.write(&self.bytes);
     }
 }

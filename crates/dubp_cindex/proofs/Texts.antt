@@ -1,7 +1,7 @@
 -- The orders of keys, of pairs and of places are total, and only equal ones tie.
 use Rattle.std.proofs.Common.{◌≡◌, Bool, true, false, Some, None, refl, ap, sym, subst, true≢false}
 use Rattle.std.specs.Cmp.{IsTotalOrder}
-use Rattle.std.specs.Cmp.Lexicographic.{nat_list_cmp_total, nat_list_eq_equiv, options_total, same_text}
+use Rattle.std.specs.Cmp.Lexicographic.{nat_list_cmp_total, options_total}
 use Rattle.std.specs.Ordering.{is_lt, is_eq, ordering_then}
 use Rattle.std.specs.Option.{option_cmp}
 use Rattle.std.specs.declared.cmp.Ordering.{Ordering}
@@ -10,6 +10,7 @@ use Rattle.std.specs.FinMap.{IsAntisymmetric, nat_cmp-IsAntisymmetric, slice_cmp
 use Rattle.std.proofs.lemmas.Cmp.{tied_itself, then_total, on_total}
 use Rattle.dubp_atoms.specs.Same as same
 use Rattle.dubp_atoms.specs.Same.{Text}
+pub use Rattle.dubp_atoms.proofs.Same.{same_text_is, same_text_own}
 use Rattle.dubp_cindex.specs.Orders.{text_cmp, pair_cmp, Place, place_cmp}
 
 pub same_truth : (a b : Bool) → (a ≡ true → b ≡ true) → (b ≡ true → a ≡ true) → a ≡ b
@@ -32,12 +33,6 @@ text_exact = slice_cmp-IsAntisymmetric nat_cmp-IsAntisymmetric
 
 pub text_itself : (x : Text) → text_cmp x x ≡ Equal
 text_itself = tied_itself nat_list_cmp_total
-
-pub same_text_is : (x y : Text) → same.same_text x y ≡ true → x ≡ y
-same_text_is x y e = same_text x y (sym e)
-
-pub same_text_own : (x : Text) → same.same_text x x ≡ true
-same_text_own x = nat_list_eq_equiv.refl x
 
 pub text_tied : (x y : Text) → is_eq (text_cmp x y) ≡ same.same_text x y
 text_tied x y =

@@ -7,8 +7,8 @@ use Rattle.dubp_atoms.specs.Same.{same_text, same_stamp}
 use Rattle.dubp_atoms.specs.declared.stamp.Stamp.{Stamp}
 use Rattle.dubp_block.specs.declared.block.Block.{Block}
 use Rattle.dubp_block.specs.Text.{stamp_of}
-use Rattle.dubp_laws.proofs.Elements.{and_left, and_right}
-use Rattle.dubp_laws.proofs.InOrder.{same_text_is, same_text_own}
+use Rattle.dubp_lists.proofs.Elements.{and_left, and_right}
+use Rattle.dubp_lists.proofs.InOrder.{same_text_is, same_text_own}
 use Rattle.dubp_forks.specs.Entries.{entries_of, blocks_in}
 use Rattle.dubp_forks.specs.Stores as stores
 use Rattle.dubp_forks.proofs.Marked as lists

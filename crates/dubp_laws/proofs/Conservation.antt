@@ -24,9 +24,9 @@ use Rattle.dubp_validity.specs.LocalRules.{input_units, output_units, IsBalanced
 use Rattle.dubp_validity.specs.MoneyRules.{is_spent_by}
 use Rattle.dubp_validity.specs.Rules.{IsSound}
 use Rattle.dubp_laws.specs.Laws.{Conserves}
-use Rattle.dubp_laws.proofs.Sums.{sum_named, AreApart}
-use Rattle.dubp_laws.proofs.Elements.{and_left, and_right, not_true, all_from_in, in_all, any_in, filter_twice}
-use Rattle.dubp_laws.proofs.Once.{each_once-map, apart}
+use Rattle.dubp_lists.proofs.Sums.{sum_named, AreApart}
+use Rattle.dubp_lists.proofs.Elements.{and_left, and_right, not_true, all_from_in, in_all, any_in, filter_twice}
+use Rattle.dubp_lists.proofs.Once.{each_once-map, apart}
 use Rattle.dubp_laws.proofs.Sources.{same_source_is, same_source_own, SourcesApart, sources-filter, sum_of_source, sum_small}
 use Rattle.dubp_laws.proofs.MadeOnce.{made_sources-once}
 use Rattle.dubp_laws.proofs.Spending.{at_hand, is_there, Pays, pays, at_hand-is}

@@ -1,12 +1,7 @@
 pub mod Conservation
-pub mod Elements
-pub mod Folds
-pub mod InOrder
-pub mod LastLines
 pub mod MadeOnce
 pub mod Mass
 pub mod MoreVerdicts
-pub mod Once
 pub mod Reduction
 pub mod ReducedCertifications
 pub mod ReducedIdentities
@@ -18,4 +13,3 @@ pub mod SourceRecords
 pub mod SourceRows
 pub mod Sources
 pub mod Spending
-pub mod Sums

@@ -18,8 +18,8 @@ use Rattle.dubp_chain.specs.Members.{members}
 use Rattle.dubp_chain.specs.Heads.{head_of, time_of}
 use Rattle.dubp_chain.specs.Money.{Source, same_source, output_source, outputs_made, dividend_source, dividends_made, dividends_at, made_by, made_sources, hashes_in, hashes_of}
 use Rattle.dubp_validity.specs.Rules.{IsSound}
-use Rattle.dubp_laws.proofs.Elements.{and_left, and_right, and_false, not_true, or_true, is_false, unequal, IsIn, in_append, in_all, in_any, none_in, any_left}
-use Rattle.dubp_laws.proofs.InOrder.{same_text_is, same_text_own, members-once}
+use Rattle.dubp_lists.proofs.Elements.{and_left, and_right, and_false, not_true, or_true, is_false, unequal, IsIn, in_append, in_all, in_any, none_in, any_left}
+use Rattle.dubp_lists.proofs.InOrder.{same_text_is, same_text_own, members-once}
 use Rattle.dubp_laws.proofs.Sources.{SourcesApart, sources-append}
 
 -- ---- outputs

@@ -24,10 +24,10 @@ use Rattle.dubp_chain.specs.Live.{certification, made_of, live, certified_pairs}
 use Rattle.dubp_validity.specs.Records.{transaction_records, records, membership_time, make_record, input_of, receivers_of, pairs_in_order}
 use Rattle.dubp_chain.specs.Tables.{CertificationRow, certification_row}
 use Rattle.dubp_validity.specs.Reduced.{certified, set_ended, certification_change, reduced_certification}
-use Rattle.dubp_laws.proofs.Elements.{and_left, and_right, IsIn, in_any, any_in, list_any-map, in_map, kept_in, any_of_flat_map}
-use Rattle.dubp_laws.proofs.InOrder.{same_text_is, same_text_own, in_order-in}
-use Rattle.dubp_laws.proofs.LastLines.{last_line-any, time_of-rises}
-use Rattle.dubp_laws.proofs.Folds.{Gives, gives_both, left_out, each_left_out, changed, made_anew}
+use Rattle.dubp_lists.proofs.Elements.{and_left, and_right, IsIn, in_any, any_in, list_any-map, in_map, kept_in, any_of_flat_map}
+use Rattle.dubp_lists.proofs.InOrder.{same_text_is, same_text_own, in_order-in}
+use Rattle.dubp_lists.proofs.LastLines.{last_line-any, time_of-rises}
+use Rattle.dubp_lists.proofs.Folds.{Gives, gives_both, left_out, each_left_out, changed, made_anew}
 
 abbrev of_pair : Text → Text → CertLine → Bool
 of_pair a b line = same_text a line.from && same_text b line.to

@@ -23,9 +23,9 @@ use Rattle.dubp_validity.specs.Records.{transaction_records, records, membership
 use Rattle.dubp_chain.specs.Tables.{identity_row}
 use Rattle.dubp_validity.specs.Reduced.{ReducedIdentity, set_member, identity_change, reduced_identity, without_signature}
 use Rattle.dubp_validity.specs.Rules.{IsSound}
-use Rattle.dubp_laws.proofs.Elements.{and_left, in_all, in_any, any_in, last_in}
-use Rattle.dubp_laws.proofs.InOrder.{same_text_is}
-use Rattle.dubp_laws.proofs.Folds.{Gives, gives_both, left_out, each_left_out, changed, each_changed, made_anew}
+use Rattle.dubp_lists.proofs.Elements.{and_left, in_all, in_any, any_in, last_in}
+use Rattle.dubp_lists.proofs.InOrder.{same_text_is}
+use Rattle.dubp_lists.proofs.Folds.{Gives, gives_both, left_out, each_left_out, changed, each_changed, made_anew}
 
 abbrev of_key : Text → IdentityLine → Bool
 of_key k line = same_text k line.key

@@ -28,10 +28,10 @@ use Rattle.dubp_validity.specs.Records.{transaction_records, records, membership
 use Rattle.dubp_chain.specs.Tables.{membership_row}
 use Rattle.dubp_validity.specs.Reduced.{ReducedMembership, entered, left, set_revoked, membership_change, reduced_membership, without_number}
 use Rattle.dubp_validity.specs.Rules.{IsSound}
-use Rattle.dubp_laws.proofs.Elements.{and_left, not_true, or_true, in_all, in_any, any_in, list_any-map, last_in}
-use Rattle.dubp_laws.proofs.InOrder.{same_text_is, names_in_order}
-use Rattle.dubp_laws.proofs.LastLines.{last_any, last_of-append, time_of-rises}
-use Rattle.dubp_laws.proofs.Folds.{Gives, gives_both, left_out, each_left_out, changed, each_changed_by_last, changed_by_last}
+use Rattle.dubp_lists.proofs.Elements.{and_left, not_true, or_true, in_all, in_any, any_in, list_any-map, last_in}
+use Rattle.dubp_lists.proofs.InOrder.{same_text_is, names_in_order}
+use Rattle.dubp_lists.proofs.LastLines.{last_any, last_of-append, time_of-rises}
+use Rattle.dubp_lists.proofs.Folds.{Gives, gives_both, left_out, each_left_out, changed, each_changed_by_last, changed_by_last}
 
 -- ---- what a block makes of the membership of k
 

@@ -23,10 +23,10 @@ use Rattle.dubp_validity.specs.Records.{records, membership_time, input_of}
 use Rattle.dubp_chain.specs.Tables.{SourceRow, source_row}
 use Rattle.dubp_validity.specs.Reduced.{source_change, reduced_sources}
 use Rattle.dubp_validity.specs.Rules.{IsSound}
-use Rattle.dubp_laws.proofs.Elements.{or_true, is_false, any_in, any_left}
+use Rattle.dubp_lists.proofs.Elements.{or_true, is_false, any_in, any_left}
 use Rattle.dubp_laws.proofs.Sources.{same_source_is, SourcesApart, sources-filter}
 use Rattle.dubp_laws.proofs.Spending.{Pays, pays, at_hand-is}
-use Rattle.dubp_laws.proofs.Folds.{Gives, gives_both, left_out, each_left_out}
+use Rattle.dubp_lists.proofs.Folds.{Gives, gives_both, left_out, each_left_out}
 use Rattle.dubp_laws.proofs.SourceRows.{has_id, names_id, not_in_both, apart_last, apart_first, found, found_none, found-append, found-where}
 use Rattle.dubp_laws.proofs.SourceRecords.{State, makes, takes_away, MadeBefore, made_before, not_behind, dividends_make, transactions_at}
 

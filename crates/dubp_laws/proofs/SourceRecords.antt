@@ -23,10 +23,10 @@ use Rattle.dubp_validity.specs.MoneyRules.{EachMay, is_spent_by}
 use Rattle.dubp_validity.specs.Records.{make_record, input_of}
 use Rattle.dubp_chain.specs.Tables.{SourceRow, row_of_source}
 use Rattle.dubp_validity.specs.Reduced.{source_made, source_change}
-use Rattle.dubp_laws.proofs.Elements.{and_left, or_left, or_right, in_all, in_any, any_in}
+use Rattle.dubp_lists.proofs.Elements.{and_left, or_left, or_right, in_all, in_any, any_in}
 use Rattle.dubp_laws.proofs.Sources.{same_source_is, SourcesApart, sources_tail, sources_head}
 use Rattle.dubp_laws.proofs.Spending.{AreThere, found_any}
-use Rattle.dubp_laws.proofs.Folds.{Gives, gives_both}
+use Rattle.dubp_lists.proofs.Folds.{Gives, gives_both}
 use Rattle.dubp_laws.proofs.SourceRows.{has_id, names_id, not_in_both, apart_last, apart_first, found, found_none, found-append}
 
 -- ---- records that make sources, and records that take them away

@@ -8,7 +8,7 @@ use Rattle.dubp_cond.specs.declared.source.SourceId.{SourceId}
 use Rattle.dubp_cond.specs.declared.source.Input.{Input}
 use Rattle.dubp_chain.specs.Money.{Source, same_source}
 use Rattle.dubp_chain.specs.Tables.{SourceRow, row_of_source}
-use Rattle.dubp_laws.proofs.Elements.{or_left, or_right}
+use Rattle.dubp_lists.proofs.Elements.{or_left, or_right}
 use Rattle.dubp_laws.proofs.Sources.{same_source_is, SourcesApart, sources_tail, sources_head}
 
 -- ---- lists of sources of which none stands twice

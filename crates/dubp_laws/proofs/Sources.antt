@@ -5,10 +5,10 @@ use Rattle.dubp_cond.specs.declared.source.SourceId.{SourceId}
 use Rattle.dubp_cond.specs.declared.source.SourceId.TheVariants.{D, T}
 use Rattle.dubp_atoms.specs.Same.{same_text}
 use Rattle.dubp_chain.specs.Money.{Source, same_source, units_of, among}
-use Rattle.dubp_laws.proofs.Elements.{and_left, and_right, IsIn, all_from_in, in_filter}
-use Rattle.dubp_laws.proofs.Once.{Once, once_tail, once_head, once-filter, once-append, apart, sum_of_one}
-use Rattle.dubp_laws.proofs.InOrder.{same_text_is, same_text_own}
-use Rattle.dubp_laws.proofs.Sums.{sum_named, AreApart}
+use Rattle.dubp_lists.proofs.Elements.{and_left, and_right, IsIn, all_from_in, in_filter}
+use Rattle.dubp_lists.proofs.Once.{Once, once_tail, once_head, once-filter, once-append, apart, sum_of_one}
+use Rattle.dubp_lists.proofs.InOrder.{same_text_is, same_text_own}
+use Rattle.dubp_lists.proofs.Sums.{sum_named, AreApart}
 
 pub same_source_is : (a b : SourceId) → same_source a b ≡ true → a ≡ b
 same_source_is (D k n) (D k' n') e =

@@ -17,7 +17,7 @@ use Rattle.dubp_chain.specs.Money.{Source, same_source, named_by, used, among, i
 use Rattle.dubp_validity.specs.LocalRules.{SourcesStandOnce, TransactionsAreBalanced}
 use Rattle.dubp_validity.specs.MoneyRules.{EachMay, is_spent_by, spent}
 use Rattle.dubp_validity.specs.Rules.{KeepsUnsigned, IsSound}
-use Rattle.dubp_laws.proofs.Elements.{and_left, is_false, IsIn, in_left, in_right, in_append, in_all, all_more, all_append, any_left, any_in, in_filter, filter_on, filter_true}
+use Rattle.dubp_lists.proofs.Elements.{and_left, is_false, IsIn, in_left, in_right, in_append, in_all, all_more, all_append, any_left, any_in, in_filter, filter_on, filter_true}
 use Rattle.dubp_laws.proofs.Sources.{same_source_is, same_source_own, SourcesApart}
 use Rattle.dubp_laws.proofs.MadeOnce.{old_apart, made_sources-once}
 

@@ -6,6 +6,7 @@ use Rattle.dubp_cond.specs.declared.source.SourceId.{SourceId}
 use Rattle.dubp_cond.specs.declared.source.SourceId.TheVariants.{D, T}
 use Rattle.dubp_chain.specs.Money.{same_source}
 use Rattle.dubp_chain.specs.Words.{each_once}
+use Rattle.dubp_lists.proofs.Once.{each_once-map}
 
 -- what holds where a call succeeds gives what follows from it there
 pub where_ok : {A E : Type 0} {P Q : A → Type 0} (r : Result A E) → IfOk r P → ((a : A) → P a → Q a) → IfOk r Q
@@ -15,16 +16,6 @@ where_ok (Err e) p more = tt
 -- a fact that holds beside what an answer says
 pub and_also : {P A : Type 0} {b : Bool} → P → (IsTrue b ↔ A) → IsTrue b ↔ (P × A)
 and_also p says = (λ holds. (p, says.0 holds), λ both. says.1 both.1)
-
-pub list_any-map : {X K : Type 0} (p : K → Bool) (key : X → K) (xs : List X) → list_any p (map key xs) ≡ list_any (λ x. p (key x)) xs
-list_any-map p key [] = refl
-list_any-map p key (x ∷ xs) = ap (λ b. p (key x) || b) (list_any-map p key xs)
-
--- the keys of a list stand once where its elements do by their keys
-pub each_once-map : {X K : Type 0} (eq : K → K → Bool) (key : X → K) (xs : List X)
-    → each_once eq (map key xs) ≡ each_once (λ x y. eq (key x) (key y)) xs
-each_once-map eq key [] = refl
-each_once-map eq key (x ∷ xs) = λ i. not (list_any-map (eq (key x)) key xs i) && each_once-map eq key xs i
 
 -- an answer on the keys of lines, where the lines do not stand twice by their keys
 pub once_by : {X K : Type 0} (eq : K → K → Bool) (key : X → K) (xs : List X) (values : List K) (once : Bool)

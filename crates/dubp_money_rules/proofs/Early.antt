@@ -11,8 +11,8 @@ use Rattle.dubp_chain.specs.Chains.{Chain}
 use Rattle.dubp_chain.specs.Heads.{time_of, head_of}
 use Rattle.dubp_chain.specs.Members.{members}
 use Rattle.dubp_chain.specs.Money.{Source, output_source, outputs_made, dividend_source, dividends_made, dividends_at, made_by, made_sources, is_left, cleared, unspent}
-use Rattle.dubp_laws.proofs.Elements.{all_append, all_more, in_all, in_filter, all_from_in}
-use Rattle.dubp_laws.proofs.LastLines.{time_of-rises}
+use Rattle.dubp_lists.proofs.Elements.{all_append, all_more, in_all, in_filter, all_from_in}
+use Rattle.dubp_lists.proofs.LastLines.{time_of-rises}
 
 abbrev IsBy : ℕ → Source → Type 0
 IsBy t s = s.time ≤ t

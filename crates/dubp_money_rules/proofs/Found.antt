@@ -11,7 +11,7 @@ use Rattle.dubp_chain.specs.Chains.{Chain}
 use Rattle.dubp_chain.specs.Money.{Source, same_source, among, is_left, made_sources, cleared, unspent}
 use Rattle.dubp_validity.specs.Rules.{IsSound}
 use Rattle.dubp_validity.specs.MoneyRules.{is_spent_by, spent}
-use Rattle.dubp_laws.proofs.Elements.{or_left, or_right}
+use Rattle.dubp_lists.proofs.Elements.{or_left, or_right}
 use Rattle.dubp_laws.proofs.MadeOnce.{made_sources-once}
 use Rattle.dubp_laws.proofs.Sources.{same_source_is, same_source_own, SourcesApart, sources_tail, sources_head, sources-filter}
 use Rattle.dubp_sindex.specs.declared.rows.SourceRow.{SourceRow}

@@ -17,8 +17,8 @@ use Rattle.dubp_block.specs.declared.block.Block.{Block}
 use Rattle.dubp_chain.specs.Words.{each_once}
 use Rattle.dubp_chain.specs.Money.{Source, output_source, outputs_made, hashes_in}
 use Rattle.dubp_validity.specs.MoneyRules.{is_spent_by, spent}
-use Rattle.dubp_laws.proofs.Elements.{and_left, and_right, not_true, or_left, or_right, is_false}
-use Rattle.dubp_laws.proofs.InOrder.{same_text_is, same_text_own}
+use Rattle.dubp_lists.proofs.Elements.{and_left, and_right, not_true, or_left, or_right, is_false}
+use Rattle.dubp_lists.proofs.InOrder.{same_text_is, same_text_own}
 use Rattle.dubp_money_rules.specs.Spending.{AreNumbered, made_before, seen_in, time_in, seen_output, time_of_output, output_of, output_at, output_named}
 
 text_flip : (a b : Text) → same_text a b ≡ same_text b a

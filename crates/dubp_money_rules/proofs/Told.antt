@@ -13,7 +13,7 @@ use Rattle.dubp_chain.specs.Money.{hashes_of, hashes_in}
 use Rattle.dubp_validity.specs.MoneyRules.{TransactionsAreNew, ConditionsAreTrue}
 use Rattle.dubp_validity.specs.LocalRules.{InputsAreUnlockedOnce}
 use Rattle.dubp_rules.specs.declared.rule.Rule.TheVariants.{L20}
-use Rattle.dubp_laws.proofs.LastLines.{time_of-rises}
+use Rattle.dubp_lists.proofs.LastLines.{time_of-rises}
 use Rattle.dubp_left.specs.Next.{IsAsked}
 use Rattle.dubp_left.specs.declared.next.Next.{Next}
 use Rattle.dubp_money_rules.specs.Lines.{IsHashNew, whole_hashes}

@@ -14,7 +14,7 @@ use Rattle.dubp_chain.specs.Money.{Source, same_source, units_of, used, among, i
 use Rattle.dubp_validity.specs.declared.record.Record.TheVariants.{Clear}
 use Rattle.dubp_validity.specs.Records.{input_of}
 use Rattle.dubp_chain.specs.Tables.{row_of_source, source_row}
-use Rattle.dubp_laws.proofs.Elements.{IsIn, in_all, filter_on, filter_twice}
+use Rattle.dubp_lists.proofs.Elements.{IsIn, in_all, filter_on, filter_twice}
 use Rattle.dubp_laws.proofs.Sources.{SourcesApart, sources-filter}
 use Rattle.dubp_laws.proofs.Spending.{Pays}
 use Rattle.dubp_sindex.specs.Rows.{Entry, units_of_entry, is_of, of_account, row_at, Rises, IsBelow}

@@ -2,7 +2,7 @@
 use Rattle.std.proofs.Common.{◌≡◌, ℕ, zero, suc, Bool, true, false, not, List, [], ◌∷◌, drop, Option, Some, is_some, refl, ap, subst, ◌∙◌, cond, ◌||◌, ◌&&◌, ◌==◌, eq-eqb, eqb-true}
 use Rattle.std.specs.List.{list_any}
 use Rattle.dubp_atoms.specs.Same.{same_stamp, same_text}
-use Rattle.dubp_laws.proofs.InOrder.{same_text_is, same_text_own}
+use Rattle.dubp_lists.proofs.InOrder.{same_text_is, same_text_own}
 use Rattle.dubp_atoms.specs.declared.stamp.Stamp.{Stamp}
 use Rattle.dubp_block.specs.declared.block.Block.{Block}
 use Rattle.dubp_block.specs.Text.{stamp_of}

@@ -17,6 +17,7 @@ mod ranges;
 mod reading;
 mod writing;
 
+pub use dubp_atoms::{Dec, Hash};
 pub use params::Params;
 pub use ranges::{in_range, max_acceleration, max_gen_time, min_gen_time};
 pub use reading::read_params;

@@ -6,7 +6,7 @@ use Rattle.dubp_atoms.specs.declared.stamp.Stamp.{Stamp}
 use Rattle.dubp_block.specs.declared.block.CertLine.{CertLine}
 use Rattle.dubp_block.specs.declared.block.IdentityLine.{IdentityLine}
 use Rattle.dubp_block.specs.declared.block.MemberLine.{MemberLine}
-use Rattle.dubp_laws.proofs.Elements.{all_append}
+use Rattle.dubp_lists.proofs.Elements.{all_append}
 use Rattle.std.specs.Prelude.{option_map}
 use Rattle.std.specs.Option.{IsSomeAnd}
 use Rattle.dubp_chain.specs.Chains.{Chain}

@@ -23,10 +23,10 @@ use Rattle.dubp_facts.specs.declared.facts.BlockTime.{BlockTime}
 use Rattle.dubp_facts.specs.Facts.{first_at, time_at, block_time}
 use Rattle.dubp_validity.specs.Rules.{IsSound}
 use Rattle.dubp_validity.specs.PeopleRules.{is_identity_of}
-use Rattle.dubp_laws.proofs.Elements.{and_left, and_right, IsIn, any_in, in_any, last_in, is_false}
-use Rattle.dubp_laws.proofs.InOrder.{same_text_is, same_text_own}
-use Rattle.dubp_laws.proofs.LastLines.{last_any, last_line-any}
-use Rattle.dubp_laws.proofs.Once.{Once, once_head, once_tail, each_once-map}
+use Rattle.dubp_lists.proofs.Elements.{and_left, and_right, IsIn, any_in, in_any, last_in, is_false}
+use Rattle.dubp_lists.proofs.InOrder.{same_text_is, same_text_own}
+use Rattle.dubp_lists.proofs.LastLines.{last_any, last_line-any}
+use Rattle.dubp_lists.proofs.Once.{Once, once_head, once_tail, each_once-map}
 use Rattle.dubp_left.specs.Next.{IsAsked}
 use Rattle.dubp_left.specs.declared.next.Next.{Next}
 use Rattle.dubp_left.proofs.Lines.{last_line-in, identity_lines-once}

@@ -11,9 +11,9 @@ use Rattle.dubp_chain.specs.Words.{last_of}
 use Rattle.dubp_chain.specs.Chains.{Chain, params}
 use Rattle.dubp_chain.specs.Live.{live, live_at}
 use Rattle.dubp_chain.specs.Tables.{CertificationRow, certification_row}
-use Rattle.dubp_laws.proofs.Elements.{and_left, and_right, IsIn, in_any, in_left, in_right, in_map, kept_in, last_in}
-use Rattle.dubp_laws.proofs.InOrder.{same_text_own}
-use Rattle.dubp_laws.proofs.LastLines.{time_of-rises}
+use Rattle.dubp_lists.proofs.Elements.{and_left, and_right, IsIn, in_any, in_left, in_right, in_map, kept_in, last_in}
+use Rattle.dubp_lists.proofs.InOrder.{same_text_own}
+use Rattle.dubp_lists.proofs.LastLines.{time_of-rises}
 use Rattle.dubp_cindex.specs.declared.row.CertRow.{CertRow}
 use Rattle.dubp_cindex.specs.Rows.{Rows, Entry, live_to, live_from, rows_about, told}
 use Rattle.dubp_cindex.proofs.Walked as walked

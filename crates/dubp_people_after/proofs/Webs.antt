@@ -6,8 +6,8 @@ use Rattle.dubp_chain.specs.Chains.{Chain}
 use Rattle.dubp_chain.specs.Members.{member, members}
 use Rattle.dubp_chain.specs.Live.{certified_pairs, live, live_pairs}
 use Rattle.dubp_validity.specs.Rules.{IsSound}
-use Rattle.dubp_laws.proofs.InOrder.{same_text_is, same_text_own}
-use Rattle.dubp_laws.proofs.Elements.{and_left, and_right, any_in, in_any, in_filter, kept_in}
+use Rattle.dubp_lists.proofs.InOrder.{same_text_is, same_text_own}
+use Rattle.dubp_lists.proofs.Elements.{and_left, and_right, any_in, in_any, in_filter, kept_in}
 use Rattle.dubp_steps.proofs.Kicked.{member_named}
 use Rattle.dubp_steps.proofs.Lives.{live_some}
 use Rattle.dubp_iindex.specs.Order as index

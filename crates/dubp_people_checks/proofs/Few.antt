@@ -15,9 +15,9 @@ use Rattle.dubp_chain.specs.Members.{is_of, member, members}
 use Rattle.dubp_chain.specs.People.{identity_lines, membership_lines}
 use Rattle.dubp_validity.specs.PeopleRules.{IdentitiesAreFew, MembershipsHaveIdentities, is_identity_of}
 use Rattle.dubp_validity.specs.Rules.{IsSound}
-use Rattle.dubp_laws.proofs.Elements.{and_left, and_right, not_true, or_left, or_right, or_true, in_all, in_any, in_left, any_in, list_any-map}
-use Rattle.dubp_laws.proofs.InOrder.{same_text_is, members-once}
-use Rattle.dubp_laws.proofs.LastLines.{last_line-any}
+use Rattle.dubp_lists.proofs.Elements.{and_left, and_right, not_true, or_left, or_right, or_true, in_all, in_any, in_left, any_in, list_any-map}
+use Rattle.dubp_lists.proofs.InOrder.{same_text_is, members-once}
+use Rattle.dubp_lists.proofs.LastLines.{last_line-any}
 use Rattle.dubp_steps.proofs.Standing.{some_identity, member_has_entry}
 use Rattle.dubp_steps.proofs.Kicked.{member_named}
 

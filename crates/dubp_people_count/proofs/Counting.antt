@@ -13,9 +13,9 @@ use Rattle.dubp_chain.specs.Words.{names, each_once}
 use Rattle.dubp_chain.specs.Chains.{Chain}
 use Rattle.dubp_chain.specs.Members.{is_of, member, members}
 use Rattle.dubp_validity.specs.Rules.{IsSound}
-use Rattle.dubp_laws.proofs.Elements.{IsIn, and_right, not_true, is_false, in_any, in_filter}
-use Rattle.dubp_laws.proofs.InOrder.{same_text_is, same_text_own, members-once}
-use Rattle.dubp_laws.proofs.Once.{once-filter, once-append}
+use Rattle.dubp_lists.proofs.Elements.{IsIn, and_right, not_true, is_false, in_any, in_filter}
+use Rattle.dubp_lists.proofs.InOrder.{same_text_is, same_text_own, members-once}
+use Rattle.dubp_lists.proofs.Once.{once-filter, once-append}
 use Rattle.dubp_steps.proofs.Kicked.{member_named}
 use Rattle.dubp_steps.proofs.Counts.{members_are_count}
 use Rattle.dubp_people_count.proofs.Few.{distinct_of, members_are_few}

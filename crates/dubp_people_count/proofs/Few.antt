@@ -12,9 +12,9 @@ use Rattle.dubp_chain.specs.Chains.{Chain}
 use Rattle.dubp_chain.specs.Members.{member, members}
 use Rattle.dubp_chain.specs.People.{identity_lines}
 use Rattle.dubp_validity.specs.Rules.{IsSound}
-use Rattle.dubp_laws.proofs.Elements.{and_left, and_right, not_true, or_left, or_right, list_any-map}
-use Rattle.dubp_laws.proofs.InOrder.{members-once}
-use Rattle.dubp_laws.proofs.LastLines.{last_line-any}
+use Rattle.dubp_lists.proofs.Elements.{and_left, and_right, not_true, or_left, or_right, list_any-map}
+use Rattle.dubp_lists.proofs.InOrder.{members-once}
+use Rattle.dubp_lists.proofs.LastLines.{last_line-any}
 use Rattle.dubp_steps.proofs.Standing.{some_identity, member_has_entry}
 use Rattle.dubp_steps.proofs.Kicked.{member_named}
 

@@ -16,9 +16,9 @@ use Rattle.dubp_chain.specs.Tables as chain
 use Rattle.dubp_expiry.specs.Entries.{Has}
 use Rattle.dubp_expiry.specs.declared.due.Due.{Due}
 use Rattle.dubp_expiry.specs.declared.due.Due.TheVariants.{Certification}
-use Rattle.dubp_laws.proofs.Elements.{and_left, and_right, or_true, is_false, any_in, in_any}
-use Rattle.dubp_laws.proofs.InOrder.{same_text_is, same_text_own}
-use Rattle.dubp_laws.proofs.LastLines.{last_any, time_of-rises}
+use Rattle.dubp_lists.proofs.Elements.{and_left, and_right, or_true, is_false, any_in, in_any}
+use Rattle.dubp_lists.proofs.InOrder.{same_text_is, same_text_own}
+use Rattle.dubp_lists.proofs.LastLines.{last_any, time_of-rises}
 use Rattle.dubp_left.specs.Left.{queue_left}
 use Rattle.dubp_left.proofs.Looked.{some-shown}
 use Rattle.dubp_left.proofs.Queued.{queue-at}

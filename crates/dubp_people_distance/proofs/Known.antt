@@ -3,7 +3,7 @@ use Rattle.std.proofs.Common.{◌≡◌, Bool, true, false, cond, ◌||◌, Opti
 use Rattle.std.proofs.lemmas.Option.{same_Some}
 use Rattle.dubp_atoms.specs.Same.{Text, same_text}
 use Rattle.dubp_chain.specs.Chains.{Chain}
-use Rattle.dubp_laws.proofs.InOrder.{same_text_is}
+use Rattle.dubp_lists.proofs.InOrder.{same_text_is}
 use Rattle.dubp_people_after.specs.Near.{is_end}
 use Rattle.dubp_people_distance.specs.declared.certified.Certified.{Certified}
 use Rattle.dubp_people_distance.specs.Certified.{AreCertified, IsCertified}

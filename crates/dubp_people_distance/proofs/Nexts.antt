@@ -12,8 +12,8 @@ use Rattle.std.proofs.lemmas.List.Sums.{length-filter, count_by-le-length}
 use Rattle.dubp_atoms.specs.Same.{Text, same_text}
 use Rattle.dubp_iindex.specs.Rows.{texts}
 use Rattle.dubp_iindex.specs.Order.{less, is_above, IsNext}
-use Rattle.dubp_laws.proofs.Elements.{or_true, IsIn, any_in}
-use Rattle.dubp_laws.proofs.InOrder.{same_text_is}
+use Rattle.dubp_lists.proofs.Elements.{or_true, IsIn, any_in}
+use Rattle.dubp_lists.proofs.InOrder.{same_text_is}
 use Rattle.dubp_wot.proofs.KeyOrder.{less-own, less-trans, less-meets, less-under, above-up}
 
 pub either : (s t : Bool) → (s || t) ≡ true → (s ≡ true) ⊎ (t ≡ true)

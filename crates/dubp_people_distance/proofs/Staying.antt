@@ -6,7 +6,7 @@ use Rattle.dubp_chain.specs.Words.{names}
 use Rattle.dubp_chain.specs.Chains.{Chain}
 use Rattle.dubp_chain.specs.Members.{member}
 use Rattle.dubp_iindex.specs.Order.{IsNext}
-use Rattle.dubp_laws.proofs.Elements.{and_left}
+use Rattle.dubp_lists.proofs.Elements.{and_left}
 use Rattle.dubp_people_distance.specs.Moved.{stays, leaves, SaysWhoLeaves}
 use Rattle.dubp_people_distance.proofs.Nexts.{above, above-le, above_fewer, next_none, next_kept, next_passed}
 

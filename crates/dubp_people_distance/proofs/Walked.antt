@@ -13,7 +13,7 @@ use Rattle.dubp_expiry.specs.declared.due.Due.{Due}
 use Rattle.dubp_expiry.specs.declared.due.Behind.{Behind}
 use Rattle.dubp_expiry.specs.declared.due.Behind.TheVariants.{Time, Entry}
 use Rattle.dubp_expiry.proofs.Order.{entry_exact}
-use Rattle.dubp_laws.proofs.Elements.{or_true}
+use Rattle.dubp_lists.proofs.Elements.{or_true}
 use Rattle.dubp_left.specs.Left.{queue_left}
 use Rattle.dubp_steps.specs.AfterLines.{now_of}
 use Rattle.dubp_people_distance.specs.declared.certified.Certified.{Certified}

@@ -13,7 +13,7 @@ use Rattle.dubp_chain.specs.Chains.{Chain}
 use Rattle.dubp_chain.specs.Tables as chain
 use Rattle.dubp_chain.specs.Tables.{identity_row}
 use Rattle.dubp_validity.specs.Rules.{IsSound}
-use Rattle.dubp_laws.proofs.InOrder.{same_text_is}
+use Rattle.dubp_lists.proofs.InOrder.{same_text_is}
 use Rattle.dubp_steps.specs.AfterLines as lines
 use Rattle.dubp_steps.specs.AfterLines.{create_line, join_line, exclude_line, identity_after_lines}
 use Rattle.dubp_steps.proofs.Rows.{identity_step}

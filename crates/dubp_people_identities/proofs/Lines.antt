@@ -14,10 +14,10 @@ use Rattle.dubp_chain.specs.Chains.{Chain}
 use Rattle.dubp_chain.specs.Members.{member}
 use Rattle.dubp_chain.specs.People.{Written, identity, identity_lines}
 use Rattle.dubp_validity.specs.Rules.{IsSound}
-use Rattle.dubp_laws.proofs.Elements.{IsIn, in_all, in_any, list_any-map, is_false}
-use Rattle.dubp_laws.proofs.InOrder.{same_text_is, same_text_own}
-use Rattle.dubp_laws.proofs.LastLines.{last_line-any}
-use Rattle.dubp_laws.proofs.Once.{Once, once_head, once_tail, each_once-map}
+use Rattle.dubp_lists.proofs.Elements.{IsIn, in_all, in_any, list_any-map, is_false}
+use Rattle.dubp_lists.proofs.InOrder.{same_text_is, same_text_own}
+use Rattle.dubp_lists.proofs.LastLines.{last_line-any}
+use Rattle.dubp_lists.proofs.Once.{Once, once_head, once_tail, each_once-map}
 use Rattle.dubp_iindex.specs.Rows.{Rows}
 use Rattle.dubp_iindex.specs.declared.row.IdentityRow.{IdentityRow}
 use Rattle.dubp_chain.specs.Tables as chain

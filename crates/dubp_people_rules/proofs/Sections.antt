@@ -1,7 +1,7 @@
 -- What holds of the lines of Joiners, of Actives and of Leavers holds of all membership lines.
 use Rattle.std.proofs.Common.{◌≡◌, ◌↔◌, Bool, true, false, IsTrue, List, [], ◌∷◌, ◌++◌, sym, subst, ◌∙◌, true≢false}
 use Rattle.std.specs.List.{AllByRecursion}
-use Rattle.dubp_laws.proofs.Elements.{all_append}
+use Rattle.dubp_lists.proofs.Elements.{all_append}
 use Rattle.dubp_block.specs.declared.block.Block.{Block}
 use Rattle.dubp_block.specs.declared.block.MemberLine.{MemberLine}
 use Rattle.dubp_chain.specs.People.{membership_lines}

@@ -10,8 +10,8 @@ use Rattle.dubp_atoms.specs.Same.{Text, same_text}
 use Rattle.dubp_iindex.specs.Rows.{texts}
 use Rattle.dubp_iindex.specs.Order.{less, is_above, IsNext}
 use Rattle.dubp_chain.specs.Words.{names}
-use Rattle.dubp_laws.proofs.Elements.{any_in, in_any, in_all, all_from_in}
-use Rattle.dubp_laws.proofs.InOrder.{same_text_is, same_text_own}
+use Rattle.dubp_lists.proofs.Elements.{any_in, in_any, in_all, all_from_in}
+use Rattle.dubp_lists.proofs.InOrder.{same_text_is, same_text_own}
 
 is_less : (o : Ordering) → is_lt o ≡ true → o ≡ Less
 is_less Less e = refl

@@ -22,8 +22,8 @@ use Rattle.dubp_chain.specs.Live.{certification, made_of, end_of, live}
 use Rattle.dubp_chain.specs.Tables as chain
 use Rattle.dubp_validity.specs.Rules.{IsSound}
 use Rattle.dubp_replay.specs.Answers.{certification_values, pairs_to, pairs_from}
-use Rattle.dubp_laws.proofs.Elements.{IsIn, and_left, and_right, any_in, in_any, in_filter, kept_in, filter_true, list_any-map}
-use Rattle.dubp_laws.proofs.InOrder.{names_in_order, same_text_is, same_text_own}
+use Rattle.dubp_lists.proofs.Elements.{IsIn, and_left, and_right, any_in, in_any, in_filter, kept_in, filter_true, list_any-map}
+use Rattle.dubp_lists.proofs.InOrder.{names_in_order, same_text_is, same_text_own}
 use Rattle.dubp_steps.specs.Ordered.{text_cmp, keys_rise}
 use Rattle.dubp_steps.proofs.Rising.{same_keys, same_truth, filtered_keys_rise}
 use Rattle.dubp_steps.proofs.Lives.{issuers_to, issuers_named, receivers_from, receivers_named}

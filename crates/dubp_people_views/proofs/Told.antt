@@ -14,7 +14,7 @@ use Rattle.dubp_chain.specs.Tables as chain
 use Rattle.dubp_chain.specs.Tables.{membership_row}
 use Rattle.dubp_validity.specs.Rules.{IsSound}
 use Rattle.dubp_replay.specs.Answers.{identity_values, standing}
-use Rattle.dubp_laws.proofs.InOrder.{same_text_is}
+use Rattle.dubp_lists.proofs.InOrder.{same_text_is}
 use Rattle.dubp_steps.proofs.Standing.{entry, some_membership}
 use Rattle.dubp_facts.specs.Facts.{first_at}
 use Rattle.dubp_facts.specs.declared.facts.First.{First}

@@ -12,7 +12,7 @@ use Rattle.dubp_chain.specs.Members.{members}
 use Rattle.dubp_chain.specs.Live.{kick, is_kicked}
 use Rattle.dubp_chain.specs.Tables.{is_to_be_excluded}
 use Rattle.dubp_validity.specs.Rules.{IsSound}
-use Rattle.dubp_laws.proofs.InOrder.{same_text_own}
+use Rattle.dubp_lists.proofs.InOrder.{same_text_own}
 use Rattle.dubp_iindex.specs.Order as index
 use Rattle.dubp_wot.specs.Order.{IsInOrder, IsNextMember}
 use Rattle.dubp_wot.proofs.Members.{Contains-cases, Contains-none}

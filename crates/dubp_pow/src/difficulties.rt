@@ -3,7 +3,7 @@ ghost use Rattle.dubp_params.specs.Ranges.{IsAtMostOne};
 ghost use Rattle.dubp_pow.specs.Difficulty.{IsHandicap, handicap_of, issuer_diff_of, exclusion_factor, past_fifteen};
 
 use crate::table::ladder;
-use dubp_atoms::Dec;
+use dubp_params::Dec;
 
 /// The greatest handicap.
 const GREATEST_HANDICAP: usize = 64;

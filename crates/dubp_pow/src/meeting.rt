@@ -1,9 +1,9 @@
 ghost use Rattle.std.specs.Prelude.{◌≡◌, ◌↔◌, IsTrue, true};
 ghost use Rattle.std.specs.List.{All};
-ghost use Rattle.dubp_atoms.specs.Letters.{is_upper_hex};
+ghost use Rattle.dubp_params.specs.Below.{is_upper_hex};
 ghost use Rattle.dubp_pow.specs.Meeting.{Meets, hex_value};
 
-use dubp_atoms::Hash;
+use dubp_params::Hash;
 
 /// No hash meets this difficulty: 16 for each of its 64 digits.
 const UNMEETABLE: u128 = 1024;

@@ -13,8 +13,8 @@ use Rattle.dubp_chain.specs.Live.{live}
 use Rattle.dubp_validity.specs.Rules.{IsSound}
 use Rattle.dubp_iindex.specs.Order.{IsNext}
 use Rattle.dubp_chain.specs.Tables.{CertificationRow, certification_row}
-use Rattle.dubp_laws.proofs.Elements.{IsIn, in_any, any_in}
-use Rattle.dubp_laws.proofs.InOrder.{same_text_is, same_text_own}
+use Rattle.dubp_lists.proofs.Elements.{IsIn, in_any, any_in}
+use Rattle.dubp_lists.proofs.InOrder.{same_text_is, same_text_own}
 use Rattle.dubp_steps.proofs.Lives.{live_is_of_row}
 use Rattle.dubp_steps.proofs.Touched.{members_are_table}
 use Rattle.dubp_iindex.specs.Rows.{is_member_at, members}

@@ -32,9 +32,9 @@ use Rattle.dubp_chain.specs.Live.{certification, made_of, live, wrote, last_from
 use Rattle.dubp_chain.specs.Tables.{IdentityRow, MembershipRow, CertificationRow, certification_row, fact_time}
 use Rattle.dubp_chain.specs.Tables.Due.{Membership, Revocation, Certification}
 use Rattle.dubp_validity.specs.Rules.{IsSound}
-use Rattle.dubp_laws.proofs.Elements.{and_left, and_right, or_left, or_right, is_false, in_all, last_in, IsIn, in_any, any_in, in_filter, kept_in, list_any-map}
-use Rattle.dubp_laws.proofs.InOrder.{same_text_is, same_text_own, members-once}
-use Rattle.dubp_laws.proofs.LastLines.{last_any}
+use Rattle.dubp_lists.proofs.Elements.{and_left, and_right, or_left, or_right, is_false, in_all, last_in, IsIn, in_any, any_in, in_filter, kept_in, list_any-map}
+use Rattle.dubp_lists.proofs.InOrder.{same_text_is, same_text_own, members-once}
+use Rattle.dubp_lists.proofs.LastLines.{last_any}
 use Rattle.std.specs.Prelude.{IfSome}
 use Rattle.dubp_steps.specs.AfterLines.{now_of, cert_lasting, certification_time, is_planned, of_pair}
 use Rattle.dubp_steps.specs.Ordered.{pair_cmp}

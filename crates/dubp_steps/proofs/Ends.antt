@@ -22,9 +22,9 @@ use Rattle.dubp_chain.specs.Live.{certification, made_of, live, certified_pairs}
 use Rattle.dubp_validity.specs.Records.{identity_keys, is_revoked_by_time, receivers_of, pairs_in_order, membership_time}
 use Rattle.dubp_chain.specs.Tables.Due.{Membership, Revocation, Certification}
 use Rattle.dubp_validity.specs.Rules.{IsSound}
-use Rattle.dubp_laws.proofs.Elements.{and_left, and_right, or_left, or_right, not_true, is_false, IsIn, in_all, in_any, any_in, in_map, kept_in, any_of_flat_map, list_any-map}
-use Rattle.dubp_laws.proofs.InOrder.{same_text_is, same_text_own, names_in_order, in_order-in}
-use Rattle.dubp_laws.proofs.LastLines.{last_line-any}
+use Rattle.dubp_lists.proofs.Elements.{and_left, and_right, or_left, or_right, not_true, is_false, IsIn, in_all, in_any, any_in, in_map, kept_in, any_of_flat_map, list_any-map}
+use Rattle.dubp_lists.proofs.InOrder.{same_text_is, same_text_own, names_in_order, in_order-in}
+use Rattle.dubp_lists.proofs.LastLines.{last_line-any}
 use Rattle.dubp_steps.specs.AfterLines.{now_of, lasting, cert_lasting, of_pair, certification_time, is_planned}
 use Rattle.dubp_steps.specs.Taken.{is_taken, Expires, RevokedInTime, Ends}
 use Rattle.dubp_steps.specs.Ordered.{has_pair}

@@ -20,13 +20,13 @@ use Rattle.dubp_chain.specs.Live.{live, received, is_kicked}
 use Rattle.dubp_chain.specs.Tables.{CertificationRow, certification_row, is_queued, is_to_be_excluded}
 use Rattle.dubp_chain.specs.Tables.Due.{Membership, Certification}
 use Rattle.dubp_validity.specs.Rules.{IsSound}
-use Rattle.dubp_laws.proofs.Elements.{or_left, or_right, is_false, list_any-map}
-use Rattle.dubp_laws.proofs.InOrder.{same_text_is, names_in_order}
+use Rattle.dubp_lists.proofs.Elements.{or_left, or_right, is_false, list_any-map}
+use Rattle.dubp_lists.proofs.InOrder.{same_text_is, names_in_order}
 use Rattle.dubp_steps.specs.AfterLines.{now_of, lasting, cert_lasting, entering_lines, of_pair, is_planned, certified_row}
 use Rattle.dubp_steps.specs.Taken.{is_taken, IsTaken, ended_by_time, kicked_by}
 use Rattle.dubp_steps.specs.Steps.{KickedIsOfRows, KickedStays}
 use Rattle.dubp_steps.proofs.Standing.{last_entered, entry, some_identity, some_membership, member_has_entry}
-use Rattle.dubp_laws.proofs.LastLines.{last_any, time_of-rises}
+use Rattle.dubp_lists.proofs.LastLines.{last_any, time_of-rises}
 use Rattle.dubp_steps.proofs.Planned.{le_later, planned_taken}
 use Rattle.dubp_steps.proofs.Sections.{has_revoked, planned_expiry, queue_membership, certification_after_lines-is}
 use Rattle.dubp_steps.proofs.Queue.{made_at, queued_membership, same_params}

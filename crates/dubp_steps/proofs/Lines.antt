@@ -19,9 +19,9 @@ use Rattle.dubp_validity.specs.LocalRules.{moving_keys, same_pair}
 use Rattle.dubp_validity.specs.Records.{membership_time}
 use Rattle.dubp_chain.specs.Tables.{identity_row, MembershipRow, membership_row, CertificationRow, certification_row, Due, is_to_be_excluded}
 use Rattle.dubp_chain.specs.Tables.Due.{Membership, Revocation, Certification}
-use Rattle.dubp_laws.proofs.Elements.{and_left, and_right, or_left, or_right, not_true, is_false, list_any-map}
-use Rattle.dubp_laws.proofs.InOrder.{same_text_is, same_text_own}
-use Rattle.dubp_laws.proofs.LastLines.{last_any}
+use Rattle.dubp_lists.proofs.Elements.{and_left, and_right, or_left, or_right, not_true, is_false, list_any-map}
+use Rattle.dubp_lists.proofs.InOrder.{same_text_is, same_text_own}
+use Rattle.dubp_lists.proofs.LastLines.{last_any}
 use Rattle.dubp_steps.specs.AfterLines.{now_of, lasting, cert_lasting, entering_lines, of_pair, certification_time, entered_row, left_row, set_revoked, certified_row, enter_line, leave_line, revoke_line, certify_line, is_planned}
 use Rattle.dubp_steps.specs.Taken.{kicked_by}
 use Rattle.dubp_steps.specs.Steps.{touches, people_records}

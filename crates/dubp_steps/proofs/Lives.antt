@@ -15,9 +15,9 @@ use Rattle.dubp_chain.specs.Heads.{time_of}
 use Rattle.dubp_chain.specs.People.{Written, written_in}
 use Rattle.dubp_chain.specs.Live.{certification, made_of, live, certified_pairs, live_pairs, received, last_from}
 use Rattle.dubp_chain.specs.Tables.{CertificationRow}
-use Rattle.dubp_laws.proofs.Elements.{and_left, and_right, or_left, or_right, in_any, any_in, in_filter, kept_in, list_any-map}
-use Rattle.dubp_laws.proofs.InOrder.{same_text_is}
-use Rattle.dubp_laws.proofs.LastLines.{last_line-any}
+use Rattle.dubp_lists.proofs.Elements.{and_left, and_right, or_left, or_right, in_any, any_in, in_filter, kept_in, list_any-map}
+use Rattle.dubp_lists.proofs.InOrder.{same_text_is}
+use Rattle.dubp_lists.proofs.LastLines.{last_line-any}
 use Rattle.dubp_steps.specs.AfterLines.{of_pair}
 use Rattle.dubp_steps.specs.Steps.{LiveIsOfRow, ReceivedIsCount, StockIsCount, WroteStep}
 use Rattle.dubp_steps.proofs.Rising.{same_truth}

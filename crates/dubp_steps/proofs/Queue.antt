@@ -19,9 +19,9 @@ use Rattle.dubp_validity.specs.Records.{membership_time}
 use Rattle.dubp_chain.specs.Tables.{is_queued, falls_at}
 use Rattle.dubp_chain.specs.Tables.Due.{Membership, Revocation, Certification}
 use Rattle.dubp_validity.specs.Rules.{IsSound}
-use Rattle.dubp_laws.proofs.Elements.{not_true, or_left, in_all, any_in}
-use Rattle.dubp_laws.proofs.InOrder.{same_text_is}
-use Rattle.dubp_laws.proofs.LastLines.{time_of-rises}
+use Rattle.dubp_lists.proofs.Elements.{not_true, or_left, in_all, any_in}
+use Rattle.dubp_lists.proofs.InOrder.{same_text_is}
+use Rattle.dubp_lists.proofs.LastLines.{time_of-rises}
 use Rattle.dubp_steps.specs.AfterLines.{now_of, lasting, cert_lasting, of_pair, certification_time, is_planned}
 use Rattle.dubp_steps.specs.Steps.{QueueStep}
 use Rattle.dubp_steps.proofs.Standing.{last_entered, entry, some_identity, entering_moves}

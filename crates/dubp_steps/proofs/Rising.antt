@@ -14,8 +14,8 @@ use Rattle.std.proofs.lemmas.Cmp.{tied_itself, then_total, on_total}
 use Rattle.dubp_atoms.specs.Same.{Text, same_text}
 use Rattle.dubp_chain.specs.Words.{names, marked, in_order}
 use Rattle.dubp_validity.specs.Records.{receivers_of, pairs_in_order}
-use Rattle.dubp_laws.proofs.Elements.{IsIn}
-use Rattle.dubp_laws.proofs.InOrder.{same_text_is, same_text_own}
+use Rattle.dubp_lists.proofs.Elements.{IsIn}
+use Rattle.dubp_lists.proofs.InOrder.{same_text_is, same_text_own}
 use Rattle.dubp_steps.specs.Ordered.{text_cmp, pair_cmp, keys_rise, pairs_rise, has_pair}
 
 pub same_truth : (a b : Bool) → (a ≡ true → b ≡ true) → (b ≡ true → a ≡ true) → a ≡ b

@@ -20,9 +20,9 @@ use Rattle.dubp_validity.specs.Records.{membership_time}
 use Rattle.dubp_chain.specs.Tables.{IdentityRow, identity_row, MembershipRow, membership_row, CertificationRow, certification_row, is_queued}
 use Rattle.dubp_chain.specs.Tables.Due.{Revocation, Certification}
 use Rattle.dubp_validity.specs.Rules.{IsSound}
-use Rattle.dubp_laws.proofs.Elements.{and_left, or_left, in_all, in_any, any_in, last_in}
-use Rattle.dubp_laws.proofs.InOrder.{same_text_is}
-use Rattle.dubp_laws.proofs.LastLines.{last_any, time_of-rises}
+use Rattle.dubp_lists.proofs.Elements.{and_left, or_left, in_all, in_any, any_in, last_in}
+use Rattle.dubp_lists.proofs.InOrder.{same_text_is}
+use Rattle.dubp_lists.proofs.LastLines.{last_any, time_of-rises}
 use Rattle.dubp_steps.specs.AfterLines.{now_of, lasting, cert_lasting, entering_lines, of_pair, certification_time, created, entered_row, left_row, certified_row, is_planned, queue_after_lines}
 use Rattle.dubp_steps.specs.Taken.{is_taken, revoke_where, revoked_by_time, ended_by_time}
 use Rattle.dubp_steps.specs.Steps.{IdentityStep, MembershipStep, CertificationStep}

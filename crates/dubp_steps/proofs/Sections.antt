@@ -14,7 +14,7 @@ use Rattle.dubp_chain.specs.Members.{is_of}
 use Rattle.dubp_validity.specs.Records.{membership_time}
 use Rattle.dubp_chain.specs.Tables.{IdentityRow, MembershipRow, CertificationRow, is_queued}
 use Rattle.dubp_chain.specs.Tables.Due.{Membership, Revocation, Certification}
-use Rattle.dubp_laws.proofs.LastLines.{last_any, last_of-append}
+use Rattle.dubp_lists.proofs.LastLines.{last_any, last_of-append}
 use Rattle.dubp_steps.specs.AfterLines.{now_of, lasting, cert_lasting, of_pair, certification_time, created, set_member, create_line, join_line, exclude_line, identity_after_lines, entered_row, left_row, set_revoked, enter_line, leave_line, revoke_line, membership_after_lines, certified_row, certify_line, certification_after_lines, is_planned, enter_queue, revoke_queue, certify_queue, queue_after_lines}
 use Rattle.dubp_steps.proofs.Standing.{last_entered}
 

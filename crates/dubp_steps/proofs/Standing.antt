@@ -15,9 +15,9 @@ use Rattle.dubp_chain.specs.People.{Written, last_line, identity, identity_lines
 use Rattle.dubp_validity.specs.PeopleRules.{is_identity_of}
 use Rattle.dubp_validity.specs.LocalRules.{joins}
 use Rattle.dubp_validity.specs.Rules.{IsSound}
-use Rattle.dubp_laws.proofs.Elements.{and_left, or_true, in_all, in_any, any_in}
-use Rattle.dubp_laws.proofs.InOrder.{same_text_is}
-use Rattle.dubp_laws.proofs.LastLines.{last_any, last_line-any, last_of-append}
+use Rattle.dubp_lists.proofs.Elements.{and_left, or_true, in_all, in_any, any_in}
+use Rattle.dubp_lists.proofs.InOrder.{same_text_is}
+use Rattle.dubp_lists.proofs.LastLines.{last_any, last_line-any, last_of-append}
 use Rattle.dubp_steps.specs.AfterLines.{entering_lines}
 
 -- the last line that entered k, of a block and of a chain

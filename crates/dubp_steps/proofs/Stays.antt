@@ -10,8 +10,8 @@ use Rattle.dubp_chain.specs.Members.{is_of}
 use Rattle.dubp_chain.specs.People.{membership_lines}
 use Rattle.dubp_chain.specs.Tables.{identity_row, MembershipRow, membership_row, CertificationRow, certification_row}
 use Rattle.dubp_chain.specs.Tables.Due.{Revocation, Certification}
-use Rattle.dubp_laws.proofs.Elements.{is_false}
-use Rattle.dubp_laws.proofs.LastLines.{last_any}
+use Rattle.dubp_lists.proofs.Elements.{is_false}
+use Rattle.dubp_lists.proofs.LastLines.{last_any}
 use Rattle.dubp_steps.specs.AfterLines.{lasting, cert_lasting, of_pair, created, certified_row}
 use Rattle.dubp_steps.specs.Taken.{is_taken, revoked_by_time, ended_by_time}
 use Rattle.dubp_steps.specs.Steps.{IdentityStays, MembershipStays, CertificationStays}

@@ -17,8 +17,8 @@ use Rattle.dubp_chain.specs.Tables.{MembershipRow, membership_row, Certification
 use Rattle.dubp_chain.specs.Tables.Due.{Membership, Revocation, Certification}
 use Rattle.dubp_validity.specs.Reduced.{set_ended}
 use Rattle.dubp_validity.specs.Rules.{IsSound}
-use Rattle.dubp_laws.proofs.Elements.{and_left, and_right, and_false, or_true, is_false}
-use Rattle.dubp_laws.proofs.InOrder.{same_text_is}
+use Rattle.dubp_lists.proofs.Elements.{and_left, and_right, and_false, or_true, is_false}
+use Rattle.dubp_lists.proofs.InOrder.{same_text_is}
 use Rattle.dubp_steps.specs.AfterLines.{now_of, lasting, cert_lasting, of_pair, certification_time, set_revoked, certified_row, is_planned, queue_after_lines, membership_after_lines, certification_after_lines}
 use Rattle.dubp_steps.specs.Taken.{is_taken, IsTaken, revoke_where, end_where, is_over_at_once, is_revoked_at_once, is_ended_at_once}
 use Rattle.dubp_steps.specs.Loops.{Queue, same_due, is_entry, without_entry, is_gone, IsGone, revoked_where_gone, ended_where_gone, TakingStarts, TakingGoesOn, TakingEnds}

@@ -18,7 +18,7 @@ use Rattle.dubp_chain.specs.Live.{received, is_kicked, kick, certified_pairs}
 use Rattle.dubp_validity.specs.Records.{membership_time, line_records, expiry_records, revocation_records, ended_records, identity_keys, is_revoked_by_time, pairs_in_order}
 use Rattle.dubp_chain.specs.Tables.{identity_row, membership_row, is_to_be_excluded}
 use Rattle.dubp_validity.specs.Rules.{IsSound}
-use Rattle.dubp_laws.proofs.Elements.{and_right, filter_twice, or_left, or_right, in_any, any_in, list_any-map}
+use Rattle.dubp_lists.proofs.Elements.{and_right, filter_twice, or_left, or_right, in_any, any_in, list_any-map}
 use Rattle.dubp_steps.specs.AfterLines.{now_of}
 use Rattle.dubp_steps.specs.Taken.{kicked_by}
 use Rattle.dubp_steps.specs.Ordered.{keys_rise}

@@ -3,7 +3,7 @@ ghost use Rattle.std.specs.List.{list_any};
 ghost use Rattle.dubp_verdict.specs.Verdicts.{HasHash, HasVerdict, same_verdict, verdict_of, with_verdict};
 
 use crate::entry::Entry;
-use dubp_atoms::{Hash, Key, NoMemory, Sig};
+use dubp_atoms::{Hash, Key, NoMemory, Secret, Sig};
 use indexmap::IndexSet;
 use std::alloc::Global;
 use std::marker::Model;
@@ -13,7 +13,7 @@ use std::marker::Model;
 /// Contracts see it as the list of its verdicts, the newest first and each once.
 #[derive(Drop)]
 pub struct Verdicts {
-    entries: IndexSet<Entry>,
+    entries: IndexSet<Entry, Secret>,
 }
 
 impl Model for Verdicts {
@@ -26,12 +26,19 @@ impl Model for Verdicts {
 }
 
 impl Verdicts {
-    /// No verdict. It takes no memory.
+    /// No verdict. It takes no memory. Who is let in to choose verdicts can make some that are slow to keep: `with_secret` is for them.
     pub fn new(alloc: Global) -> Verdicts
         ensures { result ≡ [] }
     {
+        Verdicts::with_secret(alloc, Secret::known())
+    }
+
+    /// No verdict, to be kept by this secret: who does not know it makes no verdicts that are slower to keep than others. It takes no memory.
+    pub fn with_secret(alloc: Global, secret: Secret) -> Verdicts
+        ensures { result ≡ [] }
+    {
         Verdicts {
-            entries: IndexSet::new(alloc),
+            entries: IndexSet::with_hasher(alloc, secret),
         }
     }
 
@@ -67,7 +74,7 @@ impl Verdicts {
 }
 
 /// Puts an entry last. One that is there already leaves the whole set, its memory too, as it was.
-fn insert(entries: &mut IndexSet<Entry>, entry: Entry) -> Result<(), NoMemory>
+fn insert(entries: &mut IndexSet<Entry, Secret>, entry: Entry) -> Result<(), NoMemory>
     ensures there { IsTrue (list_any (same_verdict entry) entries.old.keys) → (result ≡ Ok tt) × (entries.new ≡ entries.old) }
     ensures added { ¬ IsTrue (list_any (same_verdict entry) entries.old.keys) → OnOk result (entries.new.keys ≡ entries.old.keys ++ entry ∷ []) }
     ensures refused { OnErr result (entries.new.keys ≡ entries.old.keys) }

@@ -4,7 +4,7 @@ use Rattle.std.specs.Map.{lookup}
 use Rattle.std.proofs.lemmas.Option.{none-some}
 use Rattle.indexmap.specs.IndexMap.{get}
 use Rattle.dubp_atoms.specs.Same.{same_text}
-use Rattle.dubp_laws.proofs.Elements.{or_true}
+use Rattle.dubp_lists.proofs.Elements.{or_true}
 use Rattle.dubp_people_distance.specs.Ends.{is_end_of_line}
 use Rattle.dubp_people_distance.proofs.Kept.{others_kept}
 use Rattle.dubp_people_distance.proofs.changed.changed_by.Goals as goal

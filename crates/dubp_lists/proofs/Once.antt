@@ -4,7 +4,7 @@ use Rattle.std.specs.List.{list_any}
 use Rattle.std.proofs.lemmas.List.Sums.{sum_by-cons}
 use Rattle.std.proofs.lemmas.List.Folds.{list_any-append}
 use Rattle.dubp_chain.specs.Words.{each_once}
-use Rattle.dubp_laws.proofs.Elements.{and_left, and_right, not_true, or_left, or_right, is_false, IsIn, in_any, any_in, none_in, in_filter, list_any-map}
+use Rattle.dubp_lists.proofs.Elements.{and_left, and_right, not_true, or_left, or_right, is_false, IsIn, in_any, any_in, none_in, in_filter, list_any-map}
 
 -- the keys of a list stand once where its elements do by their keys
 pub each_once-map : {X K : Type 0} (eq : K → K → Bool) (key : X → K) (xs : List X)

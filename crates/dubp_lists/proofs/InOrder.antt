@@ -1,24 +1,19 @@
 -- Texts in order stand once each, none is left out, and so do the members of a chain.
 use Rattle.std.proofs.Common.{◌≡◌, Bool, true, false, ◌&&◌, List, [], ◌∷◌, map, refl, sym, ◌∙◌, subst, T, inl, inr, ◌⊎◌}
 use Rattle.std.specs.List.{list_any}
-use Rattle.std.specs.Cmp.Lexicographic.{bytes_decides, slice_cmp, nat_list_cmp_total}
+use Rattle.std.specs.Cmp.Lexicographic.{slice_cmp, nat_list_cmp_total}
 use Rattle.std.specs.Ordering.{nat_cmp, is_lt}
 use Rattle.std.specs.declared.cmp.Ordering.TheVariants.{Less, Equal, Greater}
 use Rattle.std.specs.FinMap.{nat_cmp-IsAntisymmetric, slice_cmp-IsAntisymmetric}
 use Rattle.std.specs.FinMap.Entries.{by_order, put, below_all, is_sorted, is_sorted-put}
 use Rattle.std.proofs.lemmas.Cmp.{tied_itself}
 use Rattle.dubp_atoms.specs.Same.{Text, same_text}
+pub use Rattle.dubp_atoms.proofs.Same.{same_text_is, same_text_own}
 use Rattle.dubp_chain.specs.Words.{names, each_once, marked, in_order}
 use Rattle.dubp_chain.specs.Chains.{Chain}
 use Rattle.dubp_chain.specs.Members.{member, members, joined_keys}
-use Rattle.dubp_laws.proofs.Elements.{is_false, IsIn, any_in, in_any}
-use Rattle.dubp_laws.proofs.Once.{once-filter}
-
-pub same_text_is : (a b : Text) → same_text a b ≡ true → a ≡ b
-same_text_is a b = (bytes_decides a b).0
-
-pub same_text_own : (a : Text) → same_text a a ≡ true
-same_text_own a = (bytes_decides a a).1 refl
+use Rattle.dubp_lists.proofs.Elements.{is_false, IsIn, any_in, in_any}
+use Rattle.dubp_lists.proofs.Once.{once-filter}
 
 marked-sorted : (ks : List Text) → T (is_sorted (slice_cmp nat_cmp) (marked ks))
 marked-sorted [] = tt

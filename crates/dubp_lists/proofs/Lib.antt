@@ -1,0 +1,6 @@
+pub mod Elements
+pub mod Folds
+pub mod InOrder
+pub mod LastLines
+pub mod Once
+pub mod Sums
