@@ -12,7 +12,7 @@ use arrayvec::ArrayVec;
 use dubp_atoms::{Key, Line, NoMemory, put_bytes};
 use dubp_block::Block;
 use dubp_people_views::{CertificationView, certs};
-use dubp_registry::Registry;
+use dubp_people_views::Registry;
 use dubp_undo::Tables;
 use std::alloc::Global;
 

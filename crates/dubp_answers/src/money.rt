@@ -8,7 +8,7 @@ use arrayvec::ArrayVec;
 use dubp_atoms::{Line, put_bytes};
 use dubp_block::Block;
 use dubp_cond::CondText;
-use dubp_money::Money;
+use dubp_money_views::Money;
 use dubp_money_views::balance;
 use dubp_undo::Tables;
 

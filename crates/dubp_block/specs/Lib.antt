@@ -7,3 +7,4 @@ pub mod RefusedLine
 pub mod Refusals
 pub mod ReadingLines
 pub mod Reading
+pub mod Below

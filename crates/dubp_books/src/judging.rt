@@ -4,7 +4,7 @@ use dubp_block::Block;
 use dubp_chain::Head;
 use dubp_docs::TxHashes;
 use dubp_judge::Judges;
-use dubp_left::Next;
+use dubp_people::Next;
 use dubp_money_checks::first_broken_of_money;
 use dubp_params::Params;
 use dubp_people_checks::first_broken_of_people;

@@ -9,7 +9,7 @@ use dubp_atoms::{Key, NoMemory, Steps};
 use dubp_block::Block;
 use dubp_chain::Head;
 use dubp_docs::TxHashes;
-use dubp_kept::{LeftBehind, Written};
+use dubp_judge::{LeftBehind, Written};
 use dubp_people::{People, apply};
 use dubp_people_count::member_keys;
 use dubp_undo::Tables;

@@ -4,7 +4,7 @@ use Rattle.std.specs.Option.{option_map_or}
 use Rattle.dubp_atoms.specs.Same.{Text}
 use Rattle.dubp_atoms.specs.declared.dec.Dec.{Dec}
 use Rattle.dubp_block.specs.declared.block.Block.{Block}
-use Rattle.dubp_params.specs.declared.params.Params.{Params}
+use Rattle.dubp_block.specs.Below.{Params}
 
 -- the blocks, newest first: 'the chain with a block behind it' is the list with the block at its front
 abbrev pub Chain : Type 0

@@ -9,3 +9,5 @@ pub mod Live
 pub mod Distance
 pub mod Money
 pub mod Tables
+pub mod Below
+pub mod BlockTexts

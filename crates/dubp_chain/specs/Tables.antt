@@ -4,9 +4,9 @@ use Rattle.std.specs.Option.{option_map_or}
 use Rattle.std.specs.List.{enumerate_from}
 use Rattle.dubp_atoms.specs.Same.{Text}
 use Rattle.dubp_atoms.specs.declared.stamp.Stamp.{Stamp}
-use Rattle.dubp_cond.specs.Conditions.{cond_text}
-use Rattle.dubp_cond.specs.declared.source.SourceId.{SourceId}
-use Rattle.dubp_params.specs.declared.params.Params.{Params}
+use Rattle.dubp_block.specs.Below.{cond_text}
+use Rattle.dubp_block.specs.Below.{SourceId}
+use Rattle.dubp_block.specs.Below.{Params}
 use Rattle.dubp_chain.specs.Words.{names}
 use Rattle.dubp_chain.specs.Chains.{Chain, params, currency}
 use Rattle.dubp_chain.specs.Members.{member}

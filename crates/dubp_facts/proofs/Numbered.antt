@@ -7,12 +7,12 @@ use Rattle.dubp_atoms.specs.declared.stamp.Stamp.{Stamp}
 use Rattle.dubp_rules.specs.declared.rule.Rule.TheVariants.{G51}
 use Rattle.dubp_params.specs.declared.params.Params.{Params}
 use Rattle.dubp_block.specs.declared.block.Block.{Block}
-use Rattle.dubp_chain.specs.declared.head.Head.{Head}
-use Rattle.dubp_chain.specs.HeadStamp.{head_stamp}
-use Rattle.dubp_chain.specs.Chains.{Chain, params}
-use Rattle.dubp_chain.specs.Members.{members}
-use Rattle.dubp_chain.specs.Heads.{heads_of, next_head}
-use Rattle.dubp_chain.specs.Made.{head_stamped, head_numbered}
+use Rattle.dubp_validity.specs.Below.{Head}
+use Rattle.dubp_validity.specs.Below.{head_stamp}
+use Rattle.dubp_validity.specs.Below.{Chain, params}
+use Rattle.dubp_validity.specs.Below.{members}
+use Rattle.dubp_validity.specs.Below.{heads_of, next_head}
+use Rattle.dubp_validity.specs.Below.{head_stamped, head_numbered}
 use Rattle.dubp_validity.specs.Rules.{IsSound}
 
 -- each head has a number below n

@@ -19,10 +19,10 @@ use Rattle.dubp_params.specs.declared.params.Params.{Params}
 use Rattle.dubp_undo.specs.Numbers.{plus, add_last}
 use Rattle.dubp_undo.specs.States.{AtMostMore}
 use Rattle.dubp_undo.proofs.Numbers.{plus-add_last}
-use Rattle.dubp_chain.specs.declared.head.Head.{Head}
-use Rattle.dubp_chain.specs.Chains.{Chain}
-use Rattle.dubp_chain.specs.Heads.{head_of}
-use Rattle.dubp_chain.specs.Made.{made, certification_made, head_numbered}
+use Rattle.dubp_validity.specs.Below.{Head}
+use Rattle.dubp_validity.specs.Below.{Chain}
+use Rattle.dubp_validity.specs.Below.{head_of}
+use Rattle.dubp_validity.specs.Below.{made, certification_made, head_numbered}
 use Rattle.dubp_validity.specs.Rules.{IsSound}
 use Rattle.dubp_facts.specs.Facts.{first_at, first_after, block_time, time_at, time_of_stamp, IsNext}
 use Rattle.dubp_facts.specs.declared.facts.First.{First}

@@ -8,10 +8,10 @@ use Rattle.dubp_atoms.specs.Same.{same_text}
 use Rattle.dubp_atoms.specs.declared.stamp.Stamp.{Stamp}
 use Rattle.dubp_block.specs.declared.block.Block.{Block}
 use Rattle.dubp_block.specs.Text.{IsBlock}
-use Rattle.dubp_chain.specs.declared.head.Head.{Head}
-use Rattle.dubp_chain.specs.Chains.{Chain, params, currency}
-use Rattle.dubp_chain.specs.Heads.{head_of}
-use Rattle.dubp_chain.specs.Made.{head_numbered}
+use Rattle.dubp_validity.specs.Below.{Head}
+use Rattle.dubp_validity.specs.Below.{Chain, params, currency}
+use Rattle.dubp_validity.specs.Below.{head_of}
+use Rattle.dubp_validity.specs.Below.{head_numbered}
 use Rattle.dubp_validity.specs.HeadRules.{NumberIsNext}
 use Rattle.dubp_facts.specs.declared.facts.First.{First}
 use Rattle.dubp_facts.specs.declared.facts.BlockTime.{BlockTime}

@@ -18,6 +18,7 @@ mod judges;
 mod judging;
 mod laws;
 
+pub use dubp_kept::{LeftBehind, Written};
 pub use judgement::Judgement;
 pub use judges::Judges;
 pub use judging::judge;

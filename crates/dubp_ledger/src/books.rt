@@ -3,7 +3,7 @@ ghost use Rattle.dubp_chain.specs.Chains.{Chain};
 
 use dubp_block::Block;
 use dubp_books::{Books, Money, People};
-use dubp_judge::Judges;
+use dubp_books::Judges;
 use dubp_undo::Tables;
 use std::alloc::Global;
 

@@ -23,7 +23,7 @@ use dubp_books::{Money, People};
 use dubp_chain::Head;
 use dubp_docs::TxHashes;
 use dubp_head::{Heads, difficulty};
-use dubp_judge::{Judgement, judge};
+use dubp_books::{Judgement, judge};
 use dubp_kept::{Held, Kept};
 use dubp_local::check_local;
 use dubp_params::Params;

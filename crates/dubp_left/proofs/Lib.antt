@@ -4,3 +4,4 @@ pub mod Lines
 pub mod Queued
 pub mod Times
 pub mod Looked
+pub mod Below

@@ -9,3 +9,4 @@ pub mod BlockRows
 pub mod Applies
 pub mod Noting
 pub mod Hashes
+pub mod Below

@@ -6,3 +6,4 @@ pub mod Transactions
 pub mod Blocks
 pub mod Tables
 pub mod Applied
+pub mod Below

@@ -5,8 +5,8 @@ use Rattle.dubp_block.specs.declared.block.Block.{Block}
 use Rattle.dubp_chain.specs.Chains.{Chain}
 use Rattle.dubp_chain.specs.Heads.{head_of}
 use Rattle.dubp_chain.specs.declared.head.Head.{Head}
-use Rattle.dubp_left.specs.Next.{IsAsked}
-use Rattle.dubp_left.specs.declared.next.Next.{Next}
+use Rattle.dubp_money_rules.specs.Below.{IsAsked}
+use Rattle.dubp_money_rules.specs.Below.{Next}
 use Rattle.dubp_money.specs.declared.money.Money.{Money}
 use Rattle.dubp_money.specs.contracts.money.MoneyTablesBlock.TheImpl as tables
 use Rattle.dubp_money_rules.specs.Spending.{AreNumbered, HaveConditions}

@@ -3,7 +3,7 @@ ghost use Rattle.std.specs.Prelude.{◌↔◌, IsTrue, IfOk, List};
 ghost use Rattle.dubp_atoms.specs.Same.{Text};
 ghost use Rattle.dubp_chain.specs.Chains.{Chain};
 ghost use Rattle.dubp_chain.specs.declared.head.Head.{Head as HeadValue};
-ghost use Rattle.dubp_left.specs.declared.next.Next.{Next as NextValue};
+ghost use Rattle.dubp_money_rules.specs.Below.{Next as NextValue};
 ghost use Rattle.dubp_verdict.specs.Verdicts.{Verdicts};
 ghost use Rattle.dubp_rules.specs.First.{FirstOf};
 ghost use Rattle.dubp_validity.specs.Rules.{Holds};
@@ -14,7 +14,7 @@ ghost use Rattle.dubp_money_checks.specs.Judged.{IsJudged};
 use dubp_atoms::{Hash, NoMemory};
 use dubp_block::Block;
 use dubp_chain::Head;
-use dubp_left::Next;
+use dubp_money_rules::Next;
 use dubp_money::Money;
 use dubp_money_rules::{
     conditions_are_true, inputs_are_there, locktimes_have_ended, output_bases_fit,

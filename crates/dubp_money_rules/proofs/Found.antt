@@ -19,10 +19,10 @@ use Rattle.dubp_sindex.specs.Rows as rows
 use Rattle.dubp_sindex.specs.Rows.{Entry, is_named, row_at}
 use Rattle.dubp_undo.specs.States.{states}
 use Rattle.dubp_sindex.specs.States.{rows_of}
-use Rattle.dubp_money_steps.specs.Steps.{numbered}
-use Rattle.dubp_money_steps.specs.Left.{account_in, entry_of, entries_of, sources_left}
-use Rattle.dubp_money_steps.proofs.Names.{same_name}
-use Rattle.dubp_money_steps.proofs.Entries.{without_numbers}
+use Rattle.dubp_money.specs.Below.{numbered}
+use Rattle.dubp_money.specs.Below.{account_in, entry_of, entries_of, sources_left}
+use Rattle.dubp_money.proofs.Below.{same_name}
+use Rattle.dubp_money.proofs.Below.{without_numbers}
 use Rattle.dubp_money_rules.specs.Spending.{time_in, fitting_row, time_of_row}
 
 pub flip : (a b : SourceId) → same_source a b ≡ same_source b a

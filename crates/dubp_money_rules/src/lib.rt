@@ -16,6 +16,7 @@ mod sets;
 mod spending;
 mod times;
 
+pub use dubp_left::{Next, next_of};
 pub use conditions::conditions_are_true;
 pub use hashes::{Transactions, transactions_are_new, tx_numbers};
 pub use inputs::{inputs_are_there, locktimes_have_ended};

@@ -11,4 +11,5 @@
 
 mod views;
 
+pub use dubp_money::Money;
 pub use views::{SourceView, balance, sources};

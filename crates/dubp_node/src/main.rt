@@ -1,30 +1,13 @@
-//! A node of a currency: it reads commands, keeps the chain of accepted blocks, and answers from it.
+//! The program of a node: `dubp_node run` answers the commands of the standard input, and `dubp_node gen N START` generates a chain.
 //!
-//! `run` is the whole program over any source and sink. `main` gives it the standard streams.
+//! `run` of `dubp_session` is the whole program over any source and sink. `main` gives it the standard streams, and the node a secret of
+//! the system's.
 #![tactic(auto)]
 
-mod buffer;
-mod form;
-mod generating;
-mod item;
-mod laws;
-mod node;
-mod reading;
-mod run;
-mod serving;
-#[cfg(test)]
-mod session;
-#[cfg(test)]
-mod tests;
-mod texts;
-
-use dubp_ledger::Books;
-use dubp_outside::{ReadSource, WriteSink};
-pub use laws::cutting;
-pub use node::Node;
-pub use run::{NO_ROOM, USAGE, run as run_program};
+use dubp_session::{Books, NO_ROOM, Node, ReadSource, Secret, USAGE, WriteSink, run};
 use std::alloc::{AllocError, Global};
 use std::env;
+use std::hash::RandomState;
 use std::io::ErrorKind;
 use std::mem::forget;
 use std::process::ExitCode;
@@ -47,8 +30,8 @@ fn status(rt: &HostRuntime) -> u8 {
     };
     let mut source = ReadSource::new(rt.stdin());
     let mut sink = WriteSink::new(rt.stdout());
-    let mut node = Node::<Books>::new(rt.alloc());
-    let status = run_program(
+    let mut node = Node::<Books>::with_secret(rt.alloc(), secret(rt));
+    let status = run(
         rt.alloc(),
         words.as_slice(),
         &mut source,
@@ -58,6 +41,14 @@ fn status(rt: &HostRuntime) -> u8 {
     // the process ends, and its memory with it: no table has to be taken apart
     forget(node);
     status
+}
+
+// Where the system has no secret to give, the known one: no answer depends on it.
+fn secret(rt: &HostRuntime) -> Secret {
+    match RandomState::new(rt) {
+        Ok(state) => Secret::of(state),
+        Err(_) => Secret::known(),
+    }
 }
 
 // Words that are no text have no form of the program's.

@@ -17,5 +17,6 @@ mod kicked;
 mod next;
 mod writing;
 
+pub use dubp_left::Next;
 pub use applying::apply;
 pub use dubp_registry::Registry as People;

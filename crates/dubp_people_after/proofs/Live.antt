@@ -18,11 +18,11 @@ use Rattle.dubp_cindex.specs.declared.row.CertRow.{CertRow}
 use Rattle.dubp_cindex.specs.Rows.{Rows, Entry, live_to, live_from, rows_about, told}
 use Rattle.dubp_cindex.proofs.Walked as walked
 use Rattle.dubp_cindex.proofs.Entries.{got_in}
-use Rattle.dubp_steps.specs.AfterLines.{now_of, cert_lasting, certification_time, of_pair}
-use Rattle.dubp_steps.proofs.Counts.{live_at_is_of_row, live_step}
-use Rattle.dubp_left.specs.Left.{cert_entry, certification_left, certifications_left}
-use Rattle.dubp_left.proofs.Left.{certifications-at}
-use Rattle.dubp_left.proofs.Looked.{newest-left}
+use Rattle.dubp_registry.specs.Below.{now_of, cert_lasting, certification_time, of_pair}
+use Rattle.dubp_registry.proofs.Below.{live_at_is_of_row, live_step}
+use Rattle.dubp_registry.specs.Below.{cert_entry, certification_left, certifications_left}
+use Rattle.dubp_registry.proofs.Below.{certifications-at}
+use Rattle.dubp_registry.proofs.Below.{newest-left}
 use Rattle.dubp_undo.specs.States.{newest, states}
 use Rattle.dubp_people_after.specs.Near.{HasIssuers, HasReceivers, is_end, is_end_of, is_end_near}
 use Rattle.dubp_people_after.proofs.Lists.{text_flip}

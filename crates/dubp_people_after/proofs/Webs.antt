@@ -8,10 +8,10 @@ use Rattle.dubp_chain.specs.Live.{certified_pairs, live, live_pairs}
 use Rattle.dubp_validity.specs.Rules.{IsSound}
 use Rattle.dubp_lists.proofs.InOrder.{same_text_is, same_text_own}
 use Rattle.dubp_lists.proofs.Elements.{and_left, and_right, any_in, in_any, in_filter, kept_in}
-use Rattle.dubp_steps.proofs.Kicked.{member_named}
-use Rattle.dubp_steps.proofs.Lives.{live_some}
+use Rattle.dubp_registry.proofs.Below.{member_named}
+use Rattle.dubp_registry.proofs.Below.{live_some}
 use Rattle.dubp_iindex.specs.Order as index
-use Rattle.dubp_left.specs.Left.{identities_left}
+use Rattle.dubp_registry.specs.Below.{identities_left}
 use Rattle.dubp_registry.proofs.Followed.{members-shown}
 use Rattle.dubp_iindex.proofs.Members.{members-in_order}
 use Rattle.dubp_wot.specs.Order.{IsInOrder, IsNextMember, IsNextIssuer}

@@ -19,6 +19,7 @@ mod near;
 mod rules;
 mod standing;
 
+pub use dubp_registry::Registry;
 pub use after::{After, Name, WithBlock};
 pub use counted::{joiners_are_certified, stocks_are_kept};
 pub use counts::{issuers, received, stock};

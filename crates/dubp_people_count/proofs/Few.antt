@@ -15,8 +15,8 @@ use Rattle.dubp_validity.specs.Rules.{IsSound}
 use Rattle.dubp_lists.proofs.Elements.{and_left, and_right, not_true, or_left, or_right, list_any-map}
 use Rattle.dubp_lists.proofs.InOrder.{members-once}
 use Rattle.dubp_lists.proofs.LastLines.{last_line-any}
-use Rattle.dubp_steps.proofs.Standing.{some_identity, member_has_entry}
-use Rattle.dubp_steps.proofs.Kicked.{member_named}
+use Rattle.dubp_registry.proofs.Below.{some_identity, member_has_entry}
+use Rattle.dubp_registry.proofs.Below.{member_named}
 
 abbrev of_key : Text → IdentityLine → Bool
 of_key k line = same_text k line.key

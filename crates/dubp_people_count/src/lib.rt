@@ -12,5 +12,6 @@
 mod keys;
 mod members;
 
+pub use dubp_people_after::Standing;
 pub use keys::member_keys;
 pub use members::members_with;

@@ -9,3 +9,4 @@ pub mod Sets
 pub mod Staying
 pub mod Stated
 pub mod Walked
+pub mod Below

@@ -15,7 +15,7 @@ use dubp_block::{Block, MemberLine};
 use dubp_left::Next;
 use dubp_params::Params;
 use dubp_people_after::{After, WithBlock};
-use dubp_registry::Registry;
+use dubp_people_after::Registry;
 use dubp_undo::Tables;
 use dubp_wot::{Web, reaches_among, sentries};
 use std::alloc::Global;

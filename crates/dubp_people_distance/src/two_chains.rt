@@ -18,7 +18,7 @@ use dubp_expiry::{Behind, Due};
 use dubp_left::Next;
 use dubp_params::Params;
 use dubp_people_after::{After, WithBlock};
-use dubp_registry::Registry;
+use dubp_people_after::Registry;
 use dubp_undo::Tables;
 use std::alloc::Global;
 

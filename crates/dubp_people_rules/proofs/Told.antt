@@ -23,7 +23,7 @@ use Rattle.dubp_iindex.specs.declared.row.IdentityRow.{IdentityRow}
 use Rattle.dubp_mindex.specs.declared.member.MemberRow.{MemberRow}
 use Rattle.dubp_lists.proofs.LastLines.{time_of-rises, last_line-any}
 use Rattle.dubp_lists.proofs.Elements.{list_any-map, all_more}
-use Rattle.dubp_steps.proofs.Counts.{live_at_is_of_row}
+use Rattle.dubp_left.proofs.Below.{live_at_is_of_row}
 use Rattle.dubp_left.specs.Left.{identity_entry, identity_left, member_entry, membership_left, cert_entry, certification_left}
 use Rattle.dubp_left.specs.Laws.{time_numbered}
 use Rattle.dubp_left.specs.Next.{IsAsked}

@@ -13,7 +13,7 @@ use crate::keys::push;
 use dubp_atoms::{Dec, Key, NoMemory};
 use dubp_block::Block;
 use dubp_params::Params;
-use dubp_people_after::Standing;
+use dubp_people_count::Standing;
 use dubp_registry::Registry;
 use dubp_undo::Tables;
 use dubp_wot::{Web, d_sen, reaches_among};

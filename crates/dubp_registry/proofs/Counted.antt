@@ -18,7 +18,7 @@ use Rattle.dubp_atoms.specs.Same.{Text}
 use Rattle.dubp_chain.specs.Chains.{Chain}
 use Rattle.dubp_chain.specs.Live.{received, stock, wrote}
 use Rattle.dubp_chain.specs.Tables.{CertificationRow, certification_row}
-use Rattle.dubp_validity.specs.Rules.{IsSound}
+use Rattle.dubp_facts.specs.Below.{IsSound}
 use Rattle.dubp_steps.specs.Ordered.{pair_cmp}
 use Rattle.dubp_steps.specs.Counts as steps
 use Rattle.dubp_steps.specs.Counts.{IsTableOf, IsGreatestWritten}

@@ -10,7 +10,7 @@ use Rattle.dubp_chain.specs.Chains.{Chain}
 use Rattle.dubp_chain.specs.Members as chain
 use Rattle.dubp_chain.specs.Members.{member}
 use Rattle.dubp_chain.specs.Live.{live}
-use Rattle.dubp_validity.specs.Rules.{IsSound}
+use Rattle.dubp_facts.specs.Below.{IsSound}
 use Rattle.dubp_iindex.specs.Order.{IsNext}
 use Rattle.dubp_chain.specs.Tables.{CertificationRow, certification_row}
 use Rattle.dubp_lists.proofs.Elements.{IsIn, in_any, any_in}

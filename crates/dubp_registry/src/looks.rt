@@ -8,7 +8,7 @@ ghost use Rattle.dubp_chain.specs.Made.{made, certification_made};
 ghost use Rattle.dubp_chain.specs.People.{identity_lines, leaving, revoked};
 ghost use Rattle.dubp_chain.specs.Live.{live, received, stock, wrote};
 ghost use Rattle.dubp_chain.specs.Tables.{is_to_be_excluded};
-ghost use Rattle.dubp_validity.specs.Rules.{IsSound};
+ghost use Rattle.dubp_facts.specs.Below.{IsSound};
 ghost use Rattle.dubp_iindex.specs.Order.{IsNext};
 ghost use Rattle.dubp_expiry.specs.Entries.{IsBehind, IsNextDue, NoneIsDue};
 ghost use Rattle.dubp_facts.specs.Facts.{first_at};

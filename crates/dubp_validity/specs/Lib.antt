@@ -5,3 +5,4 @@ pub mod MoneyRules
 pub mod Rules
 pub mod Records
 pub mod Reduced
+pub mod Below

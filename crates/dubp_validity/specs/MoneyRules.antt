@@ -7,7 +7,7 @@ use Rattle.dubp_cond.specs.Truth.{Moment, IsTrueAt}
 use Rattle.dubp_cond.specs.declared.unlock.Unlock.{Unlock}
 use Rattle.dubp_cond.specs.declared.source.Input.{Input}
 use Rattle.dubp_cond.specs.declared.tx.Tx.{Tx}
-use Rattle.dubp_block.specs.declared.block.Block.{Block}
+use Rattle.dubp_chain.specs.Below.{Block}
 use Rattle.dubp_chain.specs.Words.{names, each_once}
 use Rattle.dubp_chain.specs.Chains.{Chain}
 use Rattle.dubp_chain.specs.Heads.{time_of, unit_base_of}

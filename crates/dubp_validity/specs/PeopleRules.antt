@@ -4,13 +4,13 @@ use Rattle.std.specs.Prelude.{◌≡◌, ◌⊎◌, ℕ, ◌+◌, ◌<◌, ◌�
 use Rattle.std.specs.Option.{MatchOption, IsSomeAnd}
 use Rattle.std.specs.List.{AllByRecursion, list_any}
 use Rattle.dubp_atoms.specs.Same.{Text, same_text, same_stamp}
-use Rattle.dubp_docs.specs.Spelling.{signed_text as signed_document}
-use Rattle.dubp_docs.specs.declared.doc.Doc.TheVariants.{Revocation, Certification}
-use Rattle.dubp_block.specs.declared.block.Block.{Block}
-use Rattle.dubp_block.specs.declared.block.IdentityLine.{IdentityLine}
-use Rattle.dubp_block.specs.declared.block.MemberLine.{MemberLine}
-use Rattle.dubp_block.specs.declared.block.RevokedLine.{RevokedLine}
-use Rattle.dubp_block.specs.declared.block.CertLine.{CertLine}
+use Rattle.dubp_chain.specs.Below.{signed_text as signed_document}
+use Rattle.dubp_chain.specs.Below.{Revocation, Certification}
+use Rattle.dubp_chain.specs.Below.{Block}
+use Rattle.dubp_chain.specs.Below.{IdentityLine}
+use Rattle.dubp_chain.specs.Below.{MemberLine}
+use Rattle.dubp_chain.specs.Below.{RevokedLine}
+use Rattle.dubp_chain.specs.Below.{CertLine}
 use Rattle.dubp_atoms.specs.declared.stamp.Stamp.{Stamp}
 use Rattle.dubp_chain.specs.Words.{names}
 use Rattle.dubp_chain.specs.Chains.{Chain, params}

@@ -8,8 +8,8 @@ use Rattle.dubp_cond.specs.Conditions.{cond_text}
 use Rattle.dubp_cond.specs.Sources.{input_text, IsInput}
 use Rattle.dubp_cond.specs.declared.source.Input.{Input}
 use Rattle.dubp_cond.specs.declared.tx.Tx.{Tx}
-use Rattle.dubp_block.specs.declared.block.Block.{Block}
-use Rattle.dubp_block.specs.declared.block.MemberLine.{MemberLine}
+use Rattle.dubp_chain.specs.Below.{Block}
+use Rattle.dubp_chain.specs.Below.{MemberLine}
 use Rattle.dubp_validity.specs.declared.record.Record.{Record}
 use Rattle.dubp_validity.specs.declared.record.Record.TheVariants.{Create, Enter, Exit, Join, Active, Leave, Revoke, Expire, ExpireRev, Cert, CertExpire, Spend, Make, Dividend, Clear}
 use Rattle.dubp_chain.specs.Words.{names, in_order}

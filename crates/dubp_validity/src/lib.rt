@@ -12,4 +12,5 @@
 
 mod record;
 
+pub use dubp_chain::Head;
 pub use record::{Record, put_record};

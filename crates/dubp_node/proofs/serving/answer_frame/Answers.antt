@@ -1,8 +1,0 @@
-use Rattle.std.proofs.Common.{Some, ap, sym, subst, ◌∙◌}
-use Rattle.dubp_script.specs.Spelling.{Says}
-use Rattle.dubp_node.proofs.Items.{frame_turn}
-use Rattle.dubp_node.proofs.serving.answer_frame.Goals as goal
-
-pub returns : goal.returns
-returns g c = λ head says len.
-    frame_turn _ _ head c.args.frame.now _ c.args.last c.command.result c.if-last-ne10.false (subst (Says head) (sym c.command.ensures.is) says) (c.command.ensures.frame ∙ ap Some len) c.act.ensures

@@ -1,5 +1,0 @@
-use Rattle.dubp_node.proofs.Items.{long_frame_turn}
-use Rattle.dubp_node.proofs.serving.answer_long_frame.Goals as goal
-
-pub returns-then-last-eq10 : goal.returns-then-last-eq10
-returns-then-last-eq10 c = λ old head payload h long. long_frame_turn old head payload _ c.args.last c.if-last-eq10.true h long c.refused.ensures

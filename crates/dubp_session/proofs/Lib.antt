@@ -1,0 +1,11 @@
+pub mod Buffers
+pub mod Cuts
+pub mod Exists
+pub mod Givens
+pub mod Items
+pub mod Lines
+pub mod RunSteps
+pub mod Serves
+pub mod Sessions
+pub mod Taking
+pub mod Wholes

@@ -1,0 +1,8 @@
+use Rattle.std.proofs.Common.{arith}
+use Rattle.dubp_session.proofs.Items.{line_turn}
+use Rattle.dubp_session.proofs.serving.answer_line.Goals as goal
+
+pub returns-in-Some : goal.returns-in-Some
+returns-in-Some g c = λ whole.
+    let found = c.in-Some.ensures.found in
+    line_turn _ _ c.args.line.now _ c.as_slice.result.now c.in-Some.command whole (omega arith) (record { is = found.0; text = found.1 }) c.as_slice.ensures c.act.ensures

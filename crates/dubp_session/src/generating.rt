@@ -1,0 +1,165 @@
+ghost use Rattle.std.specs.Prelude.{◌≡◌, ◌≤◌, ◌++◌, List, ℕ, Option, OnOk, OnErr, IfOk, map, reverse};
+ghost use Rattle.std.specs.List.{AllByRecursion};
+ghost use Rattle.dubp_block.specs.Text.{IsBlock};
+ghost use Rattle.dubp_ledger.specs.Traces.{IsShort};
+ghost use Rattle.dubp_gen.specs.Generated.{IsMade};
+ghost use Rattle.dubp_gen.specs.Making.{made_of};
+ghost use Rattle.dubp_session.specs.Run.{at};
+ghost use Rattle.dubp_session.specs.Forms.{GenEnds, GenFaults, IsWritten};
+ghost use Rattle.dubp_turns.specs.Given.{IsGivenAll, block_given, verdict_given};
+ghost use Rattle.dubp_session.specs.Generating.{IsGivenFront, commands_of, shown_text};
+
+use crate::texts::{asked_for, no_block, no_nonce};
+use dubp_atoms::{Hash, Key, NoMemory, Sig, Steps};
+use dubp_block::Block;
+use dubp_gen::{Chain, GenRefusal, make_chain};
+use dubp_ledger::{Ledger, PeopleAndMoney};
+use dubp_outside::{Sink, write_whole};
+use dubp_query::{head_line, money_line};
+use dubp_turns::Node;
+use std::alloc::Global;
+use std::sync::ledger::Ledger as StepBook;
+
+/// How a run that generates ends.
+#[derive(Clone, Copy, PartialEq, Eq)]
+pub enum GenEnding {
+    /// The three lines were written, or the one that says at which block the making ends.
+    Written,
+    WriteFault,
+    /// There was no room, and nothing was written.
+    NoRoom,
+}
+
+/// Makes the chain of `n` blocks that begins with the number `start`, gives it to the node, and writes its head and its money; or writes at
+/// which block the making ends.
+pub fn generate<T: PeopleAndMoney, K: Sink, L: StepBook>(
+    alloc: Global,
+    n: u64,
+    start: u64,
+    sink: &mut K,
+    node: &mut Node<T>,
+    steps: &mut Steps<L>,
+) -> GenEnding
+    requires { n ≤ 5000 }
+    ensures ends { (left : Option (List ℕ)) → GenEnds n start (at node.old left (K.held sink.old)) (at node.new left (K.held sink.new)) result }
+    ensures faults { GenFaults (K.faults sink.old) (K.faults sink.new) result }
+{
+    match make_chain::<T, L>(alloc, n, start, steps) {
+        Ok(chain) => show(alloc, n, start, chain, sink, node, steps),
+        Err(GenRefusal::NoNonce { block }) => write_text(sink, no_nonce(block).as_bytes()),
+        Err(GenRefusal::Invalid { block, rule }) => write_text(
+            sink,
+            no_block(block, rule).as_bytes(),
+        ),
+        Err(GenRefusal::NoMemory) => GenEnding::NoRoom,
+    }
+}
+
+/// Gives a chain that was made to the node, and writes its head and its money.
+fn show<T: PeopleAndMoney, K: Sink, L: StepBook>(
+    alloc: Global,
+    n: u64,
+    start: u64,
+    chain: Chain,
+    sink: &mut K,
+    node: &mut Node<T>,
+    steps: &mut Steps<L>,
+) -> GenEnding
+    requires made { IsMade start n (made_of chain) }
+    requires blocks { AllByRecursion IsBlock (reverse chain.blocks.items) }
+    requires short { AllByRecursion IsShort (reverse chain.blocks.items) }
+    ensures ends { (left : Option (List ℕ)) → GenEnds n start (at node.old left (K.held sink.old)) (at node.new left (K.held sink.new)) result }
+    ensures faults { GenFaults (K.faults sink.old) (K.faults sink.new) result }
+{
+    let Ok(()) = give(node, chain, steps) else {
+        return GenEnding::NoRoom;
+    };
+    let Ok(text) = shown(alloc, n, start, node.ledger()) else {
+        return GenEnding::NoRoom;
+    };
+    write_text(sink, text.as_slice())
+}
+
+/// Gives the verdicts of the chain to the node, and then its blocks.
+fn give<T: PeopleAndMoney, L: StepBook>(
+    node: &mut Node<T>,
+    chain: Chain,
+    steps: &mut Steps<L>,
+) -> Result<(), NoMemory>
+    requires blocks { AllByRecursion IsBlock (reverse chain.blocks.items) }
+    requires short { AllByRecursion IsShort (reverse chain.blocks.items) }
+    ensures all { OnOk result (IsGivenAll (commands_of (made_of chain)) node.old node.new) }
+    ensures front { OnErr result (IsGivenFront (commands_of (made_of chain)) node.old node.new) }
+{
+    let Chain {
+        mut blocks,
+        verdicts,
+    } = chain;
+    give_verdicts(node, verdicts.as_slice())?;
+    blocks.reverse();
+    give_blocks(node, blocks, steps)
+}
+
+fn give_verdicts<T: PeopleAndMoney>(
+    node: &mut Node<T>,
+    verdicts: &[(Key, Hash, Sig)],
+) -> Result<(), NoMemory>
+    ensures all { OnOk result (IsGivenAll (map verdict_given verdicts.now) node.old node.new) }
+    ensures front { OnErr result (IsGivenFront (map verdict_given verdicts.now) node.old node.new) }
+{
+    for verdict in verdicts {
+        node.give_verdict(*verdict)?;
+    }
+    Ok(())
+}
+
+/// Gives the blocks, which stand newest first, in ascending number.
+fn give_blocks<T: PeopleAndMoney, L: StepBook>(
+    node: &mut Node<T>,
+    mut blocks: Vec<Block>,
+    steps: &mut Steps<L>,
+) -> Result<(), NoMemory>
+    requires blocks { AllByRecursion IsBlock blocks.items }
+    requires short { AllByRecursion IsShort blocks.items }
+    ensures all { OnOk result (IsGivenAll (map block_given (reverse blocks.items)) node.old node.new) }
+    ensures front { OnErr result (IsGivenFront (map block_given (reverse blocks.items)) node.old node.new) }
+{
+    while let Some(block) = blocks.pop() {
+        node.give_block(block, steps)?;
+    }
+    Ok(())
+}
+
+/// The three lines: what was asked for, the head, and the money.
+fn shown<T: PeopleAndMoney>(
+    alloc: Global,
+    n: u64,
+    start: u64,
+    ledger: &Ledger<T>,
+) -> Result<Vec<u8>, NoMemory>
+    ensures { IfOk result (λ text. text.items ≡ shown_text n start ledger.now.chain) }
+{
+    ledger.laws();
+    let mut text = Vec::new(alloc);
+    append(&mut text, asked_for(n, start).as_slice())?;
+    append(&mut text, head_line(ledger).as_slice())?;
+    append(&mut text, money_line(ledger.money()).as_slice())?;
+    Ok(text)
+}
+
+fn append(text: &mut Vec<u8>, line: &[u8]) -> Result<(), NoMemory>
+    ensures { OnOk result (text.new.items ≡ text.old.items ++ line.now) }
+{
+    text.extend_from_slice(line).map_err(|_| NoMemory)
+}
+
+/// Writes the text whole, or a front of it.
+fn write_text<K: Sink>(sink: &mut K, text: &[u8]) -> GenEnding
+    ensures written { IsWritten (K.held sink.old) (K.held sink.new) text.now result }
+    ensures faults { GenFaults (K.faults sink.old) (K.faults sink.new) result }
+{
+    match write_whole(sink, text) {
+        Ok(()) => GenEnding::Written,
+        Err(_) => GenEnding::WriteFault,
+    }
+}

@@ -1,0 +1,243 @@
+ghost use Rattle.std.specs.Prelude.{◌≡◌, ◌+◌, ◌-◌, ◌≤◌, ◌++◌, List, ℕ, length, drop, IfOk, OnOk, OnErr, ◌<◌, MatchOption};
+ghost use Rattle.dubp_outside.specs.Causes.{HasCause};
+ghost use Rattle.dubp_session.specs.Cut.{BeginsNone, lacking};
+ghost use Rattle.dubp_validity.specs.Rules.{longest_block};
+ghost use Rattle.dubp_session.specs.Entries.{Entry, Frame as frame_entry, HeadsFrame, IsWhole, Line as line_entry};
+ghost use Rattle.dubp_session.specs.Turns.{EntryServed, EntryTurn};
+ghost use Rattle.dubp_script.specs.Framed.{framed_command, framed_len};
+ghost use Rattle.dubp_script.specs.Spelling.{Says};
+ghost use Rattle.dubp_query.specs.AnswerBytes.{answer_bytes};
+ghost use Rattle.dubp_replay.specs.Turns.{State};
+ghost use Rattle.dubp_session.specs.Session.{Broke};
+ghost use Rattle.dubp_session.specs.Reading.{Shows, Stands, most_at_hand};
+ghost use Rattle.dubp_session.specs.Serving.{TurnWritten, TurnBroke, ServedAll, Finished};
+
+use crate::item::Item;
+use crate::reading::{Found, LONGEST_LINE, Phase, frame_head, line_end, take_one};
+use crate::texts::bad;
+use dubp_atoms::Steps;
+use dubp_laws::conserved;
+use dubp_ledger::PeopleAndMoney;
+use dubp_outside::{Failed, Sink, write_whole};
+use dubp_query::Answer;
+use dubp_script::{Framed, read_command};
+use dubp_turns::Node;
+use dubp_turns::refused;
+use std::sync::ledger::Ledger as StepBook;
+
+/// The node takes its turn, and the answer is written.
+fn take_turn<T: PeopleAndMoney, K: Sink, L: StepBook>(
+    node: &mut Node<T>,
+    sink: &mut K,
+    item: Item<'_>,
+    steps: &mut Steps<L>,
+) -> Result<(), Failed>
+    ensures written { OnOk result (TurnWritten node.old node.new (K.held sink.old) (K.held sink.new) item.entry) }
+    ensures broke { OnErr result (TurnBroke node.old node.new (K.held sink.old) (K.held sink.new) item.entry) }
+    ensures cause { HasCause (K.faults sink.old) (K.faults sink.new) result }
+{
+    let answer = answer_item(node, item, steps);
+    write_whole(sink, answer.as_bytes())
+}
+
+// The answer to an entry, and behind it the money adds up.
+fn answer_item<T: PeopleAndMoney, L: StepBook>(
+    node: &mut Node<T>,
+    item: Item<'_>,
+    steps: &mut Steps<L>,
+) -> Answer
+    ensures { (entry : Entry) → IsWhole entry → Shows item.entry entry → EntryTurn node.old entry (answer_bytes result) node.new }
+{
+    let answer = answer_of(node, item, steps);
+    node.ledger().laws();
+    conserved();
+    answer
+}
+
+// The answer to an entry.
+fn answer_of<T: PeopleAndMoney, L: StepBook>(
+    node: &mut Node<T>,
+    item: Item<'_>,
+    steps: &mut Steps<L>,
+) -> Answer
+    ensures { (entry : Entry) → IsWhole entry → Shows item.entry entry → EntryServed node.old entry (answer_bytes result) node.new }
+{
+    match item {
+        Item::LongLine => bad(),
+        Item::Line(line) => answer_line(node, line, steps),
+        Item::Frame(framed, frame, last) => answer_frame(node, framed, frame, last, steps),
+        Item::LongFrame(last) => answer_long_frame(last),
+    }
+}
+
+fn answer_line<T: PeopleAndMoney, L: StepBook>(
+    node: &mut Node<T>,
+    line: &[u8],
+    steps: &mut Steps<L>,
+) -> Answer
+    ensures { IsWhole (line_entry line.now) → EntryServed node.old (line_entry line.now) (answer_bytes result) node.new }
+{
+    if line.len() > LONGEST_LINE {
+        return bad();
+    }
+    match read_command(line) {
+        Some(command) => node.act(&command, b"".as_slice(), steps),
+        None => bad(),
+    }
+}
+
+fn answer_frame<T: PeopleAndMoney, L: StepBook>(
+    node: &mut Node<T>,
+    framed: Framed,
+    frame: &[u8],
+    last: u8,
+    steps: &mut Steps<L>,
+) -> Answer
+    ensures { (head : List ℕ) → Says head (framed_command framed) → framed_len framed ≡ length frame.now → EntryServed node.old (frame_entry head frame.now last) (answer_bytes result) node.new }
+{
+    if last != b'\n' {
+        return bad();
+    }
+    node.act(&framed.command(), frame, steps)
+}
+
+// The frame was read past, and the node is left as it is.
+fn answer_long_frame(last: u8) -> Answer
+    ensures { (old : State) (head payload : List ℕ) → HeadsFrame head (length payload) → longest_block < length payload → EntryServed old (frame_entry head payload last) (answer_bytes result) old }
+{
+    if last == b'\n' {
+        refused(b"X01")
+    } else {
+        bad()
+    }
+}
+
+fn skip(bytes: &[u8], count: usize) -> &[u8]
+    requires { count ≤ length bytes.now }
+    ensures { result.now ≡ drop count bytes.now }
+{
+    &bytes[count..]
+}
+
+/// Answers each whole command at hand. Gives how the bytes go on, and how many are left at hand.
+pub fn serve<T: PeopleAndMoney, K: Sink, L: StepBook>(
+    node: &mut Node<T>,
+    sink: &mut K,
+    phase: Phase,
+    hand: &[u8],
+    steps: &mut Steps<L>,
+) -> Result<(Phase, usize), Failed>
+    ensures served { IfOk result (λ r. (bytes : List ℕ) → Stands phase hand.now bytes →
+        ServedAll node.old node.new (K.held sink.old) (K.held sink.new) bytes r.0 (drop (length hand.now - r.1) hand.now)) }
+    ensures left { IfOk result (λ r. (r.1 ≤ length hand.now) × (r.1 ≤ most_at_hand)) }
+    ensures broke { OnErr result ((bytes : List ℕ) → Stands phase hand.now bytes →
+        Broke node.old node.new (K.held sink.old) (K.held sink.new) bytes) }
+    ensures cause { HasCause (K.faults sink.old) (K.faults sink.new) result }
+{
+    let mut phase = phase;
+    let mut rest = hand;
+    'commands: loop {
+        match take_one(phase, rest) {
+            Found::Wait => return Ok((phase, rest.len())),
+            Found::Pass(used, next) => {
+                phase = next;
+                rest = skip(rest, used);
+            }
+            Found::Got(used, item) => {
+                if let Err(failed) = take_turn(node, sink, item, steps) {
+                    return Err(failed);
+                }
+                phase = Phase::Start;
+                rest = skip(rest, used);
+            }
+        }
+    }
+}
+
+/// Where the input ended.
+#[derive(Clone, Copy, Debug, PartialEq, Eq)]
+pub enum InputEnd {
+    /// On the boundary of an entry: no frame was begun.
+    OnBoundary,
+    /// Inside a frame.
+    InsideFrame,
+}
+
+/// Answers the last line where it lacks its LF, at the end of the input.
+pub fn finish<T: PeopleAndMoney, K: Sink, L: StepBook>(
+    node: &mut Node<T>,
+    sink: &mut K,
+    phase: Phase,
+    hand: &[u8],
+    steps: &mut Steps<L>,
+) -> Result<InputEnd, Failed>
+    ensures finished { IfOk result (λ end. (bytes : List ℕ) → Stands phase hand.now bytes → BeginsNone bytes →
+        Finished node.old node.new (K.held sink.old) (K.held sink.new) bytes end) }
+    ensures broke { OnErr result ((bytes : List ℕ) → Stands phase hand.now bytes → BeginsNone bytes →
+        Broke node.old node.new (K.held sink.old) (K.held sink.new) (bytes ++ lacking bytes)) }
+    ensures cause { HasCause (K.faults sink.old) (K.faults sink.new) result }
+{
+    match phase {
+        Phase::LongFrame(_) => Ok(InputEnd::InsideFrame),
+        Phase::LongLine => {
+            if let Err(failed) = take_turn(node, sink, Item::LongLine, steps) {
+                return Err(failed);
+            }
+            Ok(InputEnd::OnBoundary)
+        }
+        Phase::Start => finish_line(node, sink, hand, steps),
+    }
+}
+
+fn finish_line<T: PeopleAndMoney, K: Sink, L: StepBook>(
+    node: &mut Node<T>,
+    sink: &mut K,
+    hand: &[u8],
+    steps: &mut Steps<L>,
+) -> Result<InputEnd, Failed>
+    ensures finished { IfOk result (λ end. BeginsNone hand.now →
+        Finished node.old node.new (K.held sink.old) (K.held sink.new) hand.now end) }
+    ensures broke { OnErr result (Broke node.old node.new (K.held sink.old) (K.held sink.new) (hand.now ++ lacking hand.now)) }
+    ensures cause { HasCause (K.faults sink.old) (K.faults sink.new) result }
+{
+    if hand.is_empty() {
+        return Ok(InputEnd::OnBoundary);
+    }
+    if let Some(_) = line_end(hand) {
+        return Ok(InputEnd::InsideFrame);
+    }
+    match last_item(hand) {
+        None => Ok(InputEnd::InsideFrame),
+        Some(item) => finish_item(node, sink, item, hand, steps),
+    }
+}
+
+// The line as an item, unless it heads a frame.
+fn last_item<'a>(line: &'a [u8]) -> Option<Item<'a>>
+    ensures { MatchOption result ((len : ℕ) × HeadsFrame line.now len) (λ item. ((len : ℕ) → HeadsFrame line.now len → ⊥) × Shows item (line_entry line.now)) }
+{
+    match frame_head(line) {
+        None => Some(Item::Line(line)),
+        Some(_) => None,
+    }
+}
+
+fn finish_item<T: PeopleAndMoney, K: Sink, L: StepBook>(
+    node: &mut Node<T>,
+    sink: &mut K,
+    item: Item<'_>,
+    hand: &[u8],
+    steps: &mut Steps<L>,
+) -> Result<InputEnd, Failed>
+    requires some { 0 < length hand.now }
+    requires whole { IsWhole (line_entry hand.now) }
+    requires shows { Shows item (line_entry hand.now) }
+    ensures finished { IfOk result (λ end. Finished node.old node.new (K.held sink.old) (K.held sink.new) hand.now end) }
+    ensures broke { OnErr result (Broke node.old node.new (K.held sink.old) (K.held sink.new) (hand.now ++ lacking hand.now)) }
+    ensures cause { HasCause (K.faults sink.old) (K.faults sink.new) result }
+{
+    match take_turn(node, sink, item, steps) {
+        Ok(()) => Ok(InputEnd::OnBoundary),
+        Err(failed) => Err(failed),
+    }
+}

@@ -1,0 +1,5 @@
+pub mod Branches
+pub mod Decisions
+pub mod Given
+pub mod Long
+pub mod Outside
