@@ -11,8 +11,7 @@ use crate::values::{add, put_spaced};
 use arrayvec::ArrayVec;
 use dubp_atoms::{Key, Line, NoMemory, put_bytes};
 use dubp_block::Block;
-use dubp_people_views::{CertificationView, certs};
-use dubp_people_views::Registry;
+use dubp_people_views::{CertificationView, Registry, certs};
 use dubp_undo::Tables;
 use std::alloc::Global;
 

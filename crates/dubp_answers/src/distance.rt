@@ -11,8 +11,7 @@ use crate::values::{none_line, put_spaced};
 use arrayvec::ArrayVec;
 use dubp_atoms::{Key, Line, NoMemory, put_bytes};
 use dubp_block::Block;
-use dubp_people_views::{DistanceView, distance};
-use dubp_people_views::Registry;
+use dubp_people_views::{DistanceView, Registry, distance};
 use dubp_undo::Tables;
 use std::alloc::Global;
 

@@ -10,8 +10,7 @@ use crate::values::{none_line, put_spaced};
 use arrayvec::ArrayVec;
 use dubp_atoms::{Key, Line, Uid, put_bytes};
 use dubp_block::Block;
-use dubp_people_views::{IdentityState, IdentityView, identity, key_of};
-use dubp_people_views::Registry;
+use dubp_people_views::{IdentityState, IdentityView, Registry, identity, key_of};
 use dubp_undo::Tables;
 
 /// The answer to IDENTITY: what is told of the identity of the key, or `NONE` where it has none. It takes no memory.

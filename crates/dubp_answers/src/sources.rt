@@ -12,8 +12,7 @@ use arrayvec::ArrayVec;
 use dubp_atoms::{Line, NoMemory, put_bytes, put_number};
 use dubp_block::Block;
 use dubp_cond::{CondText, SourceId};
-use dubp_money_views::Money;
-use dubp_money_views::{SourceView, sources};
+use dubp_money_views::{Money, SourceView, sources};
 use dubp_undo::Tables;
 use std::alloc::Global;
 

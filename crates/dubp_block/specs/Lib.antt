@@ -7,4 +7,5 @@ pub mod RefusedLine
 pub mod Refusals
 pub mod ReadingLines
 pub mod Reading
-pub mod Below
+pub mod OfParams
+pub mod OfCond

@@ -28,6 +28,8 @@ mod writing;
 
 pub use block::{Block, CertLine, IdentityLine, MemberLine, RevokedLine};
 pub use copying::copy_block;
+pub use dubp_cond::{Input, put_input};
+pub use dubp_params::Params;
 pub use hashing::{block_hash, inner_hash, inner_hash_of, stamp_of};
 pub use reading::read_block;
 pub use refusal::ReadRefusal;

@@ -11,10 +11,10 @@ use Rattle.dubp_chain.specs.declared.head.Head.{Head}
 use Rattle.dubp_chain.specs.Chains.{Chain}
 use Rattle.dubp_chain.specs.Heads.{head_of, time_of}
 use Rattle.dubp_chain.specs.Money.{hashes_in}
-use Rattle.dubp_money.proofs.Hashes.{whole_hashes-all}
-use Rattle.dubp_people.specs.Below.{IsAsked}
-use Rattle.dubp_people.specs.Below.{Next}
-use Rattle.dubp_local.specs.Local.{all_hashes}
+use Rattle.dubp_money_checks.proofs.OfMoney.{whole_hashes-all}
+use Rattle.dubp_people.specs.OfLeft.{IsAsked}
+use Rattle.dubp_people.specs.OfLeft.{Next}
+use Rattle.dubp_judge.specs.OfLocal.{all_hashes}
 use Rattle.dubp_judge.specs.Judged.{IsToJudge}
 use Rattle.dubp_judge.specs.Parts.{people_rules, money_rules, table_parts}
 

@@ -1,3 +1,3 @@
 pub mod Kinds
 pub mod Paid
-pub mod Below
+pub mod OfJudge

@@ -16,7 +16,7 @@ mod judging;
 mod leaving;
 mod writing;
 
-pub use dubp_judge::{Judgement, Judges, judge};
 pub use books::Books;
-pub use dubp_money::Money;
+pub use dubp_judge::{Judgement, Judges, judge};
+pub use dubp_money_checks::Money;
 pub use dubp_people::People;

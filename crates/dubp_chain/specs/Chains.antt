@@ -1,10 +1,10 @@
 -- A chain of blocks: its blocks by number, its first block, its parameters and its currency. Protocol: chains.
 use Rattle.std.specs.Prelude.{ℕ, List, [], ◌∷◌, reverse, slice_get, Option, Some, None, unwrap_or, option_and_then}
 use Rattle.std.specs.Option.{option_map_or}
-use Rattle.dubp_atoms.specs.Same.{Text}
-use Rattle.dubp_atoms.specs.declared.dec.Dec.{Dec}
+use Rattle.dubp_time.specs.OfAtoms.{Text}
+use Rattle.dubp_time.specs.OfAtoms.{Dec}
 use Rattle.dubp_block.specs.declared.block.Block.{Block}
-use Rattle.dubp_block.specs.Below.{Params}
+use Rattle.dubp_block.specs.OfParams.{Params}
 
 -- the blocks, newest first: 'the chain with a block behind it' is the list with the block at its front
 abbrev pub Chain : Type 0

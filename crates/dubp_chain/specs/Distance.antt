@@ -1,7 +1,7 @@
 -- Whether a key is near enough to the sentries. Protocol: distance.
 use Rattle.std.specs.Prelude.{ℕ, ◌*◌, ◌^◌, ◌≤◌, List, length}
-use Rattle.dubp_atoms.specs.Same.{Text}
-use Rattle.dubp_atoms.specs.Walks.{sentries_of, others, IsReachedBy}
+use Rattle.dubp_time.specs.OfAtoms.{Text}
+use Rattle.dubp_time.specs.OfAtoms.{sentries_of, others, IsReachedBy}
 use Rattle.dubp_chain.specs.Chains.{Chain, params}
 use Rattle.dubp_chain.specs.Members.{members}
 use Rattle.dubp_chain.specs.Live.{live_pairs}

@@ -1,5 +1,5 @@
 -- The stamp of a chain's last block. Protocol: head values.
-use Rattle.dubp_atoms.specs.declared.stamp.Stamp.{Stamp}
+use Rattle.dubp_time.specs.OfAtoms.{Stamp}
 use Rattle.dubp_chain.specs.declared.head.Head.{Head}
 
 abbrev pub head_stamp : Head → Stamp

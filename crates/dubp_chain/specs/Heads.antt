@@ -3,10 +3,10 @@
 use Rattle.std.specs.Prelude.{ℕ, ◌+◌, ◌-◌, ◌*◌, ◌^◌, ◌/◌, max, min, pos, Bool, List, [], ◌∷◌, Option, Some, None, unwrap_or, find, map, take, length, count_by, sum_by, slice_index_or, nat_le, if◌then◌else◌}
 use Rattle.std.specs.Option.{option_map_or}
 use Rattle.std.specs.Set.{distinct_count, unique_keys}
-use Rattle.dubp_atoms.specs.Same.{Text, same_text}
+use Rattle.dubp_time.specs.OfAtoms.{Text, same_text}
 use Rattle.dubp_block.specs.declared.block.Block.{Block}
 use Rattle.dubp_block.specs.Text.{block_hash_of, size_of}
-use Rattle.dubp_block.specs.Below.{Params}
+use Rattle.dubp_block.specs.OfParams.{Params}
 use Rattle.dubp_time.specs.Median.{ranked, median_of}
 use Rattle.dubp_pow.specs.Frames.{next_frame_of, next_var_of}
 use Rattle.dubp_pow.specs.LeastDifficulty.{next_pow_min_of}

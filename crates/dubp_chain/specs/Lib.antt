@@ -9,5 +9,10 @@ pub mod Live
 pub mod Distance
 pub mod Money
 pub mod Tables
-pub mod Below
-pub mod BlockTexts
+pub mod OfPow
+pub mod OfDocs
+pub mod OfBlock
+pub mod OfDividend
+pub mod OfParams
+pub mod OfAtoms
+pub mod OfCond

@@ -1,7 +1,7 @@
 -- When what a line of a block names was made. Protocol: the time of a stamp.
 use Rattle.std.specs.Prelude.{ℕ, ◌==◌, [], ◌∷◌, Option, Some, None, option_map, find, if◌then◌else◌}
-use Rattle.dubp_atoms.specs.Same.{same_stamp, empty_stamp}
-use Rattle.dubp_atoms.specs.declared.stamp.Stamp.{Stamp}
+use Rattle.dubp_time.specs.OfAtoms.{same_stamp, empty_stamp}
+use Rattle.dubp_time.specs.OfAtoms.{Stamp}
 use Rattle.dubp_block.specs.declared.block.Block.{Block}
 use Rattle.dubp_block.specs.declared.block.CertLine.{CertLine}
 use Rattle.dubp_chain.specs.declared.head.Head.{Head}

@@ -1,7 +1,7 @@
 -- Who is a member of a chain. Protocol: people.
 use Rattle.std.specs.Prelude.{Bool, true, false, List, [], ◌∷◌, filter, map, if◌then◌else◌}
 use Rattle.std.specs.List.{list_any, flat_map}
-use Rattle.dubp_atoms.specs.Same.{Text, same_text}
+use Rattle.dubp_time.specs.OfAtoms.{Text, same_text}
 use Rattle.dubp_block.specs.declared.block.MemberLine.{MemberLine}
 use Rattle.dubp_chain.specs.Words.{names, in_order}
 use Rattle.dubp_chain.specs.Chains.{Chain}

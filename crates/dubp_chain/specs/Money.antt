@@ -1,14 +1,14 @@
 -- The money of a chain: the sources that were made, used and cleared, what is left, and what a condition has. Protocol: money.
 use Rattle.std.specs.Prelude.{ℕ, Bool, false, not, ◌&&◌, ◌==◌, List, [], ◌∷◌, ◌++◌, Option, Some, None, map, filter, sum_by, nat_lt}
 use Rattle.std.specs.List.{list_any, flat_map, enumerate_from}
-use Rattle.dubp_atoms.specs.Same.{Text, same_text}
-use Rattle.dubp_block.specs.Below.{CondTree, sig, no_items, add_item, no_alls, add_all}
-use Rattle.dubp_block.specs.Below.{cond_text}
-use Rattle.dubp_block.specs.Below.{SourceId}
-use Rattle.dubp_block.specs.Below.{D, T}
-use Rattle.dubp_block.specs.Below.{Input}
-use Rattle.dubp_block.specs.Below.{Output}
-use Rattle.dubp_block.specs.Below.{Tx}
+use Rattle.dubp_time.specs.OfAtoms.{Text, same_text}
+use Rattle.dubp_block.specs.OfCond.{CondTree, sig, no_items, add_item, no_alls, add_all}
+use Rattle.dubp_block.specs.OfCond.{cond_text}
+use Rattle.dubp_block.specs.OfCond.{SourceId}
+use Rattle.dubp_block.specs.OfCond.{D, T}
+use Rattle.dubp_block.specs.OfCond.{Input}
+use Rattle.dubp_block.specs.OfCond.{Output}
+use Rattle.dubp_block.specs.OfCond.{Tx}
 use Rattle.dubp_docs.specs.Spelling.{tx_hash}
 use Rattle.dubp_block.specs.declared.block.Block.{Block}
 use Rattle.dubp_chain.specs.Chains.{Chain}

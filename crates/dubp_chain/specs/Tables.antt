@@ -2,11 +2,11 @@
 use Rattle.std.specs.Prelude.{ℕ, Bool, false, not, ◌&&◌, ◌==◌, [], ◌∷◌, Option, Some, None, option_map, is_some, unwrap_or, find, length}
 use Rattle.std.specs.Option.{option_map_or}
 use Rattle.std.specs.List.{enumerate_from}
-use Rattle.dubp_atoms.specs.Same.{Text}
-use Rattle.dubp_atoms.specs.declared.stamp.Stamp.{Stamp}
-use Rattle.dubp_block.specs.Below.{cond_text}
-use Rattle.dubp_block.specs.Below.{SourceId}
-use Rattle.dubp_block.specs.Below.{Params}
+use Rattle.dubp_time.specs.OfAtoms.{Text}
+use Rattle.dubp_time.specs.OfAtoms.{Stamp}
+use Rattle.dubp_block.specs.OfCond.{cond_text}
+use Rattle.dubp_block.specs.OfCond.{SourceId}
+use Rattle.dubp_block.specs.OfParams.{Params}
 use Rattle.dubp_chain.specs.Words.{names}
 use Rattle.dubp_chain.specs.Chains.{Chain, params, currency}
 use Rattle.dubp_chain.specs.Members.{member}

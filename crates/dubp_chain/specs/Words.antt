@@ -5,7 +5,7 @@ use Rattle.std.specs.Option.{option_or}
 use Rattle.std.specs.Cmp.Lexicographic.{slice_cmp}
 use Rattle.std.specs.Ordering.{nat_cmp}
 use Rattle.std.specs.FinMap.Entries.{put}
-use Rattle.dubp_atoms.specs.Same.{Text, same_text}
+use Rattle.dubp_time.specs.OfAtoms.{Text, same_text}
 
 -- the last element that passes the test
 abbrev pub last_of : {X : Type 0} → (X → Bool) → List X → Option X

@@ -1,4 +1,4 @@
-use dubp_atoms::{Hash, Key, Stamp};
+use dubp_time::{Hash, Key, Stamp};
 
 /// The values of a chain at its last block.
 ///

@@ -11,4 +11,6 @@
 
 mod head;
 
+pub use dubp_block::{Block, CertLine, Input, Params, put_input};
+pub use dubp_docs::certification_hash;
 pub use head::Head;

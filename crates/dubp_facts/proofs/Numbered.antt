@@ -4,15 +4,15 @@ use Rattle.std.specs.Prelude.{⊤, find, ◌&&◌, ◌==◌}
 use Rattle.std.proofs.lemmas.Bool.{ne_eqb, eqb-true, eqb-false, eq-eqb}
 use Rattle.dubp_atoms.specs.Same.{same_text, same_stamp}
 use Rattle.dubp_atoms.specs.declared.stamp.Stamp.{Stamp}
-use Rattle.dubp_rules.specs.declared.rule.Rule.TheVariants.{G51}
+use Rattle.dubp_validity.specs.OfRules.{G51}
 use Rattle.dubp_params.specs.declared.params.Params.{Params}
-use Rattle.dubp_block.specs.declared.block.Block.{Block}
-use Rattle.dubp_validity.specs.Below.{Head}
-use Rattle.dubp_validity.specs.Below.{head_stamp}
-use Rattle.dubp_validity.specs.Below.{Chain, params}
-use Rattle.dubp_validity.specs.Below.{members}
-use Rattle.dubp_validity.specs.Below.{heads_of, next_head}
-use Rattle.dubp_validity.specs.Below.{head_stamped, head_numbered}
+use Rattle.dubp_validity.specs.OfBlock.{Block}
+use Rattle.dubp_validity.specs.OfChain.{Head}
+use Rattle.dubp_validity.specs.OfChain.{head_stamp}
+use Rattle.dubp_validity.specs.OfChain.{Chain, params}
+use Rattle.dubp_validity.specs.OfChain.{members}
+use Rattle.dubp_validity.specs.OfChain.{heads_of, next_head}
+use Rattle.dubp_validity.specs.OfChain.{head_stamped, head_numbered}
 use Rattle.dubp_validity.specs.Rules.{IsSound}
 
 -- each head has a number below n

@@ -12,17 +12,17 @@ use Rattle.std.proofs.lemmas.Bool.Decides.{eqb_tells}
 use Rattle.std.specs.Cmp.Lexicographic.{same_text as equal_texts}
 use Rattle.dubp_atoms.specs.Same.{same_text, same_stamp, empty_stamp}
 use Rattle.dubp_atoms.specs.declared.stamp.Stamp.{Stamp}
-use Rattle.dubp_block.specs.declared.block.Block.{Block}
-use Rattle.dubp_block.specs.declared.block.CertLine.{CertLine}
-use Rattle.dubp_block.specs.Text.{IsFirstParams}
+use Rattle.dubp_validity.specs.OfBlock.{Block}
+use Rattle.dubp_validity.specs.OfBlock.{CertLine}
+use Rattle.dubp_validity.specs.OfBlock.{IsFirstParams}
 use Rattle.dubp_params.specs.declared.params.Params.{Params}
 use Rattle.dubp_undo.specs.Numbers.{plus, add_last}
 use Rattle.dubp_undo.specs.States.{AtMostMore}
 use Rattle.dubp_undo.proofs.Numbers.{plus-add_last}
-use Rattle.dubp_validity.specs.Below.{Head}
-use Rattle.dubp_validity.specs.Below.{Chain}
-use Rattle.dubp_validity.specs.Below.{head_of}
-use Rattle.dubp_validity.specs.Below.{made, certification_made, head_numbered}
+use Rattle.dubp_validity.specs.OfChain.{Head}
+use Rattle.dubp_validity.specs.OfChain.{Chain}
+use Rattle.dubp_validity.specs.OfChain.{head_of}
+use Rattle.dubp_validity.specs.OfChain.{made, certification_made, head_numbered}
 use Rattle.dubp_validity.specs.Rules.{IsSound}
 use Rattle.dubp_facts.specs.Facts.{first_at, first_after, block_time, time_at, time_of_stamp, IsNext}
 use Rattle.dubp_facts.specs.declared.facts.First.{First}

@@ -6,12 +6,12 @@ use Rattle.std.specs.declared.cmp.Ordering.{Ordering}
 use Rattle.std.specs.declared.cmp.Ordering.TheVariants.{Equal}
 use Rattle.dubp_atoms.specs.Same.{same_text}
 use Rattle.dubp_atoms.specs.declared.stamp.Stamp.{Stamp}
-use Rattle.dubp_block.specs.declared.block.Block.{Block}
-use Rattle.dubp_block.specs.Text.{IsBlock}
-use Rattle.dubp_validity.specs.Below.{Head}
-use Rattle.dubp_validity.specs.Below.{Chain, params, currency}
-use Rattle.dubp_validity.specs.Below.{head_of}
-use Rattle.dubp_validity.specs.Below.{head_numbered}
+use Rattle.dubp_validity.specs.OfBlock.{Block}
+use Rattle.dubp_validity.specs.OfBlock.{IsBlock}
+use Rattle.dubp_validity.specs.OfChain.{Head}
+use Rattle.dubp_validity.specs.OfChain.{Chain, params, currency}
+use Rattle.dubp_validity.specs.OfChain.{head_of}
+use Rattle.dubp_validity.specs.OfChain.{head_numbered}
 use Rattle.dubp_validity.specs.HeadRules.{NumberIsNext}
 use Rattle.dubp_facts.specs.declared.facts.First.{First}
 use Rattle.dubp_facts.specs.declared.facts.BlockTime.{BlockTime}

@@ -2,9 +2,9 @@ ghost use Rattle.std.specs.Prelude.{◌≡◌, ◌↔◌, IsTrue, ℕ, ◌≤◌
 ghost use Rattle.dubp_undo.specs.Definition.{IsMarked, SameMaps};
 ghost use Rattle.dubp_undo.specs.MovingTable.{get, IsPlaced};
 ghost use Rattle.dubp_undo.specs.Numbers.{counts, settled};
-ghost use Rattle.dubp_block.specs.declared.block.Block.{Block as BlockValue};
-ghost use Rattle.dubp_validity.specs.Below.{Chain};
-ghost use Rattle.dubp_validity.specs.Below.{made, certification_made, certification_stamp};
+ghost use Rattle.dubp_validity.specs.OfBlock.{Block as BlockValue};
+ghost use Rattle.dubp_validity.specs.OfChain.{Chain};
+ghost use Rattle.dubp_validity.specs.OfChain.{made, certification_made, certification_stamp};
 ghost use Rattle.dubp_validity.specs.Rules.{IsSound};
 ghost use Rattle.dubp_undo.specs.States.{AtMostMore};
 ghost use Rattle.dubp_facts.specs.Facts.{one, first_after, first_at, time_at, time_of_stamp, IsNext};
@@ -12,10 +12,8 @@ ghost use Rattle.dubp_facts.specs.declared.facts.BlockTime.{BlockTime as BlockTi
 ghost use Rattle.dubp_atoms.specs.Same.{empty_stamp};
 
 use dubp_atoms::{Currency, Hash, NoMemory, Stamp, Steps};
-use dubp_block::{Block, CertLine};
-use dubp_validity::Head;
-use dubp_params::Params;
 use dubp_undo::{Both, Definition, Leaf, Tables};
+use dubp_validity::{Block, CertLine, Head, Params};
 use std::alloc::Global;
 use std::sync::ledger::Ledger as StepBook;
 

@@ -11,7 +11,7 @@ use Rattle.dubp_atoms.specs.declared.stamp.Stamp.{Stamp}
 use Rattle.dubp_block.specs.declared.block.Block.{Block}
 use Rattle.dubp_block.specs.Text.{stamp_of}
 use Rattle.dubp_verdict.specs.Verdicts.{Verdicts}
-use Rattle.dubp_kept.specs.KeptChain.{KeptChain}
+use Rattle.dubp_ledger.specs.OfKept.{KeptChain}
 use Rattle.dubp_chain.specs.Chains.{Chain}
 use Rattle.dubp_replay.specs.Turns.{is_known, is_stamped, most_stored, stored, without}
 use Rattle.dubp_forks.specs.Stores.{AreOutside, AreStored, IsStorable, has_stamp_of, state_of}

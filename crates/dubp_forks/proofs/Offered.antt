@@ -7,7 +7,7 @@ use Rattle.dubp_rules.specs.declared.rule.Rule.{Rule}
 use Rattle.dubp_rules.specs.declared.rule.Rule.TheVariants.{X01, P01}
 use Rattle.dubp_rules.specs.First.{IsFirst}
 use Rattle.dubp_rules.proofs.FirstLaws.{IsFirst_from_FirstOf, FirstOf_from_IsFirst, FirstOf_same}
-use Rattle.dubp_local.specs.Local.{local_rules}
+use Rattle.dubp_ledger.specs.OfLocal.{local_rules}
 use Rattle.dubp_validity.specs.Rules.{Holds, HoldsRaw, IsTextOf, longest_block}
 use Rattle.dubp_replay.specs.Turns.{State, offer_rules}
 use Rattle.dubp_forks.specs.Offering.{Added, Checked, FirstLocal}

@@ -11,7 +11,7 @@ use Rattle.dubp_block.specs.Text.{stamp_of}
 use Rattle.dubp_chain.specs.Chains.{Chain}
 use Rattle.dubp_verdict.specs.Verdicts.{Verdicts}
 use Rattle.dubp_validity.specs.Rules.{FirstBroken}
-use Rattle.dubp_kept.specs.KeptChain.{KeptChain, Out, kept_of, with_block}
+use Rattle.dubp_ledger.specs.OfKept.{KeptChain, Out, kept_of, with_block}
 use Rattle.dubp_replay.specs.Turns.{is_on, is_stamped, stored}
 use Rattle.dubp_forks.specs.Stores as stores
 use Rattle.dubp_forks.specs.Entries.{Entries, entries_of}

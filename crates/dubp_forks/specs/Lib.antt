@@ -4,3 +4,5 @@ pub mod Switches
 pub mod Entries
 pub mod Offering
 pub mod Switching
+pub mod OfLedger
+pub mod OfKept

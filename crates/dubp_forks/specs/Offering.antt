@@ -7,7 +7,7 @@ use Rattle.dubp_rules.specs.declared.rule.Rule.{Rule}
 use Rattle.dubp_rules.specs.declared.rule.Rule.TheVariants.{X01, P01}
 use Rattle.dubp_rules.specs.First.{IsFirst}
 use Rattle.dubp_validity.specs.Rules.{Holds}
-use Rattle.dubp_local.specs.Local.{local_rules}
+use Rattle.dubp_ledger.specs.OfLocal.{local_rules}
 use Rattle.dubp_replay.specs.Turns.{State, is_known, most_stored}
 use Rattle.dubp_forks.specs.declared.refusals.OfferRefusal.{OfferRefusal}
 use Rattle.dubp_forks.specs.declared.refusals.OfferRefusal.TheVariants.{Unread, Local, Known, Full, NoMemory}

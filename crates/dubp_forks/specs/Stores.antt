@@ -6,7 +6,7 @@ use Rattle.dubp_block.specs.Text.{IsBlock, block_text, stamp_of}
 use Rattle.dubp_verdict.specs.Verdicts.{Verdicts}
 use Rattle.dubp_validity.specs.Rules.{longest_block}
 use Rattle.dubp_chain.specs.Chains.{Chain}
-use Rattle.dubp_kept.specs.KeptChain.{KeptChain}
+use Rattle.dubp_ledger.specs.OfKept.{KeptChain}
 use Rattle.dubp_replay.specs.Turns.{State, is_stamped, most_stored}
 
 -- a block in range, whose text is no longer than blocks are read

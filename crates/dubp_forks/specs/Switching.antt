@@ -7,7 +7,7 @@ use Rattle.dubp_block.specs.Text.{stamp_of}
 use Rattle.dubp_chain.specs.Chains.{Chain}
 use Rattle.dubp_verdict.specs.Verdicts.{Verdicts}
 use Rattle.dubp_validity.specs.Rules.{FirstBroken}
-use Rattle.dubp_kept.specs.KeptChain.{KeptChain}
+use Rattle.dubp_ledger.specs.OfKept.{KeptChain}
 use Rattle.dubp_replay.specs.Turns.{BreaksAt, IsAcceptedOn, IsPath, is_on, most_stored, stored}
 use Rattle.dubp_forks.specs.Stores.{AreApart}
 use Rattle.dubp_forks.specs.Entries.{Entries, entries_of}

@@ -17,5 +17,6 @@ mod refusals;
 mod store;
 mod switching;
 
+pub use dubp_ledger::{Ledger, PeopleAndMoney, SubmitRefusal, TooDeep};
 pub use refusals::{OfferRefusal, SwitchRefusal};
 pub use store::Store;

@@ -5,7 +5,7 @@ ghost use Rattle.dubp_atoms.specs.Same.{same_stamp};
 ghost use Rattle.dubp_block.specs.Text.{stamp_of as block_stamp};
 ghost use Rattle.dubp_block.specs.declared.block.Block.{Block as BlockValue};
 ghost use Rattle.dubp_chain.specs.Chains.{Chain};
-ghost use Rattle.dubp_kept.specs.KeptChain.{with_block};
+ghost use Rattle.dubp_ledger.specs.OfKept.{with_block};
 ghost use Rattle.dubp_validity.specs.Rules.{FirstBroken, IsSound};
 ghost use Rattle.dubp_forks.specs.Entries.{AreKept, blocks_in, entries_of};
 ghost use Rattle.dubp_forks.specs.Stores.{AreApart, AreOutside, IsStorable};

@@ -7,7 +7,7 @@ use Rattle.dubp_pow.specs.Meeting.{Meets}
 use Rattle.dubp_block.specs.Text.{block_hash_of, signed_text}
 use Rattle.dubp_block.specs.declared.block.Block.{Block}
 use Rattle.dubp_verdict.specs.Verdicts.{Verdicts}
-use Rattle.dubp_kept.specs.KeptChain.{KeptChain}
+use Rattle.dubp_ledger.specs.OfKept.{KeptChain}
 use Rattle.dubp_chain.specs.Chains.{Chain as Blocks}
 use Rattle.dubp_validity.specs.Rules.{FirstBroken}
 use Rattle.dubp_drafts.specs.Drafting.{Given}

@@ -1,7 +1,7 @@
 -- What the code has made so far. Protocol: the generator.
 use Rattle.std.specs.Prelude.{◌≡◌, ◌≤◌, ℕ, [], reverse, length, None}
 use Rattle.dubp_verdict.specs.Verdicts.{Verdicts}
-use Rattle.dubp_kept.specs.KeptChain.{KeptChain}
+use Rattle.dubp_ledger.specs.OfKept.{KeptChain}
 use Rattle.dubp_gen.specs.declared.chain.Chain.{Chain}
 use Rattle.dubp_block.specs.Text.{block_text}
 use Rattle.dubp_block.specs.declared.block.Block.{Block}

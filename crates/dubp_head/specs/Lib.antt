@@ -9,3 +9,4 @@ pub mod LastTimes
 pub mod Laws
 pub mod Money
 pub mod NextHead
+pub mod OfValidity

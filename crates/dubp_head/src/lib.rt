@@ -27,6 +27,7 @@ mod times;
 
 pub use augmenting::{augment, augment_over};
 pub use difficulties::difficulty;
+pub use dubp_validity::Record;
 pub use frame::Frame;
 pub use heads::Heads;
 pub use refusal::{HeadRefusal, Passed};

@@ -15,7 +15,7 @@ use Rattle.dubp_chain.specs.Chains.{Chain, params, no_params}
 use Rattle.dubp_chain.specs.Heads.{heads_of, next_head}
 use Rattle.dubp_validity.specs.LocalRules.{NumbersAreSmall, ParamsAreInRange}
 use Rattle.dubp_validity.specs.Rules.{Holds, longest_block}
-use Rattle.dubp_local.specs.Local.{AreParamsOf, local_rules}
+use Rattle.dubp_kept.specs.OfLocal.{AreParamsOf, local_rules}
 use Rattle.dubp_head.specs.HeadsStates.{HeadsState, AreOver}
 use Rattle.dubp_head.specs.Following.{LimitHolds, limit_rules, KeepsLimits, BeginsLow, MayFollow, AreHeads}
 use Rattle.dubp_head.specs.NextHead.{HeaderHolds, header_rules}

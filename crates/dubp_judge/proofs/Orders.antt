@@ -5,7 +5,7 @@ use Rattle.dubp_rules.specs.declared.rule.Rule.{Rule}
 use Rattle.dubp_rules.specs.declared.rule.Rule.TheVariants.{X01, P01, G51, G101}
 use Rattle.dubp_rules.specs.First.{FirstOf, IsFirst}
 use Rattle.dubp_rules.proofs.FirstLaws.{IsFirst_from_FirstOf, FirstOf_from_IsFirst, FirstOf_append_found, FirstOf_append_none}
-use Rattle.dubp_local.specs.Local.{local_rules}
+use Rattle.dubp_kept.specs.OfLocal.{local_rules}
 use Rattle.dubp_head.specs.Following.{limit_rules}
 use Rattle.dubp_head.specs.NextHead.{header_rules}
 use Rattle.dubp_judge.specs.Parts.{opening_rules, link_rules, place_rules, early_rules, table_parts}

@@ -13,9 +13,9 @@ use Rattle.dubp_chain.specs.Chains.{Chain, params}
 use Rattle.dubp_chain.specs.Heads.{head_of, heads_of}
 use Rattle.dubp_validity.specs.Rules.{Holds, FirstBroken, IsSound, reads_verdicts}
 use Rattle.dubp_rules.specs.First.{IsFirst}
-use Rattle.dubp_local.specs.Local.{AreParamsOf, all_hashes}
-use Rattle.dubp_local.specs.declared.check.Checked.{Checked}
-use Rattle.dubp_local.specs.declared.check.Checked.TheVariants as checked
+use Rattle.dubp_kept.specs.OfLocal.{AreParamsOf, all_hashes}
+use Rattle.dubp_kept.specs.OfLocal.{Checked}
+use Rattle.dubp_kept.specs.OfLocal.checked_variants as checked
 use Rattle.dubp_judge.specs.Parts.{opening_rules}
 use Rattle.dubp_head.specs.Following.{Follows}
 use Rattle.dubp_kept.specs.KeptChain.{AreBlocks, MayJoin, stated_params}

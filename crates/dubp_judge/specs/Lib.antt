@@ -1,3 +1,4 @@
 pub mod Parts
 pub mod Judged
-pub mod Below
+pub mod OfKept
+pub mod OfLocal

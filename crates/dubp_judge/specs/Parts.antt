@@ -3,7 +3,7 @@ use Rattle.std.specs.Prelude.{◌≡◌, List, [], ◌∷◌, ◌++◌}
 use Rattle.dubp_rules.specs.declared.rule.Rule.{Rule}
 use Rattle.dubp_rules.specs.declared.rule.Rule.TheVariants.{X01, P01, G51, G52, G53, G49, G101, X06, G63, G73, G74, G64, G75, G108, G82, G78, G81, G80, G77, G83, G84, G65, G66, G67, G68, G69, G70, G71, G72, G79, G76, G85, G86, X05, G103, G87, G88, G89, G90}
 use Rattle.dubp_rules.specs.Table.{table_rules}
-use Rattle.dubp_local.specs.Local.{local_rules}
+use Rattle.dubp_kept.specs.OfLocal.{local_rules}
 use Rattle.dubp_head.specs.Following.{limit_rules}
 use Rattle.dubp_head.specs.NextHead.{header_rules}
 

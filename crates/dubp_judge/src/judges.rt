@@ -4,7 +4,7 @@ ghost use Rattle.dubp_chain.specs.Chains.{Chain};
 ghost use Rattle.dubp_chain.specs.Members.{member, members};
 ghost use Rattle.dubp_rules.specs.First.{IsFirst};
 ghost use Rattle.dubp_validity.specs.Rules.{Holds, IsSound};
-ghost use Rattle.dubp_local.specs.Local.{all_hashes};
+ghost use Rattle.dubp_kept.specs.OfLocal.{all_hashes};
 ghost use Rattle.dubp_judge.specs.Parts.{table_parts};
 ghost use Rattle.dubp_judge.specs.Judged.{IsToJudge};
 

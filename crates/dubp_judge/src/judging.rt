@@ -10,7 +10,7 @@ ghost use Rattle.dubp_head.specs.Frames.{frame_issuers};
 ghost use Rattle.dubp_chain.specs.Members.{members};
 ghost use Rattle.dubp_chain.specs.Heads.{next_head};
 ghost use Rattle.dubp_kept.specs.KeptChain.{IsKnown, stated_params as stated};
-ghost use Rattle.dubp_local.specs.Local.{all_hashes};
+ghost use Rattle.dubp_kept.specs.OfLocal.{all_hashes};
 ghost use Rattle.dubp_judge.specs.Parts.{early_rules, link_rules, opening_rules, place_rules, table_parts};
 ghost use Rattle.dubp_judge.specs.Judged.{HeadFits, IsToJudge, Judged, Opened};
 
@@ -25,8 +25,7 @@ use dubp_block::Block;
 use dubp_chain::Head;
 use dubp_docs::TxHashes;
 use dubp_head::{Frame, Heads, augment_over, head_rules_over};
-use dubp_kept::{Kept, Written};
-use dubp_local::{Checked, check_local_hashed};
+use dubp_kept::{Checked, Kept, Written, check_local_hashed};
 use dubp_params::Params;
 use dubp_rules::{Rule, first_of};
 use dubp_undo::Tables;

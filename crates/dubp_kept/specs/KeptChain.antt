@@ -9,8 +9,8 @@ use Rattle.dubp_block.specs.Text.{IsBlock}
 use Rattle.dubp_chain.specs.declared.head.Head.{Head}
 use Rattle.dubp_chain.specs.Chains.{Chain, first_block, params}
 use Rattle.dubp_chain.specs.Heads.{head_of, heads_of}
-use Rattle.dubp_validity.specs.Rules.{IsSound, KeepsUnsigned}
-use Rattle.dubp_validity.specs.Records.{records}
+use Rattle.dubp_head.specs.OfValidity.{IsSound, KeepsUnsigned}
+use Rattle.dubp_head.specs.OfValidity.{records}
 use Rattle.dubp_local.specs.Local.{AreParamsOf}
 use Rattle.dubp_head.specs.HeadsStates.{HeadsState, AreOver}
 use Rattle.dubp_head.specs.Following.{AreHeads, Follows}

@@ -7,7 +7,7 @@ use Rattle.dubp_block.specs.declared.block.Block.{Block}
 use Rattle.dubp_chain.specs.Chains.{Chain}
 use Rattle.dubp_chain.specs.Heads.{head_of}
 use Rattle.dubp_chain.specs.Members.{members}
-use Rattle.dubp_validity.specs.Records.{expiry_records, revocation_records, ended_records, clearing_records}
+use Rattle.dubp_head.specs.OfValidity.{expiry_records, revocation_records, ended_records, clearing_records}
 use Rattle.dubp_kept.specs.declared.left_behind.LeftBehind.{LeftBehind}
 
 -- who is paid a dividend by b on c, by key; nobody where there is none

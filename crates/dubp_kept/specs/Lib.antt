@@ -1,3 +1,4 @@
 pub mod KeptChain
 pub mod LeftBehind
 pub mod Moves
+pub mod OfLocal

@@ -1,5 +1,5 @@
 use dubp_atoms::{Items, Key};
-use dubp_validity::Record;
+use dubp_head::Record;
 
 /// What a block leaves behind that its lines do not tell. With its fields and its head, its records are put together from it.
 /// Protocol: records.

@@ -11,7 +11,7 @@ use Rattle.dubp_cond.specs.Conditions.{cond_text}
 use Rattle.dubp_cond.specs.declared.source.Input.{Input}
 use Rattle.dubp_cond.specs.declared.output.Output.{Output}
 use Rattle.dubp_cond.specs.declared.tx.Tx.{Tx}
-use Rattle.dubp_docs.specs.Spelling.{tx_hash}
+use Rattle.dubp_chain.specs.OfDocs.{tx_hash}
 use Rattle.dubp_block.specs.declared.block.Block.{Block}
 use Rattle.dubp_params.specs.declared.params.Params.{Params}
 use Rattle.dubp_chain.specs.declared.head.Head.{Head}

@@ -13,3 +13,4 @@ pub mod SourceRecords
 pub mod SourceRows
 pub mod Sources
 pub mod Spending
+pub mod OfLists

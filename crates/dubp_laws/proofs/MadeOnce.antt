@@ -8,7 +8,7 @@ use Rattle.dubp_cond.specs.declared.source.SourceId.{SourceId}
 use Rattle.dubp_cond.specs.declared.source.SourceId.TheVariants.{D, T}
 use Rattle.dubp_cond.specs.declared.output.Output.{Output}
 use Rattle.dubp_cond.specs.declared.tx.Tx.{Tx}
-use Rattle.dubp_docs.specs.Spelling.{tx_hash}
+use Rattle.dubp_chain.specs.OfDocs.{tx_hash}
 use Rattle.dubp_block.specs.declared.block.Block.{Block}
 use Rattle.dubp_rules.specs.declared.rule.Rule.TheVariants.{G51, X05}
 use Rattle.dubp_chain.specs.declared.head.Head.{Head}

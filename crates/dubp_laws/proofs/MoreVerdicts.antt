@@ -6,7 +6,7 @@ use Rattle.std.specs.List.{AllByRecursion, zip}
 use Rattle.dubp_atoms.specs.Same.{Text}
 use Rattle.dubp_atoms.specs.declared.stamp.Stamp.{Stamp}
 use Rattle.dubp_cond.specs.declared.tx.Tx.{Tx}
-use Rattle.dubp_docs.specs.Spelling.{signed_tx}
+use Rattle.dubp_chain.specs.OfDocs.{signed_tx}
 use Rattle.dubp_block.specs.Text.{block_text}
 use Rattle.dubp_block.specs.declared.block.Block.{Block}
 use Rattle.dubp_block.specs.declared.block.IdentityLine.{IdentityLine}

@@ -14,7 +14,7 @@ use Rattle.dubp_cond.specs.declared.source.SourceId.{SourceId}
 use Rattle.dubp_cond.specs.declared.source.Input.{Input}
 use Rattle.dubp_cond.specs.declared.output.Output.{Output}
 use Rattle.dubp_cond.specs.declared.tx.Tx.{Tx}
-use Rattle.dubp_docs.specs.Spelling.{tx_hash}
+use Rattle.dubp_chain.specs.OfDocs.{tx_hash}
 use Rattle.dubp_chain.specs.declared.head.Head.{Head}
 use Rattle.dubp_validity.specs.declared.record.Record.{Record}
 use Rattle.dubp_validity.specs.declared.record.Record.TheVariants.{Spend, Dividend}

@@ -8,9 +8,9 @@ use Rattle.dubp_chain.specs.declared.head.Head.{Head}
 use Rattle.dubp_chain.specs.Chains.{Chain, block_of_number}
 use Rattle.dubp_chain.specs.Heads.{head_of, heads_of}
 use Rattle.dubp_validity.specs.Records.{records, records_at}
-use Rattle.dubp_kept.specs.KeptChain.{KeptChain, Out, IsHeldBy, IsAsHeld, IsAsBefore, with_block}
-use Rattle.dubp_kept.specs.LeftBehind.{left_behind}
-use Rattle.dubp_kept.specs.declared.left_behind.LeftBehind.{LeftBehind}
+use Rattle.dubp_rows.specs.OfKept.{KeptChain, Out, IsHeldBy, IsAsHeld, IsAsBefore, with_block}
+use Rattle.dubp_rows.specs.OfKept.{left_behind}
+use Rattle.dubp_rows.specs.OfKept.{LeftBehind}
 use Rattle.dubp_ledger.specs.Traces.{TracesState, AreTraces, AreHeld, IsShort, traces_of}
 
 pub length_traces : (c : Chain) → length (traces_of c) ≡ length c

@@ -2,3 +2,5 @@ pub mod States
 pub mod Traces
 pub mod Filled
 pub mod Filling
+pub mod OfKept
+pub mod OfLocal

@@ -5,7 +5,7 @@ use Rattle.dubp_block.specs.declared.block.Block.{Block}
 use Rattle.dubp_block.specs.Text.{stamp_of}
 use Rattle.dubp_verdict.specs.Verdicts.{Verdicts}
 use Rattle.dubp_validity.specs.Rules.{FirstBroken}
-use Rattle.dubp_kept.specs.KeptChain.{KeptChain, with_block}
+use Rattle.dubp_rows.specs.OfKept.{KeptChain, with_block}
 use Rattle.dubp_ledger.specs.declared.refusal.TooDeep.{TooDeep}
 use Rattle.dubp_ledger.specs.declared.refusal.SubmitRefusal.{SubmitRefusal}
 use Rattle.dubp_ledger.specs.declared.refusal.SubmitRefusal.TheVariants.{Refused, NoMemory}

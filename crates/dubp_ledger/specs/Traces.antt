@@ -5,9 +5,9 @@ use Rattle.dubp_block.specs.declared.block.Block.{Block}
 use Rattle.dubp_block.specs.Text.{block_text}
 use Rattle.dubp_validity.specs.Rules.{longest_block}
 use Rattle.dubp_chain.specs.Chains.{Chain}
-use Rattle.dubp_kept.specs.KeptChain.{KeptChain, Out}
-use Rattle.dubp_kept.specs.LeftBehind.{left_behind}
-use Rattle.dubp_kept.specs.declared.left_behind.LeftBehind.{LeftBehind}
+use Rattle.dubp_rows.specs.OfKept.{KeptChain, Out}
+use Rattle.dubp_rows.specs.OfKept.{left_behind}
+use Rattle.dubp_rows.specs.OfKept.{LeftBehind}
 
 -- of the blocks that stand, and of those that are held, both newest first; for how many there is room without memory, and for how many
 -- that are held

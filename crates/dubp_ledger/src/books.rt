@@ -2,8 +2,7 @@ ghost use Rattle.std.specs.Prelude.{◌≡◌, []};
 ghost use Rattle.dubp_chain.specs.Chains.{Chain};
 
 use dubp_block::Block;
-use dubp_books::{Books, Money, People};
-use dubp_books::Judges;
+use dubp_books::{Books, Judges, Money, People};
 use dubp_undo::Tables;
 use std::alloc::Global;
 

@@ -15,8 +15,7 @@ use dubp_block::{Block, inner_hash_of};
 use dubp_chain::Head;
 use dubp_head::{HeadRefusal, augment};
 use dubp_params::Params;
-use dubp_people_views::members_with;
-use dubp_people_views::kicked;
+use dubp_people_views::{kicked, members_with};
 
 /// How many members there are at most.
 const MOST_MEMBERS: u64 = 2_097_151;

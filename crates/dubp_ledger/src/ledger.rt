@@ -9,8 +9,8 @@ ghost use Rattle.dubp_rules.specs.First.{IsFirst};
 ghost use Rattle.dubp_rules.specs.declared.rule.Rule.TheVariants.{X01, P01};
 ghost use Rattle.dubp_validity.specs.Records.{records_at};
 ghost use Rattle.dubp_validity.specs.Rules.{FirstBroken, Holds, IsSound, longest_block};
-ghost use Rattle.dubp_local.specs.Local.{all_hashes, local_rules};
-ghost use Rattle.dubp_kept.specs.KeptChain.{IsAsBefore, IsAsHeld, IsHeldBy, IsKnown, MayJoin, last_steps, most_kept, most_steps, steps_of_last, steps_of_out, without_last};
+ghost use Rattle.dubp_rows.specs.OfKept.{all_hashes, local_rules};
+ghost use Rattle.dubp_rows.specs.OfKept.{IsAsBefore, IsAsHeld, IsHeldBy, IsKnown, MayJoin, last_steps, most_kept, most_steps, steps_of_last, steps_of_out, without_last};
 ghost use Rattle.dubp_ledger.specs.States.{Accepted, HandedBack, IsTooDeep};
 ghost use Rattle.dubp_ledger.specs.Traces.{IsShort};
 
@@ -19,15 +19,12 @@ use crate::refusal::{SubmitRefusal, TooDeep};
 use crate::traces::Traces;
 use dubp_atoms::{Key, NoMemory, Stamp, Steps};
 use dubp_block::Block;
-use dubp_books::{Money, People};
+use dubp_books::{Judgement, Money, People, judge};
 use dubp_chain::Head;
 use dubp_docs::TxHashes;
 use dubp_head::{Heads, difficulty};
-use dubp_books::{Judgement, judge};
-use dubp_kept::{Held, Kept};
-use dubp_local::check_local;
 use dubp_params::Params;
-use dubp_rows::put_records;
+use dubp_rows::{Held, Kept, check_local, put_records};
 use dubp_rules::Rule;
 use dubp_undo::Tables;
 use dubp_validity::Record;
@@ -47,7 +44,7 @@ pub struct Ledger<T: PeopleAndMoney> {
 }
 
 impl<T: PeopleAndMoney> Model for Ledger<T> {
-    ghost use Rattle.dubp_kept.specs.KeptChain.{KeptChain};
+    ghost use Rattle.dubp_rows.specs.OfKept.{KeptChain};
     ghost use Rattle.dubp_ledger.specs.Traces.{AreTraces};
 
     ghost Value = { KeptChain };

@@ -21,6 +21,6 @@ mod traces;
 
 pub use books::PeopleAndMoney;
 pub use dubp_books::{Books, Money, People};
-pub use dubp_kept::Held;
+pub use dubp_rows::Held;
 pub use ledger::Ledger;
 pub use refusal::{SubmitRefusal, TooDeep};

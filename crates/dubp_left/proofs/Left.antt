@@ -18,7 +18,7 @@ use Rattle.dubp_chain.specs.People.{identity, identity_lines, membership, member
 use Rattle.dubp_chain.specs.Live.{certified_pairs, certification}
 use Rattle.dubp_cindex.specs.Orders.{pair_cmp}
 use Rattle.dubp_cindex.proofs.Texts.{pair_total, pair_exact}
-use Rattle.dubp_lists.proofs.LastLines.{last_line-any}
+use Rattle.dubp_steps.proofs.OfLists.{last_line-any}
 use Rattle.dubp_iindex.specs.Rows.{texts}
 use Rattle.dubp_left.specs.Left.{identity_left, identities_left, membership_left, memberships_left, certification_left, certifications_left}
 use Rattle.dubp_left.proofs.Gathered.{get-table}

@@ -4,4 +4,6 @@ pub mod Lines
 pub mod Queued
 pub mod Times
 pub mod Looked
-pub mod Below
+pub mod OfSteps
+pub mod OfLists
+pub mod OfFacts

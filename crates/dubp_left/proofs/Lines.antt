@@ -22,11 +22,11 @@ use Rattle.dubp_chain.specs.Chains.{Chain}
 use Rattle.dubp_chain.specs.People.{Written, written_in, last_line, identity, identity_lines}
 use Rattle.dubp_chain.specs.Members.{member}
 use Rattle.dubp_chain.specs.Tables.{IdentityRow as ChainRow}
-use Rattle.dubp_facts.specs.Below.{IsSound}
-use Rattle.dubp_lists.proofs.Elements.{IsIn, in_all, any_in, in_any, in_left, in_right, last_in, is_false, list_any-map}
-use Rattle.dubp_lists.proofs.InOrder.{same_text_is, same_text_own}
-use Rattle.dubp_lists.proofs.LastLines.{last_line-any}
-use Rattle.dubp_lists.proofs.Once.{Once, once_head, once_tail, once-append, each_once-map}
+use Rattle.dubp_facts.specs.OfValidity.{IsSound}
+use Rattle.dubp_steps.proofs.OfLists.{IsIn, in_all, any_in, in_any, in_left, in_right, last_in, is_false, list_any-map}
+use Rattle.dubp_steps.proofs.OfLists.{same_text_is, same_text_own}
+use Rattle.dubp_steps.proofs.OfLists.{last_line-any}
+use Rattle.dubp_steps.proofs.OfLists.{Once, once_head, once_tail, once-append, each_once-map}
 use Rattle.dubp_iindex.specs.Rows.{texts, has_uid, key_with}
 use Rattle.dubp_iindex.specs.declared.row.IdentityRow.{IdentityRow}
 use Rattle.dubp_left.specs.Gathered.{entry_of, gathered, table_of}

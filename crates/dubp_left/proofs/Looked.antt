@@ -11,7 +11,7 @@ use Rattle.dubp_chain.specs.Members.{member}
 use Rattle.dubp_chain.specs.People.{identity_lines, leaving, revoked}
 use Rattle.dubp_chain.specs.Tables as chain
 use Rattle.dubp_chain.specs.Tables.{identity_row, membership_row}
-use Rattle.dubp_facts.specs.Below.{IsSound}
+use Rattle.dubp_facts.specs.OfValidity.{IsSound}
 use Rattle.dubp_steps.proofs.Counts.{member_is_of_row, revoked_is_of_row, leaving_is_of_row}
 use Rattle.dubp_iindex.specs.Rows.{key_with}
 use Rattle.dubp_iindex.specs.declared.row.IdentityRow.{IdentityRow}

@@ -17,8 +17,8 @@ use Rattle.dubp_chain.specs.Made.{made}
 use Rattle.dubp_chain.specs.People.{Written, last_line, membership_lines, membership_made, expiry, revocation}
 use Rattle.dubp_chain.specs.Live.{certified_pairs, certification, end_of}
 use Rattle.dubp_chain.specs.Tables.{is_queued, falls_at}
-use Rattle.dubp_lists.proofs.Elements.{IsIn, in_left, in_right, in_append, in_any, in_map, and_left, and_right}
-use Rattle.dubp_lists.proofs.InOrder.{same_text_is}
+use Rattle.dubp_steps.proofs.OfLists.{IsIn, in_left, in_right, in_append, in_any, in_map, and_left, and_right}
+use Rattle.dubp_steps.proofs.OfLists.{same_text_is}
 use Rattle.dubp_expiry.specs.DueOrder.{entry_cmp}
 use Rattle.dubp_expiry.specs.declared.due.Due.{Due}
 use Rattle.dubp_expiry.specs.declared.due.Due.TheVariants.{Membership, Revocation, Certification}

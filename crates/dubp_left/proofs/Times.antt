@@ -12,7 +12,7 @@ use Rattle.dubp_chain.specs.Members.{members}
 use Rattle.dubp_chain.specs.Heads.{heads_of, next_head, time_of}
 use Rattle.dubp_chain.specs.Made.{head_numbered}
 use Rattle.dubp_chain.specs.People.{Written, written_in, written_time, last_line}
-use Rattle.dubp_facts.specs.Below.{IsSound}
+use Rattle.dubp_facts.specs.OfValidity.{IsSound}
 use Rattle.dubp_facts.proofs.Numbered.{next-number}
 
 abbrev newest_head : Block → Chain → Head

@@ -9,7 +9,7 @@ use Rattle.dubp_chain.specs.Chains.{Chain}
 use Rattle.dubp_chain.specs.Made.{head_numbered}
 use Rattle.dubp_chain.specs.People.{Written, written_time, identity_lines, membership}
 use Rattle.dubp_chain.specs.Live.{certification, last_from}
-use Rattle.dubp_facts.specs.Below.{IsSound}
+use Rattle.dubp_facts.specs.OfValidity.{IsSound}
 use Rattle.dubp_iindex.specs.Rows.{key_with}
 use Rattle.dubp_expiry.specs.declared.due.Due.{Due}
 use Rattle.dubp_left.specs.Left.{identity_left, identities_left, membership_left, memberships_left, certification_left, certifications_left, queued_left, queue_left}

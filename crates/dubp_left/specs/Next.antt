@@ -7,7 +7,7 @@ use Rattle.dubp_block.specs.declared.block.Block.{Block}
 use Rattle.dubp_block.specs.Text.{IsBlock}
 use Rattle.dubp_chain.specs.Chains.{Chain, params}
 use Rattle.dubp_chain.specs.Heads.{time_of}
-use Rattle.dubp_facts.specs.Below.{Holds, IsSound, reads_verdicts}
+use Rattle.dubp_facts.specs.OfValidity.{Holds, IsSound, reads_verdicts}
 use Rattle.dubp_left.specs.declared.next.Next.{Next}
 
 -- the parameters and the time of the chain with the block

@@ -13,6 +13,8 @@ mod next;
 
 ghost use Rattle.dubp_left.specs.Laws.{RowsAreLeft, UidsAreFound, IdentitiesAreCounted, TimesAreWritten};
 
+pub use dubp_chain::{Block, CertLine};
+pub use dubp_facts::{BlockTime, Facts, First};
 pub use next::{Next, next_of};
 
 /// The rows that a chain leaves have at each key, each pair and each entry what the chain says.

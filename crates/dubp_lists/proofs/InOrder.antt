@@ -7,8 +7,8 @@ use Rattle.std.specs.declared.cmp.Ordering.TheVariants.{Less, Equal, Greater}
 use Rattle.std.specs.FinMap.{nat_cmp-IsAntisymmetric, slice_cmp-IsAntisymmetric}
 use Rattle.std.specs.FinMap.Entries.{by_order, put, below_all, is_sorted, is_sorted-put}
 use Rattle.std.proofs.lemmas.Cmp.{tied_itself}
-use Rattle.dubp_atoms.specs.Same.{Text, same_text}
-pub use Rattle.dubp_atoms.proofs.Same.{same_text_is, same_text_own}
+use Rattle.dubp_chain.specs.OfAtoms.{Text, same_text}
+pub use Rattle.dubp_chain.proofs.OfAtoms.{same_text_is, same_text_own}
 use Rattle.dubp_chain.specs.Words.{names, each_once, marked, in_order}
 use Rattle.dubp_chain.specs.Chains.{Chain}
 use Rattle.dubp_chain.specs.Members.{member, members, joined_keys}

@@ -3,7 +3,7 @@ use Rattle.std.proofs.Common.{◌≡◌, ◌≤◌, Bool, true, false, cond, ◌
 use Rattle.std.specs.Option.{option_or}
 use Rattle.std.specs.List.{list_any, flat_map}
 use Rattle.std.proofs.lemmas.List.Folds.{list_any-append}
-use Rattle.dubp_chain.specs.Below.{Block}
+use Rattle.dubp_chain.specs.OfBlock.{Block}
 use Rattle.dubp_chain.specs.Words.{last_of}
 use Rattle.dubp_chain.specs.Chains.{Chain}
 use Rattle.dubp_chain.specs.Heads.{time_of}

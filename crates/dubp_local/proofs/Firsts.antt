@@ -8,7 +8,7 @@ use Rattle.dubp_rules.specs.declared.rule.Rule.TheVariants.{L05}
 use Rattle.dubp_rules.specs.First.{FirstOf}
 use Rattle.dubp_rules.proofs.FirstLaws.{IsFirst_from_FirstOf}
 use Rattle.dubp_verdict.specs.Verdicts.{Verdicts}
-use Rattle.dubp_chain.specs.Chains.{Chain}
+use Rattle.dubp_validity.specs.OfChain.{Chain}
 use Rattle.dubp_validity.specs.Rules.{Holds}
 use Rattle.dubp_local.specs.declared.check.Asked.{Asked}
 use Rattle.dubp_local.specs.declared.check.Asked.TheVariants.{Signed, Unsigned}

@@ -8,3 +8,4 @@ pub mod Checking
 pub mod Counts
 pub mod Unlocked
 pub mod Lines
+pub mod OfLists

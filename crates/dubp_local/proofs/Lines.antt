@@ -4,8 +4,8 @@ use Rattle.std.specs.List.{AllByRecursion, list_all, list_any}
 use Rattle.std.proofs.lemmas.List.Folds.{list_all-map}
 use Rattle.dubp_cond.specs.declared.source.SourceId.{SourceId}
 use Rattle.dubp_cond.specs.declared.source.SourceId.TheVariants.{D, T}
-use Rattle.dubp_chain.specs.Money.{same_source}
-use Rattle.dubp_chain.specs.Words.{each_once}
+use Rattle.dubp_validity.specs.OfChain.{same_source}
+use Rattle.dubp_validity.specs.OfChain.{each_once}
 use Rattle.dubp_lists.proofs.Once.{each_once-map}
 
 -- what holds where a call succeeds gives what follows from it there

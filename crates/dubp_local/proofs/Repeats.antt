@@ -4,7 +4,7 @@ use Rattle.std.specs.List.{list_any}
 use Rattle.std.specs.Cmp.{IsEquivalence}
 use Rattle.std.proofs.lemmas.List.{take_more, take_all}
 use Rattle.std.proofs.Math.Seq.{split_at}
-use Rattle.dubp_chain.specs.Words.{each_once}
+use Rattle.dubp_validity.specs.OfChain.{each_once}
 
 and_false : (a : Bool) → (a && false) ≡ false
 and_false true = refl

@@ -6,7 +6,7 @@ use Rattle.dubp_rules.specs.declared.rule.Rule.{Rule}
 use Rattle.dubp_rules.specs.declared.rule.Rule.TheVariants.{X02, X07, L01, L02, L03, L04, L05, L06, L07, L08, L09, L10, L11, L12, L13, L14, L15, L16, L17, L18, L19, L20, L21, L22, L23}
 use Rattle.dubp_rules.specs.First.{FirstOf}
 use Rattle.dubp_verdict.specs.Verdicts.{Verdicts}
-use Rattle.dubp_chain.specs.Chains.{Chain}
+use Rattle.dubp_validity.specs.OfChain.{Chain}
 use Rattle.dubp_validity.specs.LocalRules.{BlockIsSigned}
 use Rattle.dubp_validity.specs.Rules.{Holds}
 use Rattle.dubp_local.specs.declared.check.Asked.{Asked}

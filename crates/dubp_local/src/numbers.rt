@@ -4,7 +4,7 @@ ghost use Rattle.std.specs.List.{AllByRecursion};
 ghost use Rattle.dubp_atoms.specs.Same.{empty_stamp};
 ghost use Rattle.dubp_block.specs.Text.{IsBlock};
 ghost use Rattle.dubp_params.specs.Ranges.{IsInRange};
-ghost use Rattle.dubp_chain.specs.Chains.{Chain};
+ghost use Rattle.dubp_validity.specs.OfChain.{Chain};
 ghost use Rattle.dubp_validity.specs.LocalRules.{ParamsAreInRange, NumbersAreSmall, FirstTimesAreEqual, CertificationsAreOfEarlierBlocks, FirstStampsAreEmpty, HaveEmptyStamps, TimeIsNear};
 ghost use Rattle.dubp_local.specs.Local.{AreParamsOf};
 ghost use Rattle.dubp_local.specs.Parts.{HasEmptyStamp, SectionsHaveEmptyStamps};

@@ -1,8 +1,8 @@
 ghost use Rattle.std.specs.Prelude.{◌≡◌, ◌↔◌, ◌++◌, true, IfOk, IsTrue, OnOk, cond, map, not};
 ghost use Rattle.std.specs.List.{list_all, list_any};
 ghost use Rattle.indexmap.specs.IndexSet.{contains, insert_key};
-ghost use Rattle.dubp_chain.specs.People.{membership_lines};
-ghost use Rattle.dubp_chain.specs.Words.{each_once};
+ghost use Rattle.dubp_validity.specs.OfChain.{membership_lines};
+ghost use Rattle.dubp_validity.specs.OfChain.{each_once};
 ghost use Rattle.dubp_validity.specs.LocalRules.{IdentitiesJoin, IdentitiesStandOnce, IssuersStandOnce, MovingKeysStandOnce, NobodyCertifiedParts, NobodyCertifiesThemselves, PairsStandOnce, RevokedStandOnce, UidsStandOnce, moving_keys, parting_keys, revoked_keys};
 
 use dubp_atoms::{Key, NoMemory, Stamp, Uid};

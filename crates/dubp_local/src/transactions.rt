@@ -5,7 +5,7 @@ ghost use Rattle.dubp_cond.specs.Outputs.{IsOutput};
 ghost use Rattle.dubp_cond.specs.Transactions.{IsTx};
 ghost use Rattle.dubp_block.specs.Sections.{compact_lines};
 ghost use Rattle.dubp_block.specs.Text.{IsBlock};
-ghost use Rattle.dubp_chain.specs.Heads.{units as units_of};
+ghost use Rattle.dubp_validity.specs.OfChain.{units as units_of};
 ghost use Rattle.dubp_validity.specs.LocalRules.{TransactionsAreShort, AmountsAreNotZero, MovesSomething, TransactionsAreBalanced, IsBalanced, input_units, output_units};
 
 use dubp_block::Block;

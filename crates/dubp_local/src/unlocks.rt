@@ -1,7 +1,7 @@
 ghost use Rattle.std.specs.Prelude.{◌≡◌, ◌↔◌, ℕ, ◌++◌, ◌<◌, ◌≤◌, ◌==◌, IfOk, IsTrue, OnOk, count_by, length, map, slice_index};
 ghost use Rattle.std.specs.List.{AllByRecursion};
 ghost use Rattle.dubp_block.specs.Text.{IsBlock};
-ghost use Rattle.dubp_chain.specs.Money.{inputs_of};
+ghost use Rattle.dubp_validity.specs.OfChain.{inputs_of};
 ghost use Rattle.dubp_validity.specs.LocalRules.{InputsAreUnlockedOnce, IsUnlockedOnce, NamesAnIssuer, SendersStandOnce, SourcesStandOnce};
 
 use crate::once::stand_once;

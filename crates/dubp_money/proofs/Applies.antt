@@ -20,7 +20,7 @@ use Rattle.dubp_chain.specs.Money.{Source, units_of, dividend_source, dividends_
 use Rattle.dubp_validity.specs.declared.record.Record.{Record}
 use Rattle.dubp_validity.specs.declared.record.Record.TheVariants.{Spend, Dividend, Clear}
 use Rattle.dubp_validity.specs.Records.{input_of, make_record, transaction_records, dividend_records, clearing_records}
-use Rattle.dubp_money_steps.proofs.Below.{conserves}
+use Rattle.dubp_money_steps.proofs.OfLaws.{conserves}
 use Rattle.dubp_undo.specs.States.{states}
 use Rattle.dubp_sindex.specs.declared.sindex.SIndex.{SIndex}
 use Rattle.dubp_sindex.specs.contracts.sindex.SIndexTablesSourceRows.TheImpl as tables

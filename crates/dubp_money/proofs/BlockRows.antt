@@ -12,10 +12,10 @@ use Rattle.dubp_chain.specs.Heads.{time_of}
 use Rattle.dubp_chain.specs.Money as money
 use Rattle.dubp_chain.specs.Money.{Source, named_by, is_left, outputs_made, made_by, made_sources, cleared, unspent}
 use Rattle.dubp_validity.specs.Rules.{IsSound}
-use Rattle.dubp_lists.proofs.Elements.{in_all, all_from_in, all_append, in_filter}
-use Rattle.dubp_lists.proofs.Once.{each_once-map}
-use Rattle.dubp_money_steps.proofs.Below.{SourcesApart, sources-filter}
-use Rattle.dubp_money_steps.proofs.Below.{pays, at_hand-is}
+use Rattle.dubp_local.proofs.OfLists.{in_all, all_from_in, all_append, in_filter}
+use Rattle.dubp_local.proofs.OfLists.{each_once-map}
+use Rattle.dubp_money_steps.proofs.OfLaws.{SourcesApart, sources-filter}
+use Rattle.dubp_money_steps.proofs.OfLaws.{pays, at_hand-is}
 use Rattle.dubp_sindex.specs.Rows.{Entry, same_source, is_named, each_once, AreRows}
 use Rattle.dubp_money_steps.specs.Steps.{rest, numbered, outputs_of, dividends_of, transacted, all_transacted}
 use Rattle.dubp_money_steps.specs.Left.{account_in, entry_of, entries_of, HasTexts, IsSmall, sources_left, sources_before_clearing}

@@ -9,4 +9,6 @@ pub mod BlockRows
 pub mod Applies
 pub mod Noting
 pub mod Hashes
-pub mod Below
+pub mod OfMoneySteps
+pub mod OfLaws
+pub mod OfFacts

@@ -7,7 +7,7 @@ use Rattle.dubp_cond.specs.Conditions.{cond_text}
 use Rattle.dubp_block.specs.declared.block.Block.{Block}
 use Rattle.dubp_chain.specs.Chains.{Chain}
 use Rattle.dubp_chain.specs.Money.{Source, made_by, made_sources}
-use Rattle.dubp_lists.proofs.Elements.{in_all, all_from_in, all_more, in_left, any_left}
+use Rattle.dubp_local.proofs.OfLists.{in_all, all_from_in, all_more, in_left, any_left}
 use Rattle.dubp_undo.specs.States.{states}
 use Rattle.dubp_undo.proofs.States.{drop-states}
 use Rattle.dubp_sindex.specs.States.{States}

@@ -6,4 +6,6 @@ pub mod Transactions
 pub mod Blocks
 pub mod Tables
 pub mod Applied
-pub mod Below
+pub mod OfMoneySteps
+pub mod OfLocal
+pub mod OfValidity

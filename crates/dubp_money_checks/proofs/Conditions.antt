@@ -26,7 +26,7 @@ use Rattle.dubp_chain.specs.Chains.{Chain}
 use Rattle.dubp_chain.specs.Members.{member, members, joined_keys}
 use Rattle.dubp_chain.specs.Heads.{head_of, time_of}
 use Rattle.dubp_chain.specs.Money.{Source, signed_by, output_source, outputs_made, dividend_source, dividends_made, dividends_at, made_by, made_sources}
-use Rattle.dubp_lists.proofs.Elements.{all_append}
+use Rattle.dubp_money_rules.proofs.OfLists.{all_append}
 use Rattle.dubp_money_rules.specs.Spending.{HaveConditions}
 use Rattle.dubp_money_checks.specs.Judging.{AreBlocks}
 

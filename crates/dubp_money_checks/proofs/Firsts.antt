@@ -14,9 +14,9 @@ use Rattle.dubp_rules.specs.declared.rule.Rule.{Rule}
 use Rattle.dubp_rules.specs.declared.rule.Rule.TheVariants.{X05}
 use Rattle.dubp_rules.specs.First.{FirstOf, IsFirst}
 use Rattle.dubp_rules.proofs.FirstLaws.{IsFirst_from_FirstOf}
-use Rattle.dubp_validity.specs.Rules.{Holds}
-use Rattle.dubp_validity.specs.MoneyRules.{TransactionsAreNew}
-use Rattle.dubp_local.specs.Local.{hashes_of}
+use Rattle.dubp_money_rules.specs.OfValidity.{Holds}
+use Rattle.dubp_money_rules.specs.OfValidity.{TransactionsAreNew}
+use Rattle.dubp_money_rules.specs.OfLocal.{hashes_of}
 use Rattle.dubp_money_rules.specs.Lines.{whole_hashes}
 use Rattle.dubp_money_checks.specs.Judging.{money_rules, rules_behind_hashes}
 

@@ -5,10 +5,10 @@ use Rattle.dubp_block.specs.declared.block.Block.{Block}
 use Rattle.dubp_chain.specs.Chains.{Chain}
 use Rattle.dubp_chain.specs.Heads.{head_of}
 use Rattle.dubp_chain.specs.declared.head.Head.{Head}
-use Rattle.dubp_money_rules.specs.Below.{IsAsked}
-use Rattle.dubp_money_rules.specs.Below.{Next}
-use Rattle.dubp_money.specs.declared.money.Money.{Money}
-use Rattle.dubp_money.specs.contracts.money.MoneyTablesBlock.TheImpl as tables
+use Rattle.dubp_money_rules.specs.OfLeft.{IsAsked}
+use Rattle.dubp_money_rules.specs.OfLeft.{Next}
+use Rattle.dubp_money_rules.specs.OfMoney.{Money}
+use Rattle.dubp_money_rules.specs.OfMoney.money_tables_block as tables
 use Rattle.dubp_money_rules.specs.Spending.{AreNumbered, HaveConditions}
 
 -- the tables are those of the chain, the block stands to be judged on it, and these are its head and the hashes of its transactions

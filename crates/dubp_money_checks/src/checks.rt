@@ -3,21 +3,19 @@ ghost use Rattle.std.specs.Prelude.{◌↔◌, IsTrue, IfOk, List};
 ghost use Rattle.dubp_atoms.specs.Same.{Text};
 ghost use Rattle.dubp_chain.specs.Chains.{Chain};
 ghost use Rattle.dubp_chain.specs.declared.head.Head.{Head as HeadValue};
-ghost use Rattle.dubp_money_rules.specs.Below.{Next as NextValue};
+ghost use Rattle.dubp_money_rules.specs.OfLeft.{Next as NextValue};
 ghost use Rattle.dubp_verdict.specs.Verdicts.{Verdicts};
 ghost use Rattle.dubp_rules.specs.First.{FirstOf};
-ghost use Rattle.dubp_validity.specs.Rules.{Holds};
-ghost use Rattle.dubp_validity.specs.MoneyRules.{ConditionsAreTrue, InputsAreThere, LocktimesHaveEnded, TransactionsAreInTime};
+ghost use Rattle.dubp_money_rules.specs.OfValidity.{Holds};
+ghost use Rattle.dubp_money_rules.specs.OfValidity.{ConditionsAreTrue, InputsAreThere, LocktimesHaveEnded, TransactionsAreInTime};
 ghost use Rattle.dubp_money_checks.specs.Judging.{rules_behind_hashes};
 ghost use Rattle.dubp_money_checks.specs.Judged.{IsJudged};
 
 use dubp_atoms::{Hash, NoMemory};
 use dubp_block::Block;
 use dubp_chain::Head;
-use dubp_money_rules::Next;
-use dubp_money::Money;
 use dubp_money_rules::{
-    conditions_are_true, inputs_are_there, locktimes_have_ended, output_bases_fit,
+    Money, Next, conditions_are_true, inputs_are_there, locktimes_have_ended, output_bases_fit,
     transactions_are_in_time,
 };
 use dubp_rules::{Rule, first_of};

@@ -5,8 +5,7 @@ ghost use Rattle.dubp_chain.specs.Tables.{has_transaction};
 
 use dubp_atoms::Hash;
 use dubp_block::Block;
-use dubp_money::Money;
-use dubp_money_rules::Transactions;
+use dubp_money_rules::{Money, Transactions};
 use dubp_undo::Tables;
 
 /// The transactions of the chain of this money.

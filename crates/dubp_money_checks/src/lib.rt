@@ -15,5 +15,6 @@ mod earlier;
 mod first;
 mod laws;
 
+pub use dubp_money_rules::Money;
 pub use first::{first_broken_of_money, money_rules};
 pub use laws::conditions_can_be_read;

@@ -12,17 +12,17 @@ use Rattle.dubp_chain.specs.Money.{Source, same_source, among, is_left, made_sou
 use Rattle.dubp_validity.specs.Rules.{IsSound}
 use Rattle.dubp_validity.specs.MoneyRules.{is_spent_by, spent}
 use Rattle.dubp_lists.proofs.Elements.{or_left, or_right}
-use Rattle.dubp_laws.proofs.MadeOnce.{made_sources-once}
-use Rattle.dubp_laws.proofs.Sources.{same_source_is, same_source_own, SourcesApart, sources_tail, sources_head, sources-filter}
+use Rattle.dubp_money.proofs.OfLaws.{made_sources-once}
+use Rattle.dubp_money.proofs.OfLaws.{same_source_is, same_source_own, SourcesApart, sources_tail, sources_head, sources-filter}
 use Rattle.dubp_sindex.specs.declared.rows.SourceRow.{SourceRow}
 use Rattle.dubp_sindex.specs.Rows as rows
 use Rattle.dubp_sindex.specs.Rows.{Entry, is_named, row_at}
 use Rattle.dubp_undo.specs.States.{states}
 use Rattle.dubp_sindex.specs.States.{rows_of}
-use Rattle.dubp_money.specs.Below.{numbered}
-use Rattle.dubp_money.specs.Below.{account_in, entry_of, entries_of, sources_left}
-use Rattle.dubp_money.proofs.Below.{same_name}
-use Rattle.dubp_money.proofs.Below.{without_numbers}
+use Rattle.dubp_money.specs.OfMoneySteps.{numbered}
+use Rattle.dubp_money.specs.OfMoneySteps.{account_in, entry_of, entries_of, sources_left}
+use Rattle.dubp_money.proofs.OfMoneySteps.{same_name}
+use Rattle.dubp_money.proofs.OfMoneySteps.{without_numbers}
 use Rattle.dubp_money_rules.specs.Spending.{time_in, fitting_row, time_of_row}
 
 pub flip : (a b : SourceId) → same_source a b ≡ same_source b a

@@ -6,3 +6,5 @@ pub mod Opened
 pub mod Repeats
 pub mod Early
 pub mod Told
+pub mod OfMoney
+pub mod OfLists

@@ -19,7 +19,7 @@ use Rattle.dubp_chain.specs.Money.{Source, made_sources, unspent}
 use Rattle.dubp_validity.specs.MoneyRules.{IsOpened, is_spent_by, moment_of, spent, unlocks_of}
 use Rattle.dubp_lists.proofs.InOrder.{same_text_is}
 use Rattle.dubp_sindex.specs.declared.rows.SourceRow.{SourceRow}
-use Rattle.dubp_money.specs.Below.{account_in, HasTexts}
+use Rattle.dubp_money.specs.OfMoneySteps.{account_in, HasTexts}
 use Rattle.dubp_money_rules.specs.Spending.{HaveConditions, IsSeenOpened, seen_in}
 use Rattle.dubp_money_rules.proofs.Early.{made_times, unspent_all}
 

@@ -1,3 +1,6 @@
 pub mod Lines
 pub mod Spending
-pub mod Below
+pub mod OfLeft
+pub mod OfMoney
+pub mod OfLocal
+pub mod OfValidity

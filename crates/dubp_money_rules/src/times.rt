@@ -10,8 +10,7 @@ ghost use Rattle.dubp_money_rules.specs.Lines.{IsTxInTime};
 
 use dubp_block::Block;
 use dubp_cond::Tx;
-use dubp_facts::Facts;
-use dubp_left::Next;
+use dubp_left::{Facts, Next};
 use dubp_undo::Tables;
 
 /// How long a transaction may wait, in seconds.

@@ -7,8 +7,8 @@ use Rattle.dubp_cond.specs.Conditions.{cond_text}
 use Rattle.dubp_block.specs.declared.block.Block.{Block}
 use Rattle.dubp_chain.specs.Chains.{Chain}
 use Rattle.dubp_chain.specs.Money.{Source, same_source, units_of, used, among, is_left, made_sources, cleared_by, cleared, unspent, sources_of}
-use Rattle.dubp_lists.proofs.Elements.{is_false, IsIn, in_any, any_in, in_filter, kept_in, filter_on, filter_twice}
-use Rattle.dubp_lists.proofs.InOrder.{same_text_is}
+use Rattle.dubp_laws.proofs.OfLists.{is_false, IsIn, in_any, any_in, in_filter, kept_in, filter_on, filter_twice}
+use Rattle.dubp_laws.proofs.OfLists.{same_text_is}
 use Rattle.dubp_laws.proofs.Sources.{same_source_is, same_source_own, SourcesApart, sources_tail, sources_head, sources-filter}
 use Rattle.dubp_laws.proofs.Spending.{Pays}
 use Rattle.dubp_money_steps.specs.Steps.{rest, limit_of, is_small, ClearsByBalance}

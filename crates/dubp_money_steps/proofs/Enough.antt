@@ -3,7 +3,7 @@ use Rattle.std.proofs.Common.{◌≡◌, ℕ, ◌≤◌, Bool, true, false, not,
 use Rattle.std.specs.List.{list_any}
 use Rattle.std.proofs.lemmas.Bool.Decides.{Decides-eqb}
 use Rattle.std.proofs.lemmas.Bool.{ltb-false}
-use Rattle.dubp_lists.proofs.Elements.{IsIn, in_all, all_from_in, not_true, in_filter, kept_in}
+use Rattle.dubp_laws.proofs.OfLists.{IsIn, in_all, all_from_in, not_true, in_filter, kept_in}
 use Rattle.dubp_sindex.specs.Rows.{Entry, units_of_entry, is_of, of_account, units_in}
 use Rattle.dubp_money_steps.specs.Clearing.{has_little, HasEnough}
 use Rattle.dubp_money_steps.specs.Laws.{KeptHaveEnough, OthersHaveEnough}

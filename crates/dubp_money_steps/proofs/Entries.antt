@@ -11,10 +11,10 @@ use Rattle.dubp_cond.specs.declared.source.SourceId.{SourceId}
 use Rattle.dubp_block.specs.declared.block.Block.{Block}
 use Rattle.dubp_chain.specs.Chains.{Chain}
 use Rattle.dubp_chain.specs.Money.{Source, same_source, units_of, used, among, is_left, made_sources, cleared_by, cleared}
-use Rattle.dubp_validity.specs.declared.record.Record.TheVariants.{Clear}
-use Rattle.dubp_validity.specs.Records.{input_of}
+use Rattle.dubp_laws.specs.OfValidity.{Clear}
+use Rattle.dubp_laws.specs.OfValidity.{input_of}
 use Rattle.dubp_chain.specs.Tables.{row_of_source, source_row}
-use Rattle.dubp_lists.proofs.Elements.{IsIn, in_all, filter_on, filter_twice}
+use Rattle.dubp_laws.proofs.OfLists.{IsIn, in_all, filter_on, filter_twice}
 use Rattle.dubp_laws.proofs.Sources.{SourcesApart, sources-filter}
 use Rattle.dubp_laws.proofs.Spending.{Pays}
 use Rattle.dubp_sindex.specs.Rows.{Entry, units_of_entry, is_of, of_account, row_at, Rises, IsBelow}

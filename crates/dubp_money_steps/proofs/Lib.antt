@@ -7,4 +7,4 @@ pub mod Transacted
 pub mod Enough
 pub mod Ranges
 pub mod Cleared
-pub mod Below
+pub mod OfLaws

@@ -10,8 +10,8 @@ use Rattle.dubp_cond.specs.Conditions.{cond_text}
 use Rattle.dubp_block.specs.declared.block.Block.{Block}
 use Rattle.dubp_chain.specs.Chains.{Chain}
 use Rattle.dubp_chain.specs.Money.{Source, is_left, made_by, made_sources, cleared, unspent}
-use Rattle.dubp_lists.proofs.Elements.{is_false, IsIn, in_all, all_from_in, in_filter, in_left}
-use Rattle.dubp_lists.proofs.InOrder.{same_text_is, same_text_own}
+use Rattle.dubp_laws.proofs.OfLists.{is_false, IsIn, in_all, all_from_in, in_filter, in_left}
+use Rattle.dubp_laws.proofs.OfLists.{same_text_is, same_text_own}
 use Rattle.dubp_money_steps.specs.Steps.{rest, numbered, numbered_rest}
 use Rattle.dubp_money_steps.specs.Left.{account_in, text_of, entries_of, HasTexts}
 use Rattle.dubp_money_steps.specs.Laws.{SourcesStay, StatesStay}

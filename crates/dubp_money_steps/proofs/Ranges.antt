@@ -17,8 +17,8 @@ use Rattle.dubp_chain.specs.Members.{members}
 use Rattle.dubp_chain.specs.Heads.{next_head, heads_of, head_of, time_of, next_median_time, next_amount}
 use Rattle.dubp_chain.specs.Money.{Source, same_source, output_source, outputs_made, dividend_source, dividends_made, dividends_at, made_sources, is_left, cleared}
 use Rattle.dubp_params.specs.declared.params.Params.{Params}
-use Rattle.dubp_lists.proofs.Elements.{all_append}
-use Rattle.dubp_lists.proofs.Once.{each_once-map}
+use Rattle.dubp_laws.proofs.OfLists.{all_append}
+use Rattle.dubp_laws.proofs.OfLists.{each_once-map}
 use Rattle.dubp_laws.proofs.Sources.{SourcesApart, sources-filter}
 use Rattle.dubp_laws.proofs.MadeOnce.{made_sources-once}
 use Rattle.dubp_sindex.specs.Rows.{Entry, IsInRange, AreRows}

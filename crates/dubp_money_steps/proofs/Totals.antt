@@ -15,7 +15,7 @@ use Rattle.std.specs.Option.{option_map_or}
 use Rattle.std.specs.Int.{div_ceil}
 use Rattle.std.proofs.Math.Nat.{mul-le-mul_left, pow-le-pow_right}
 use Rattle.dubp_chain.specs.Money.{units_of, made_sources, cleared_by, cleared, unspent_units, cleared_units, hashes_in, hashes_of}
-use Rattle.dubp_validity.specs.Rules.{IsSound}
+use Rattle.dubp_laws.specs.OfValidity.{IsSound}
 use Rattle.dubp_laws.proofs.Mass.{issued_at}
 use Rattle.dubp_laws.proofs.Conservation.{conserves}
 use Rattle.dubp_money_steps.specs.Steps.{head_with, issued_by, cleared_units_by, outputs_of, dividends_of, TotalsGoOn, TransactionsGoOn, LimitStays}

@@ -12,8 +12,8 @@ use Rattle.dubp_rules.specs.declared.rule.Rule.TheVariants.{G87}
 use Rattle.dubp_chain.specs.Chains.{Chain}
 use Rattle.dubp_chain.specs.Heads.{time_of}
 use Rattle.dubp_chain.specs.Money.{Source, named_by, used, among, is_left, inputs_of, outputs_made, made_sources, cleared, unspent}
-use Rattle.dubp_validity.specs.Rules.{IsSound}
-use Rattle.dubp_lists.proofs.Elements.{is_false, IsIn, in_any, in_left, filter_true, filter_twice}
+use Rattle.dubp_laws.specs.OfValidity.{IsSound}
+use Rattle.dubp_laws.proofs.OfLists.{is_false, IsIn, in_any, in_left, filter_true, filter_twice}
 use Rattle.dubp_laws.proofs.Sources.{same_source_own, SourcesApart, sources-filter}
 use Rattle.dubp_laws.proofs.Spending.{Pays, pays, at_hand-is}
 use Rattle.dubp_laws.proofs.SourceRows.{has_id}

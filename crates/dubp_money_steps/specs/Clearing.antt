@@ -4,9 +4,9 @@ use Rattle.std.specs.List.{list_any, AllByRecursion}
 use Rattle.dubp_atoms.specs.Same.{Text}
 use Rattle.dubp_block.specs.declared.block.Block.{Block}
 use Rattle.dubp_chain.specs.Chains.{Chain}
-use Rattle.dubp_validity.specs.declared.record.Record.{Record}
-use Rattle.dubp_validity.specs.declared.record.Record.TheVariants.{Clear}
-use Rattle.dubp_validity.specs.Records.{clearing_records}
+use Rattle.dubp_laws.specs.OfValidity.{Record}
+use Rattle.dubp_laws.specs.OfValidity.{Clear}
+use Rattle.dubp_laws.specs.OfValidity.{clearing_records}
 use Rattle.dubp_sindex.specs.Rows.{Entry, units_in}
 use Rattle.dubp_money_steps.specs.Steps.{limit_of}
 use Rattle.dubp_money_steps.specs.Left.{sources_left, sources_before_clearing}

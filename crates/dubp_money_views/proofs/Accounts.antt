@@ -17,9 +17,9 @@ use Rattle.dubp_sindex.specs.Numbering.{number_of}
 use Rattle.dubp_sindex.specs.Rows.{units_of_entry, is_of, of_account, units_in}
 use Rattle.dubp_sindex.specs.States.{rows_of}
 use Rattle.dubp_sindex.proofs.Texts.{number_is}
-use Rattle.dubp_money_steps.specs.Steps.{numbered}
-use Rattle.dubp_money_steps.specs.Left.{account_in, text_of, entry_of, entries_of, sources_left, HasTexts}
-use Rattle.dubp_money_steps.proofs.Entries.{without_numbers}
+use Rattle.dubp_money.specs.OfMoneySteps.{numbered}
+use Rattle.dubp_money.specs.OfMoneySteps.{account_in, text_of, entry_of, entries_of, sources_left, HasTexts}
+use Rattle.dubp_money.proofs.OfMoneySteps.{without_numbers}
 
 -- ---- numbers of texts
 

@@ -7,7 +7,7 @@ use Rattle.dubp_undo.specs.States.{states}
 use Rattle.dubp_sindex.specs.Numbering.{number_of}
 use Rattle.dubp_sindex.specs.Rows.{Entry, of_account}
 use Rattle.dubp_sindex.specs.States.{rows_of}
-use Rattle.dubp_money_steps.specs.Left.{account_in, entries_of, sources_left, HasTexts}
+use Rattle.dubp_money.specs.OfMoneySteps.{account_in, entries_of, sources_left, HasTexts}
 use Rattle.dubp_money_views.specs.Views.{row_view, view_of}
 use Rattle.dubp_money_views.proofs.Accounts.{rows_left, numbered_of, numbered_sources, account_rows, sources_none}
 

@@ -1,7 +1,7 @@
 ghost use Rattle.std.specs.Prelude.{◌≡◌, ◌∷◌, ◌++◌, [], map, IfOk, OnOk};
 ghost use Rattle.dubp_chain.specs.Chains.{Chain};
 ghost use Rattle.dubp_chain.specs.Money.{balance as balance_of_chain, sources_of};
-ghost use Rattle.dubp_validity.specs.Rules.{IsSound};
+ghost use Rattle.dubp_money.specs.OfValidity.{IsSound};
 ghost use Rattle.dubp_money_views.specs.Views.{row_view, view_of};
 
 use dubp_atoms::NoMemory;

@@ -1,4 +1,4 @@
 pub mod Spelling
 pub mod Reading
 pub mod Ranges
-pub mod Below
+pub mod OfAtoms

@@ -8,8 +8,8 @@ use Rattle.dubp_chain.specs.Chains.{Chain, params}
 use Rattle.dubp_chain.specs.Members.{members}
 use Rattle.dubp_chain.specs.Heads.{heads_of, head_of, next_head}
 use Rattle.dubp_validity.specs.Rules.{IsSound}
-use Rattle.dubp_facts.proofs.Numbered.{next-number}
-use Rattle.dubp_left.specs.Laws.{time_numbered}
+use Rattle.dubp_registry.proofs.OfFacts.{next-number}
+use Rattle.dubp_registry.specs.OfLeft.{time_numbered}
 
 pub last-time : (c : Chain) → IsSound c → (n : ℕ) → n + 1 ≡ length c → time_numbered c n ≡ option_map (λ h. h.median_time) (head_of c)
 last-time [] sound n e = absurd (omega (arith, e))

@@ -2,11 +2,11 @@
 use Rattle.std.proofs.Common.{◌≡◌, ℕ, ◌+◌, Bool, true, false, cond, List, [], ◌∷◌, Option, None, Some, refl, sym, ap, subst, ◌∙◌, fold, length, take, arith}
 use Rattle.std.specs.Prelude.{option_map, is_some, if◌then◌else◌}
 use Rattle.dubp_atoms.specs.Same.{Text, same_text}
-use Rattle.dubp_lists.proofs.InOrder.{same_text_is}
+use Rattle.dubp_people_identities.proofs.OfLists.{same_text_is}
 use Rattle.dubp_params.specs.declared.params.Params.{Params}
 use Rattle.dubp_chain.specs.Tables as chain
-use Rattle.dubp_steps.specs.Taken.{kicked_by}
-use Rattle.dubp_left.specs.Left.{identity_entry, member_entry}
+use Rattle.dubp_people_apply.specs.OfSteps.{kicked_by}
+use Rattle.dubp_registry.specs.OfLeft.{identity_entry, member_entry}
 use Rattle.dubp_people.specs.Exclusion.{is_kicked}
 
 pub kicked_told : (p : Params) (time count : ℕ) (i : Option chain.IdentityRow) (m : Option chain.MembershipRow)

@@ -1,3 +1,5 @@
 pub mod Applied
 pub mod Exclusion
-pub mod Below
+pub mod OfLeft
+pub mod OfRegistry
+pub mod OfSteps

@@ -2,7 +2,7 @@ ghost use Rattle.std.specs.Prelude.{◌≡◌, ℕ, ◌+◌, ◌*◌, ◌≤◌,
 ghost use Rattle.dubp_undo.specs.Numbers.{settled};
 ghost use Rattle.dubp_undo.specs.States.{AtMostMore};
 ghost use Rattle.dubp_chain.specs.Chains.{Chain};
-ghost use Rattle.dubp_steps.specs.Steps.{people_records};
+ghost use Rattle.dubp_people_apply.specs.OfSteps.{people_records};
 ghost use Rattle.dubp_people.specs.Applied.{IsApplied};
 
 use crate::next::time_before;
@@ -10,8 +10,7 @@ use crate::writing::{write_lines, write_others};
 use dubp_atoms::{NoMemory, Steps};
 use dubp_block::Block;
 use dubp_chain::Head;
-use dubp_left::next_of;
-use dubp_registry::Registry;
+use dubp_registry::{Registry, next_of};
 use dubp_undo::Tables;
 use dubp_validity::Record;
 use std::alloc::Global;

@@ -17,6 +17,5 @@ mod kicked;
 mod next;
 mod writing;
 
-pub use dubp_left::Next;
 pub use applying::apply;
-pub use dubp_registry::Registry as People;
+pub use dubp_registry::{Next, Registry as People};

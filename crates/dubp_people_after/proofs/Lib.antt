@@ -6,3 +6,7 @@ pub mod Lists
 pub mod Live
 pub mod Rests
 pub mod Webs
+pub mod OfRegistry
+pub mod OfLeft
+pub mod OfSteps
+pub mod OfLists

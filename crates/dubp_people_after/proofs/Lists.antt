@@ -10,10 +10,10 @@ use Rattle.dubp_block.specs.declared.block.IdentityLine.{IdentityLine}
 use Rattle.dubp_block.specs.declared.block.MemberLine.{MemberLine}
 use Rattle.dubp_chain.specs.Words.{last_of}
 use Rattle.dubp_chain.specs.Members.{is_of}
-use Rattle.dubp_registry.specs.Below.{of_pair}
+use Rattle.dubp_registry.specs.OfSteps.{of_pair}
 use Rattle.dubp_people_after.specs.Keys.{same_pair}
-use Rattle.dubp_lists.proofs.InOrder.{same_text_is, same_text_own}
-use Rattle.dubp_lists.proofs.LastLines.{last_of-append}
+use Rattle.dubp_registry.proofs.OfLists.{same_text_is, same_text_own}
+use Rattle.dubp_registry.proofs.OfLists.{last_of-append}
 
 pub text_flip : (a b : Text) → same_text a b ≡ same_text b a
 text_flip a b =

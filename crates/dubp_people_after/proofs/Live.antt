@@ -11,18 +11,18 @@ use Rattle.dubp_chain.specs.Words.{last_of}
 use Rattle.dubp_chain.specs.Chains.{Chain, params}
 use Rattle.dubp_chain.specs.Live.{live, live_at}
 use Rattle.dubp_chain.specs.Tables.{CertificationRow, certification_row}
-use Rattle.dubp_lists.proofs.Elements.{and_left, and_right, IsIn, in_any, in_left, in_right, in_map, kept_in, last_in}
-use Rattle.dubp_lists.proofs.InOrder.{same_text_own}
-use Rattle.dubp_lists.proofs.LastLines.{time_of-rises}
+use Rattle.dubp_registry.proofs.OfLists.{and_left, and_right, IsIn, in_any, in_left, in_right, in_map, kept_in, last_in}
+use Rattle.dubp_registry.proofs.OfLists.{same_text_own}
+use Rattle.dubp_registry.proofs.OfLists.{time_of-rises}
 use Rattle.dubp_cindex.specs.declared.row.CertRow.{CertRow}
 use Rattle.dubp_cindex.specs.Rows.{Rows, Entry, live_to, live_from, rows_about, told}
 use Rattle.dubp_cindex.proofs.Walked as walked
 use Rattle.dubp_cindex.proofs.Entries.{got_in}
-use Rattle.dubp_registry.specs.Below.{now_of, cert_lasting, certification_time, of_pair}
-use Rattle.dubp_registry.proofs.Below.{live_at_is_of_row, live_step}
-use Rattle.dubp_registry.specs.Below.{cert_entry, certification_left, certifications_left}
-use Rattle.dubp_registry.proofs.Below.{certifications-at}
-use Rattle.dubp_registry.proofs.Below.{newest-left}
+use Rattle.dubp_registry.specs.OfSteps.{now_of, cert_lasting, certification_time, of_pair}
+use Rattle.dubp_registry.proofs.OfSteps.{live_at_is_of_row, live_step}
+use Rattle.dubp_registry.specs.OfLeft.{cert_entry, certification_left, certifications_left}
+use Rattle.dubp_registry.proofs.OfLeft.{certifications-at}
+use Rattle.dubp_registry.proofs.OfLeft.{newest-left}
 use Rattle.dubp_undo.specs.States.{newest, states}
 use Rattle.dubp_people_after.specs.Near.{HasIssuers, HasReceivers, is_end, is_end_of, is_end_near}
 use Rattle.dubp_people_after.proofs.Lists.{text_flip}

@@ -5,13 +5,13 @@ use Rattle.dubp_atoms.specs.Same.{Text, same_text}
 use Rattle.dubp_chain.specs.Chains.{Chain}
 use Rattle.dubp_chain.specs.Members.{member, members}
 use Rattle.dubp_chain.specs.Live.{certified_pairs, live, live_pairs}
-use Rattle.dubp_validity.specs.Rules.{IsSound}
-use Rattle.dubp_lists.proofs.InOrder.{same_text_is, same_text_own}
-use Rattle.dubp_lists.proofs.Elements.{and_left, and_right, any_in, in_any, in_filter, kept_in}
-use Rattle.dubp_registry.proofs.Below.{member_named}
-use Rattle.dubp_registry.proofs.Below.{live_some}
+use Rattle.dubp_registry.specs.OfValidity.{IsSound}
+use Rattle.dubp_registry.proofs.OfLists.{same_text_is, same_text_own}
+use Rattle.dubp_registry.proofs.OfLists.{and_left, and_right, any_in, in_any, in_filter, kept_in}
+use Rattle.dubp_registry.proofs.OfSteps.{member_named}
+use Rattle.dubp_registry.proofs.OfSteps.{live_some}
 use Rattle.dubp_iindex.specs.Order as index
-use Rattle.dubp_registry.specs.Below.{identities_left}
+use Rattle.dubp_registry.specs.OfLeft.{identities_left}
 use Rattle.dubp_registry.proofs.Followed.{members-shown}
 use Rattle.dubp_iindex.proofs.Members.{members-in_order}
 use Rattle.dubp_wot.specs.Order.{IsInOrder, IsNextMember, IsNextIssuer}

@@ -2,3 +2,8 @@ pub mod Keys
 pub mod Lines
 pub mod Names
 pub mod Near
+pub mod OfRegistry
+pub mod OfLeft
+pub mod OfSteps
+pub mod OfValidity
+pub mod OfFacts

@@ -6,11 +6,11 @@ use Rattle.dubp_atoms.specs.declared.stamp.Stamp.{Stamp}
 use Rattle.dubp_block.specs.declared.block.IdentityLine.{IdentityLine}
 use Rattle.dubp_block.specs.declared.block.MemberLine.{MemberLine}
 use Rattle.dubp_block.specs.declared.block.CertLine.{CertLine}
-use Rattle.dubp_docs.specs.Spelling.{signed_text as signed_document}
-use Rattle.dubp_docs.specs.declared.doc.Doc.TheVariants.{Certification}
+use Rattle.dubp_chain.specs.OfDocs.{signed_text as signed_document}
+use Rattle.dubp_chain.specs.OfDocs.{Certification}
 use Rattle.dubp_chain.specs.People.{Written}
 use Rattle.dubp_verdict.specs.Verdicts.{Verdicts, HasVerdict}
-use Rattle.dubp_registry.specs.Below.{BlockTime}
+use Rattle.dubp_registry.specs.OfFacts.{BlockTime}
 use Rattle.dubp_people_after.specs.declared.after.Name.{Name}
 
 abbrev pub name_of_line : IdentityLine → Name

@@ -19,10 +19,10 @@ mod near;
 mod rules;
 mod standing;
 
-pub use dubp_registry::Registry;
 pub use after::{After, Name, WithBlock};
 pub use counted::{joiners_are_certified, stocks_are_kept};
 pub use counts::{issuers, received, stock};
+pub use dubp_registry::{First, Next, Registry, next_of};
 pub use rules::{
     certifications_are_signed, issuers_are_members, memberships_have_identities,
     receivers_are_members, receivers_stay,

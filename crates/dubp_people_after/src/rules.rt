@@ -2,14 +2,14 @@ ghost use Rattle.std.specs.Prelude.{◌≡◌, ◌↔◌, IsTrue};
 ghost use Rattle.std.specs.List.{AllByRecursion};
 ghost use Rattle.dubp_block.specs.declared.block.Block.{Block as BlockValue};
 ghost use Rattle.dubp_chain.specs.Chains.{Chain};
-ghost use Rattle.dubp_validity.specs.PeopleRules.{IssuersAreMembers, ReceiversAreMembers, ReceiversStay, MembershipsHaveIdentities, CertificationsAreSigned, may_certify};
+ghost use Rattle.dubp_registry.specs.OfValidity.{IssuersAreMembers, ReceiversAreMembers, ReceiversStay, MembershipsHaveIdentities, CertificationsAreSigned, may_certify};
 ghost use Rattle.dubp_people_after.specs.Lines.{HasIdentity, HasMember, HasStaying, IsCertified};
 ghost use Rattle.dubp_people_after.specs.Names.{Certifies, CertifiesOn};
 
 use crate::after::{Name, WithBlock};
 use dubp_atoms::{Currency, Stamp};
 use dubp_block::{Block, CertLine, MemberLine};
-use dubp_docs::certification_hash;
+use dubp_chain::certification_hash;
 use dubp_verdict::Verdicts;
 
 /// Each issuer of a certification is a member of the chain, or of the new chain where the chain is empty: rule `G68`.

@@ -2,7 +2,7 @@ ghost use Rattle.std.specs.Prelude.{◌≡◌};
 ghost use Rattle.dubp_chain.specs.Chains.{Chain};
 ghost use Rattle.dubp_chain.specs.Members.{members};
 ghost use Rattle.dubp_chain.specs.Live.{live_pairs};
-ghost use Rattle.dubp_validity.specs.Rules.{IsSound};
+ghost use Rattle.dubp_registry.specs.OfValidity.{IsSound};
 
 use dubp_atoms::Key;
 use dubp_block::Block;

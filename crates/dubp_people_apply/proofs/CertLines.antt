@@ -10,8 +10,8 @@ use Rattle.dubp_block.specs.declared.block.Block.{Block}
 use Rattle.dubp_block.specs.declared.block.CertLine.{CertLine}
 use Rattle.dubp_chain.specs.Chains.{Chain}
 use Rattle.dubp_chain.specs.Tables.{CertificationRow}
-use Rattle.dubp_lists.proofs.InOrder.{same_text_is}
-use Rattle.dubp_lists.proofs.Elements.{and_left, and_right}
+use Rattle.dubp_steps.proofs.OfLists.{same_text_is}
+use Rattle.dubp_steps.proofs.OfLists.{and_left, and_right}
 use Rattle.dubp_cindex.specs.Rows.{Rows}
 use Rattle.dubp_cindex.specs.declared.row.CertRow.{CertRow}
 use Rattle.dubp_expiry.specs.Entries.{Queued}

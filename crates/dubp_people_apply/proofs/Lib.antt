@@ -10,3 +10,4 @@ pub mod EndedLines
 pub mod Appended
 pub mod Counted
 pub mod Fitting
+pub mod OfSteps

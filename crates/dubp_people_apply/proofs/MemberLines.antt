@@ -13,7 +13,7 @@ use Rattle.dubp_block.specs.declared.block.RevokedLine.{RevokedLine}
 use Rattle.dubp_chain.specs.Chains.{Chain}
 use Rattle.dubp_chain.specs.Tables.{MembershipRow}
 use Rattle.dubp_chain.specs.Tables as chain
-use Rattle.dubp_lists.proofs.InOrder.{same_text_is}
+use Rattle.dubp_steps.proofs.OfLists.{same_text_is}
 use Rattle.dubp_validity.specs.Records.{membership_time}
 use Rattle.dubp_mindex.specs.Members.{Members, members, member_at}
 use Rattle.dubp_mindex.specs.declared.member.MemberRow.{MemberRow}

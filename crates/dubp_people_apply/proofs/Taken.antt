@@ -16,8 +16,8 @@ use Rattle.dubp_chain.specs.Tables.{is_queued}
 use Rattle.dubp_chain.specs.Tables as chain
 use Rattle.dubp_validity.specs.Reduced.{set_ended}
 use Rattle.dubp_validity.specs.Rules.{IsSound}
-use Rattle.dubp_lists.proofs.Elements.{and_left, and_right}
-use Rattle.dubp_lists.proofs.LastLines.{time_of-rises}
+use Rattle.dubp_steps.proofs.OfLists.{and_left, and_right}
+use Rattle.dubp_steps.proofs.OfLists.{time_of-rises}
 use Rattle.dubp_mindex.specs.Members.{Members}
 use Rattle.dubp_cindex.specs.Rows.{Rows}
 use Rattle.dubp_expiry.specs.DueOrder.{entry_cmp}

@@ -2,3 +2,4 @@ pub mod Held
 pub mod Lines
 pub mod Taking
 pub mod Counting
+pub mod OfSteps

@@ -19,8 +19,7 @@ use dubp_atoms::{Key, NoMemory, Steps};
 use dubp_block::{Block, CertLine};
 use dubp_cindex::{CIndex, CertRow, CertRows};
 use dubp_expiry::{Due, Entries, Queue};
-use dubp_facts::Facts;
-use dubp_left::Next;
+use dubp_left::{Facts, Next};
 use dubp_undo::Tables;
 use std::sync::ledger::Ledger as StepBook;
 

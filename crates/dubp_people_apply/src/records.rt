@@ -8,7 +8,7 @@ ghost use Rattle.dubp_validity.specs.declared.record.Record.TheVariants.{Create,
 
 use dubp_atoms::{Key, NoMemory};
 use dubp_block::{Block, CertLine, IdentityLine, MemberLine, RevokedLine};
-use dubp_facts::Facts;
+use dubp_left::Facts;
 use dubp_undo::Tables;
 use dubp_validity::Record;
 

@@ -15,11 +15,11 @@ use Rattle.dubp_chain.specs.Members.{is_of, member, members}
 use Rattle.dubp_chain.specs.People.{identity_lines, membership_lines}
 use Rattle.dubp_validity.specs.PeopleRules.{IdentitiesAreFew, MembershipsHaveIdentities, is_identity_of}
 use Rattle.dubp_validity.specs.Rules.{IsSound}
-use Rattle.dubp_lists.proofs.Elements.{and_left, and_right, not_true, or_left, or_right, or_true, in_all, in_any, in_left, any_in, list_any-map}
-use Rattle.dubp_lists.proofs.InOrder.{same_text_is, members-once}
-use Rattle.dubp_lists.proofs.LastLines.{last_line-any}
-use Rattle.dubp_people_distance.proofs.Below.{some_identity, member_has_entry}
-use Rattle.dubp_people_distance.proofs.Below.{member_named}
+use Rattle.dubp_people_rules.proofs.OfLists.{and_left, and_right, not_true, or_left, or_right, or_true, in_all, in_any, in_left, any_in, list_any-map}
+use Rattle.dubp_people_rules.proofs.OfLists.{same_text_is, members-once}
+use Rattle.dubp_people_rules.proofs.OfLists.{last_line-any}
+use Rattle.dubp_people_distance.proofs.OfSteps.{some_identity, member_has_entry}
+use Rattle.dubp_people_distance.proofs.OfSteps.{member_named}
 
 abbrev of_key : Text → IdentityLine → Bool
 of_key k line = same_text k line.key

@@ -1,7 +1,7 @@
 -- A block that stands to be judged on the people of a chain, with what it changes there. Protocol: rules; people.
 use Rattle.dubp_chain.specs.Chains.{Chain}
-use Rattle.dubp_people_distance.specs.Below.{IsAsked}
-use Rattle.dubp_registry.specs.contracts.registry.RegistryTablesBlock.TheImpl as tables
+use Rattle.dubp_people_distance.specs.OfLeft.{IsAsked}
+use Rattle.dubp_people_after.specs.OfRegistry.registry_tables_block as tables
 use Rattle.dubp_people_after.specs.contracts.after.AfterWithBlock.TheImpl as looks
 use Rattle.dubp_people_checks.specs.declared.asked.Asked.{Asked}
 

@@ -5,9 +5,8 @@ ghost use Rattle.dubp_people_checks.specs.Asking.{IsAskedOf};
 
 use dubp_atoms::NoMemory;
 use dubp_block::Block;
+use dubp_people_after::{After, Registry, WithBlock};
 use dubp_people_distance::Next;
-use dubp_people_after::{After, WithBlock};
-use dubp_registry::Registry;
 use dubp_undo::Tables;
 use dubp_verdict::Verdicts;
 use std::alloc::Global;

@@ -1,4 +1,7 @@
 pub mod Counting
 pub mod Few
 pub mod Walked
-pub mod Below
+pub mod OfPeopleAfter
+pub mod OfRegistry
+pub mod OfLeft
+pub mod OfSteps

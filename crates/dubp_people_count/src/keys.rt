@@ -1,11 +1,11 @@
 ghost use Rattle.std.specs.Prelude.{◌≡◌, ◌∷◌, ◌++◌, [], IfOk, OnOk};
 ghost use Rattle.dubp_chain.specs.Chains.{Chain};
 ghost use Rattle.dubp_chain.specs.Members.{members};
-ghost use Rattle.dubp_validity.specs.Rules.{IsSound};
+ghost use Rattle.dubp_people_after.specs.OfValidity.{IsSound};
 
 use dubp_atoms::{Key, NoMemory};
 use dubp_block::Block;
-use dubp_registry::Registry;
+use dubp_people_after::Registry;
 use dubp_undo::Tables;
 use std::alloc::Global;
 

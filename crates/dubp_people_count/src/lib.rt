@@ -12,6 +12,6 @@
 mod keys;
 mod members;
 
-pub use dubp_people_after::Standing;
+pub use dubp_people_after::{First, Registry, Standing};
 pub use keys::member_keys;
 pub use members::members_with;

@@ -21,7 +21,7 @@ use Rattle.dubp_chain.specs.Chains.{Chain}
 use Rattle.dubp_chain.specs.Members.{joined_keys, member, members}
 use Rattle.dubp_iindex.specs.Rows.{texts}
 use Rattle.dubp_lists.proofs.InOrder.{same_text_is}
-use Rattle.dubp_steps.proofs.Kicked.{member_named}
+use Rattle.dubp_people_after.proofs.OfSteps.{member_named}
 use Rattle.dubp_people_distance.specs.Moved.{joins, leaves, SaysWhoJoins, SaysWhoLeaves}
 
 -- ---- in order

@@ -19,16 +19,16 @@ use Rattle.dubp_expiry.specs.declared.due.Due.TheVariants.{Certification}
 use Rattle.dubp_lists.proofs.Elements.{and_left, and_right, or_true, is_false, any_in, in_any}
 use Rattle.dubp_lists.proofs.InOrder.{same_text_is, same_text_own}
 use Rattle.dubp_lists.proofs.LastLines.{last_any, time_of-rises}
-use Rattle.dubp_left.specs.Left.{queue_left}
-use Rattle.dubp_left.proofs.Looked.{some-shown}
-use Rattle.dubp_left.proofs.Queued.{queue-at}
-use Rattle.dubp_steps.specs.AfterLines.{now_of, cert_lasting, certification_time, of_pair, is_planned}
-use Rattle.dubp_steps.specs.Steps.{waits_for_end}
-use Rattle.dubp_steps.proofs.Counts.{live_at_is_of_row, live_step}
-use Rattle.dubp_steps.proofs.Fits.{certifications_fit}
-use Rattle.dubp_steps.proofs.Lives.{live_is_of_row}
-use Rattle.dubp_steps.proofs.Planned.{planned_later}
-use Rattle.dubp_steps.proofs.Queue.{queued_certification}
+use Rattle.dubp_people_after.specs.OfLeft.{queue_left}
+use Rattle.dubp_people_after.proofs.OfLeft.{some-shown}
+use Rattle.dubp_people_after.proofs.OfLeft.{queue-at}
+use Rattle.dubp_people_after.specs.OfSteps.{now_of, cert_lasting, certification_time, of_pair, is_planned}
+use Rattle.dubp_people_after.specs.OfSteps.{waits_for_end}
+use Rattle.dubp_people_after.proofs.OfSteps.{live_at_is_of_row, live_step}
+use Rattle.dubp_people_after.proofs.OfSteps.{certifications_fit}
+use Rattle.dubp_people_after.proofs.OfSteps.{live_is_of_row}
+use Rattle.dubp_people_after.proofs.OfSteps.{planned_later}
+use Rattle.dubp_people_after.proofs.OfSteps.{queued_certification}
 use Rattle.dubp_people_after.specs.Near.{is_end}
 use Rattle.dubp_people_after.proofs.Lists.{text_flip}
 use Rattle.dubp_people_distance.specs.declared.certified.Certified.{Certified}

@@ -9,4 +9,4 @@ pub mod Sets
 pub mod Staying
 pub mod Stated
 pub mod Walked
-pub mod Below
+pub mod OfSteps

@@ -10,7 +10,7 @@ use Rattle.dubp_chain.specs.Live.{live, live_pairs, received, stock}
 use Rattle.dubp_chain.specs.Members.{member, members}
 use Rattle.dubp_iindex.specs.Rows.{texts}
 use Rattle.dubp_iindex.specs.Order.{IsNext}
-use Rattle.dubp_steps.proofs.Lives.{same_received}
+use Rattle.dubp_people_after.proofs.OfSteps.{same_received}
 use Rattle.dubp_wot.specs.Order.{IsInOrder, IsNextMember, IsNextIssuer}
 use Rattle.dubp_people_after.proofs.Webs.{member_told, next_member_told, next_issuer_told}
 use Rattle.dubp_people_distance.specs.declared.certified.Certified.{Certified}

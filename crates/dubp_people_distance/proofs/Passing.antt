@@ -13,7 +13,7 @@ use Rattle.dubp_chain.specs.Members.{member, members}
 use Rattle.dubp_params.specs.declared.params.Params.{Params}
 use Rattle.dubp_lists.proofs.Elements.{all_append, all_from_in, and_left, and_right, IsIn}
 use Rattle.dubp_lists.proofs.InOrder.{same_text_is, same_text_own}
-use Rattle.dubp_validity.specs.PeopleRules.{ComersPass}
+use Rattle.dubp_people_after.specs.OfValidity.{ComersPass}
 use Rattle.dubp_people_after.proofs.Rests.{Rests, rests_all, rests_fails}
 use Rattle.dubp_people_after.proofs.Webs.{listed_member, member_listed}
 use Rattle.dubp_people_distance.specs.Stated.{AreStated, HaveSteps}

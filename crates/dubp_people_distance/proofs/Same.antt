@@ -9,7 +9,7 @@ use Rattle.dubp_chain.specs.Chains.{Chain}
 use Rattle.dubp_chain.specs.Live.{live, stock}
 use Rattle.dubp_iindex.specs.Rows.{texts}
 use Rattle.dubp_lists.proofs.InOrder.{names_in_order, same_text_is}
-use Rattle.dubp_steps.proofs.Lives.{receivers_named, receivers_from, stock_is_count}
+use Rattle.dubp_people_after.proofs.OfSteps.{receivers_named, receivers_from, stock_is_count}
 use Rattle.dubp_people_distance.proofs.Counted.{in_order_sorted, sorted_once}
 
 -- to whom k has issued a live certification, each once

@@ -7,9 +7,9 @@ use Rattle.dubp_chain.specs.Chains.{Chain, params, no_params}
 use Rattle.dubp_params.specs.Ranges.{IsInRange}
 use Rattle.dubp_params.specs.declared.params.Params.{Params}
 use Rattle.dubp_rules.specs.declared.rule.Rule.TheVariants.{X02}
-use Rattle.dubp_validity.specs.Rules.{IsSound}
-use Rattle.dubp_left.specs.Next.{IsAsked}
-use Rattle.dubp_left.specs.declared.next.Next.{Next}
+use Rattle.dubp_people_after.specs.OfValidity.{IsSound}
+use Rattle.dubp_people_after.specs.OfLeft.{IsAsked}
+use Rattle.dubp_people_after.specs.OfLeft.{Next}
 use Rattle.dubp_people_distance.specs.Stated.{AreStated}
 
 -- they are in range, or there are none

@@ -14,8 +14,8 @@ use Rattle.dubp_expiry.specs.declared.due.Behind.{Behind}
 use Rattle.dubp_expiry.specs.declared.due.Behind.TheVariants.{Time, Entry}
 use Rattle.dubp_expiry.proofs.Order.{entry_exact}
 use Rattle.dubp_lists.proofs.Elements.{or_true}
-use Rattle.dubp_left.specs.Left.{queue_left}
-use Rattle.dubp_steps.specs.AfterLines.{now_of}
+use Rattle.dubp_people_after.specs.OfLeft.{queue_left}
+use Rattle.dubp_people_after.specs.OfSteps.{now_of}
 use Rattle.dubp_people_distance.specs.declared.certified.Certified.{Certified}
 use Rattle.dubp_people_distance.specs.Ends.{is_end_of_due}
 

@@ -3,4 +3,4 @@ pub mod Ends
 pub mod Moved
 pub mod Stated
 pub mod Webs
-pub mod Below
+pub mod OfLeft

@@ -19,5 +19,5 @@ mod next_web;
 mod rule;
 mod two_chains;
 
-pub use dubp_left::{Next, next_of};
+pub use dubp_people_after::{Next, next_of};
 pub use rule::comers_pass;

@@ -5,9 +5,9 @@ ghost use Rattle.dubp_chain.specs.Live.{live, received, stock};
 ghost use Rattle.dubp_chain.specs.Members.{member, members};
 ghost use Rattle.dubp_expiry.specs.Entries.{IsBehind, IsNextDue, NoneIsDue};
 ghost use Rattle.dubp_iindex.specs.Order.{IsNext};
-ghost use Rattle.dubp_left.specs.Left.{queue_left};
-ghost use Rattle.dubp_left.specs.Next.{IsAsked};
-ghost use Rattle.dubp_steps.specs.AfterLines.{now_of};
+ghost use Rattle.dubp_people_after.specs.OfLeft.{queue_left};
+ghost use Rattle.dubp_people_after.specs.OfLeft.{IsAsked};
+ghost use Rattle.dubp_people_after.specs.OfSteps.{now_of};
 ghost use Rattle.dubp_people_distance.specs.Certified.{IsCertified};
 ghost use Rattle.dubp_people_distance.specs.Stated.{AreStated};
 
@@ -15,10 +15,8 @@ use crate::certified::{Certified, certified_of};
 use dubp_atoms::{Key, NoMemory};
 use dubp_block::Block;
 use dubp_expiry::{Behind, Due};
-use dubp_left::Next;
 use dubp_params::Params;
-use dubp_people_after::{After, WithBlock};
-use dubp_people_after::Registry;
+use dubp_people_after::{After, Next, Registry, WithBlock};
 use dubp_undo::Tables;
 use std::alloc::Global;
 

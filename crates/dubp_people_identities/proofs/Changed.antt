@@ -12,11 +12,11 @@ use Rattle.dubp_block.specs.declared.block.MemberLine.{MemberLine}
 use Rattle.dubp_chain.specs.Chains.{Chain}
 use Rattle.dubp_chain.specs.Tables as chain
 use Rattle.dubp_chain.specs.Tables.{identity_row}
-use Rattle.dubp_validity.specs.Rules.{IsSound}
+use Rattle.dubp_left.specs.OfValidity.{IsSound}
 use Rattle.dubp_lists.proofs.InOrder.{same_text_is}
-use Rattle.dubp_steps.specs.AfterLines as lines
-use Rattle.dubp_steps.specs.AfterLines.{create_line, join_line, exclude_line, identity_after_lines}
-use Rattle.dubp_steps.proofs.Rows.{identity_step}
+use Rattle.dubp_left.specs.OfSteps.after_lines as lines
+use Rattle.dubp_left.specs.OfSteps.{create_line, join_line, exclude_line, identity_after_lines}
+use Rattle.dubp_left.proofs.OfSteps.{identity_step}
 use Rattle.dubp_iindex.specs.Rows.{Rows, FitsRows}
 use Rattle.dubp_iindex.specs.declared.row.IdentityRow.{IdentityRow}
 use Rattle.dubp_left.specs.Left.{identity_entry, identities_left}

@@ -1,3 +1,4 @@
 pub mod Changed
 pub mod Lines
 pub mod Onward
+pub mod OfLists

@@ -13,7 +13,7 @@ use Rattle.dubp_chain.specs.Words.{names}
 use Rattle.dubp_chain.specs.Chains.{Chain}
 use Rattle.dubp_chain.specs.Members.{member}
 use Rattle.dubp_chain.specs.People.{Written, identity, identity_lines}
-use Rattle.dubp_validity.specs.Rules.{IsSound}
+use Rattle.dubp_left.specs.OfValidity.{IsSound}
 use Rattle.dubp_lists.proofs.Elements.{IsIn, in_all, in_any, list_any-map, is_false}
 use Rattle.dubp_lists.proofs.InOrder.{same_text_is, same_text_own}
 use Rattle.dubp_lists.proofs.LastLines.{last_line-any}

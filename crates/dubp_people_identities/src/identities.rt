@@ -2,7 +2,7 @@ ghost use Rattle.std.specs.Prelude.{◌≡◌, ℕ, ◌+◌, ◌*◌, ◌≤◌,
 ghost use Rattle.dubp_undo.specs.Numbers.{settled};
 ghost use Rattle.dubp_undo.specs.States.{states, AtMostMore};
 ghost use Rattle.dubp_chain.specs.Chains.{Chain};
-ghost use Rattle.dubp_validity.specs.Rules.{IsSound};
+ghost use Rattle.dubp_left.specs.OfValidity.{IsSound};
 ghost use Rattle.std.specs.FinMap.{insert};
 ghost use Rattle.dubp_iindex.specs.Rows.{Rows, FitsRows};
 ghost use Rattle.dubp_left.specs.Left.{identities_left};

@@ -23,12 +23,12 @@ use Rattle.dubp_iindex.specs.declared.row.IdentityRow.{IdentityRow}
 use Rattle.dubp_mindex.specs.declared.member.MemberRow.{MemberRow}
 use Rattle.dubp_lists.proofs.LastLines.{time_of-rises, last_line-any}
 use Rattle.dubp_lists.proofs.Elements.{list_any-map, all_more}
-use Rattle.dubp_left.proofs.Below.{live_at_is_of_row}
-use Rattle.dubp_left.specs.Left.{identity_entry, identity_left, member_entry, membership_left, cert_entry, certification_left}
-use Rattle.dubp_left.specs.Laws.{time_numbered}
-use Rattle.dubp_left.specs.Next.{IsAsked}
-use Rattle.dubp_left.specs.declared.next.Next.{Next}
-use Rattle.dubp_left.proofs.Times.{written-time}
+use Rattle.dubp_registry.proofs.OfLeft.{live_at_is_of_row}
+use Rattle.dubp_registry.specs.OfLeft.{identity_entry, identity_left, member_entry, membership_left, cert_entry, certification_left}
+use Rattle.dubp_registry.specs.OfLeft.{time_numbered}
+use Rattle.dubp_registry.specs.OfLeft.{IsAsked}
+use Rattle.dubp_registry.specs.OfLeft.{Next}
+use Rattle.dubp_registry.proofs.OfLeft.{written-time}
 use Rattle.dubp_people_rules.specs.Lines.{IsPast, IsMembershipNewer, IsNewerThan, IsApart, IsMembershipApart, HasIssuerWaited, IsRevocationSigned, IsSignedRevocation, IsRowRenewed, MayFollow, MayFollowLast, is_live_then}
 
 -- two sentences that hold of the same lines hold of the same lists

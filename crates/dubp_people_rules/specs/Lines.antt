@@ -23,9 +23,9 @@ use Rattle.dubp_validity.specs.PeopleRules.{IsInWindow, HasWaited, revocation_do
 use Rattle.dubp_iindex.specs.declared.row.IdentityRow.{IdentityRow}
 use Rattle.dubp_mindex.specs.declared.member.MemberRow.{MemberRow}
 use Rattle.dubp_cindex.specs.declared.row.CertRow.{CertRow}
-use Rattle.dubp_left.specs.Left.{certification_left}
-use Rattle.dubp_left.specs.Laws.{time_numbered}
-use Rattle.dubp_left.specs.declared.next.Next.{Next}
+use Rattle.dubp_registry.specs.OfLeft.{certification_left}
+use Rattle.dubp_registry.specs.OfLeft.{time_numbered}
+use Rattle.dubp_registry.specs.OfLeft.{Next}
 
 -- now is so long after the block of this number
 abbrev pub IsPast : Chain → ℕ → ℕ → ℕ → Type 0

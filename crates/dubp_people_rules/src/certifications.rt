@@ -5,14 +5,13 @@ ghost use Rattle.std.specs.List.{AllByRecursion};
 ghost use Rattle.dubp_chain.specs.Chains.{Chain};
 ghost use Rattle.dubp_validity.specs.Rules.{IsSound};
 ghost use Rattle.dubp_validity.specs.PeopleRules.{CertificationsAreInTime, IssuersWaited, LivePairsAreRenewed};
-ghost use Rattle.dubp_left.specs.Next.{IsAsked};
+ghost use Rattle.dubp_registry.specs.OfLeft.{IsAsked};
 ghost use Rattle.dubp_people_rules.specs.Lines.{IsCertificationInTime, HasIssuerWaited, IsRowRenewed, MayFollow, MayFollowLast, is_live_then};
 
 use crate::windows::{has_waited, has_waited_since, is_in_window, is_past};
 use dubp_block::{Block, CertLine};
 use dubp_cindex::CertRow;
-use dubp_left::Next;
-use dubp_registry::Registry;
+use dubp_registry::{Next, Registry};
 use dubp_undo::Tables;
 
 /// The version of blocks that may renew a certification.

@@ -5,14 +5,13 @@ ghost use Rattle.dubp_chain.specs.Chains.{Chain};
 ghost use Rattle.dubp_chain.specs.People.{identity};
 ghost use Rattle.dubp_validity.specs.Rules.{IsSound};
 ghost use Rattle.dubp_validity.specs.PeopleRules.{IdentitiesAreFew, IdentitiesAreInTime, UidsAreNew, IdentitiesAreNew};
-ghost use Rattle.dubp_left.specs.Next.{IsAsked};
+ghost use Rattle.dubp_registry.specs.OfLeft.{IsAsked};
 ghost use Rattle.dubp_people_rules.specs.Lines.{IsIdentityInTime, IsUidNew, IsIdentityNew};
 
 use crate::windows::is_in_window;
 use dubp_atoms::Key;
 use dubp_block::{Block, IdentityLine};
-use dubp_left::Next;
-use dubp_registry::Registry;
+use dubp_registry::{Next, Registry};
 use dubp_undo::Tables;
 
 /// The most lines of Identities that a chain has.

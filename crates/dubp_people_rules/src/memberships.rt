@@ -5,15 +5,14 @@ ghost use Rattle.dubp_chain.specs.Chains.{Chain};
 ghost use Rattle.dubp_chain.specs.People.{membership, membership_lines};
 ghost use Rattle.dubp_validity.specs.Rules.{IsSound};
 ghost use Rattle.dubp_validity.specs.PeopleRules.{MembershipsAreInTime, MembershipsAreNewer, MembershipsAreApart, JoinersAreNoMembers, ActivesAreMembers, LeaversMayLeave, NobodyRevokedMoves};
-ghost use Rattle.dubp_left.specs.Next.{IsAsked};
+ghost use Rattle.dubp_registry.specs.OfLeft.{IsAsked};
 ghost use Rattle.dubp_people_rules.specs.Lines.{InSections, IsApart, IsMembershipInTime, IsMembershipNewer, IsMembershipApart, IsNewerThan, IsNoMember, IsMember, MayLeave, IsNotRevoked};
 
 use crate::windows::{has_waited_since, is_in_window};
 use dubp_atoms::Key;
 use dubp_block::{Block, MemberLine};
-use dubp_left::Next;
 use dubp_mindex::MemberRow;
-use dubp_registry::Registry;
+use dubp_registry::{Next, Registry};
 use dubp_undo::Tables;
 
 /// The version of blocks whose memberships need not be apart.

@@ -4,3 +4,4 @@ pub mod Uids
 pub mod Walked
 pub mod Certified
 pub mod Nearness
+pub mod OfLists

@@ -1,3 +1,4 @@
 pub mod Views
 pub mod Certifications
 pub mod Nearness
+pub mod OfFacts

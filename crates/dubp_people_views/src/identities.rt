@@ -8,9 +8,8 @@ ghost use Rattle.dubp_people_views.specs.Views.{expiry_of, identity_texts, state
 
 use dubp_atoms::{Key, Uid};
 use dubp_block::Block;
-use dubp_facts::First;
 use dubp_mindex::MemberRow;
-use dubp_registry::Registry;
+use dubp_people_count::{First, Registry};
 use dubp_undo::Tables;
 
 /// What is told of an identity.

@@ -17,9 +17,8 @@ mod distances;
 mod identities;
 mod keys;
 
-pub use dubp_registry::Registry;
-pub use dubp_people_count::members_with;
 pub use certifications::{CertificationView, certs};
 pub use distances::{DistanceView, distance};
+pub use dubp_people_count::{Registry, members_with};
 pub use identities::{IdentityState, IdentityView, identity, key_of};
 pub use keys::kicked;

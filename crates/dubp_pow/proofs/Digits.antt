@@ -3,7 +3,7 @@ use Rattle.std.proofs.Common.{◌≡◌, ℕ, ◌<◌, List, length, get_or, tru
 use Rattle.std.proofs.lemmas.Bool.Decides.{nat_tests}
 use Rattle.std.proofs.lemmas.List.Sums.{AllPass-from_list_all}
 use Rattle.std.specs.List.{list_all}
-use Rattle.dubp_params.specs.Below.{is_hash, is_upper_hex}
+use Rattle.dubp_params.specs.OfAtoms.{is_hash, is_upper_hex}
 
 pub length-hash : (t : List ℕ) → is_hash t ≡ true → length t ≡ 64
 unfolding is_hash

@@ -1,6 +1,6 @@
 -- The difficulty of an issuer for the next block. Protocol: difficulty of an issuer.
 use Rattle.std.specs.Prelude.{◌≡◌, ℕ, zero, suc, ◌+◌, ◌*◌, ◌/◌, ◌%◌, ◌^◌, ◌<◌, ◌≤◌, ◌⊎◌, ◌==◌, max, nat_le, if◌then◌else◌}
-use Rattle.dubp_params.specs.Below.{Dec}
+use Rattle.dubp_params.specs.OfAtoms.{Dec}
 use Rattle.dubp_pow.specs.Ladder.{table_row}
 
 -- the factor that keeps an issuer of a late block out for a while: percentRot × issuers / (1 + since), rounded down

@@ -1,6 +1,6 @@
 ghost use Rattle.std.specs.Prelude.{◌≡◌, ◌↔◌, IsTrue, true};
 ghost use Rattle.std.specs.List.{All};
-ghost use Rattle.dubp_params.specs.Below.{is_upper_hex};
+ghost use Rattle.dubp_params.specs.OfAtoms.{is_upper_hex};
 ghost use Rattle.dubp_pow.specs.Meeting.{Meets, hex_value};
 
 use dubp_params::Hash;

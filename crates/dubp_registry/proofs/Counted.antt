@@ -15,14 +15,14 @@ use Rattle.std.specs.FinMap.Entries.{below_all}
 use Rattle.std.proofs.lemmas.Map.Made.{lookup-map_values, keys_of-map_values}
 use Rattle.std.proofs.lemmas.List.Sums.{sum_by-cons}
 use Rattle.dubp_atoms.specs.Same.{Text}
-use Rattle.dubp_chain.specs.Chains.{Chain}
-use Rattle.dubp_chain.specs.Live.{received, stock, wrote}
-use Rattle.dubp_chain.specs.Tables.{CertificationRow, certification_row}
-use Rattle.dubp_facts.specs.Below.{IsSound}
-use Rattle.dubp_steps.specs.Ordered.{pair_cmp}
-use Rattle.dubp_steps.specs.Counts as steps
-use Rattle.dubp_steps.specs.Counts.{IsTableOf, IsGreatestWritten}
-use Rattle.dubp_steps.proofs.Counts.{received_is_of_table, stock_is_of_table, wrote_is_greatest}
+use Rattle.dubp_left.specs.OfChain.{Chain}
+use Rattle.dubp_left.specs.OfChain.{received, stock, wrote}
+use Rattle.dubp_left.specs.OfChain.{CertificationRow, certification_row}
+use Rattle.dubp_left.specs.OfFacts.{IsSound}
+use Rattle.dubp_left.specs.OfSteps.{pair_cmp}
+use Rattle.dubp_left.specs.OfSteps.counts as steps
+use Rattle.dubp_left.specs.OfSteps.{IsTableOf, IsGreatestWritten}
+use Rattle.dubp_left.proofs.OfSteps.{received_is_of_table, stock_is_of_table, wrote_is_greatest}
 use Rattle.dubp_cindex.specs.declared.row.CertRow.{CertRow}
 use Rattle.dubp_cindex.specs.declared.row.IssuerRow.{IssuerRow}
 use Rattle.dubp_cindex.specs.Rows.{Rows, Entry, live_to, live_from, is_from, received_in, stock_in, greatest, written_in, issuer_in}

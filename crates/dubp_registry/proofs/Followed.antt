@@ -5,18 +5,18 @@ use Rattle.std.specs.Option.{option_map_or}
 use Rattle.std.specs.FinMap.{get}
 use Rattle.std.proofs.lemmas.List.Elements.{All-nil, All-cons, All-weaker, All-contains, Contains-append_left, Contains-append_right, Contains-push}
 use Rattle.dubp_atoms.specs.Same.{Text, same_text}
-use Rattle.dubp_chain.specs.Words.{names}
-use Rattle.dubp_chain.specs.Chains.{Chain}
-use Rattle.dubp_chain.specs.Members as chain
-use Rattle.dubp_chain.specs.Members.{member}
-use Rattle.dubp_chain.specs.Live.{live}
-use Rattle.dubp_facts.specs.Below.{IsSound}
+use Rattle.dubp_left.specs.OfChain.{names}
+use Rattle.dubp_left.specs.OfChain.{Chain}
+use Rattle.dubp_left.specs.OfChain.members as chain
+use Rattle.dubp_left.specs.OfChain.{member}
+use Rattle.dubp_left.specs.OfChain.{live}
+use Rattle.dubp_left.specs.OfFacts.{IsSound}
 use Rattle.dubp_iindex.specs.Order.{IsNext}
-use Rattle.dubp_chain.specs.Tables.{CertificationRow, certification_row}
-use Rattle.dubp_lists.proofs.Elements.{IsIn, in_any, any_in}
-use Rattle.dubp_lists.proofs.InOrder.{same_text_is, same_text_own}
-use Rattle.dubp_steps.proofs.Lives.{live_is_of_row}
-use Rattle.dubp_steps.proofs.Touched.{members_are_table}
+use Rattle.dubp_left.specs.OfChain.{CertificationRow, certification_row}
+use Rattle.dubp_left.proofs.OfLists.{IsIn, in_any, any_in}
+use Rattle.dubp_left.proofs.OfLists.{same_text_is, same_text_own}
+use Rattle.dubp_left.proofs.OfSteps.{live_is_of_row}
+use Rattle.dubp_left.proofs.OfSteps.{members_are_table}
 use Rattle.dubp_iindex.specs.Rows.{is_member_at, members}
 use Rattle.dubp_iindex.proofs.Members.{members-in_order, member-listed, listed-member}
 use Rattle.dubp_cindex.specs.Rows.{lives}

@@ -1,3 +1,6 @@
 pub mod Counted
 pub mod Followed
-pub mod Below
+pub mod OfLeft
+pub mod OfSteps
+pub mod OfLists
+pub mod OfFacts

@@ -1,1 +1,4 @@
-pub mod Below
+pub mod OfLeft
+pub mod OfSteps
+pub mod OfFacts
+pub mod OfValidity

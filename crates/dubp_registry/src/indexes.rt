@@ -1,11 +1,11 @@
 ghost use Rattle.std.specs.Prelude.{◌≡◌, List, [], ℕ};
-ghost use Rattle.dubp_chain.specs.Chains.{Chain};
+ghost use Rattle.dubp_left.specs.OfChain.{Chain};
 ghost use Rattle.dubp_left.specs.Left.{identities_left, memberships_left, certifications_left};
 
 use dubp_atoms::{NoMemory, Steps};
-use dubp_block::Block;
 use dubp_cindex::{CIndex, CertRows};
 use dubp_iindex::{IIndex, IdentityRows};
+use dubp_left::Block;
 use dubp_mindex::{MIndex, MemberRows};
 use dubp_undo::{Along, StateOf, Tables, Three};
 use std::alloc::Global;

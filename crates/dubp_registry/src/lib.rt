@@ -17,8 +17,7 @@ mod looks;
 mod others;
 mod registry;
 
-pub use dubp_facts::BlockTime;
-pub use dubp_left::Next;
+pub use dubp_left::{BlockTime, Facts, First, Next, next_of};
 pub use indexes::{CertificationsLeft, IdentitiesLeft, Indexes, MembershipsLeft};
 pub use others::{KickedOf, Others, QueueLeft};
 pub use registry::Registry;

@@ -1,27 +1,26 @@
 ghost use Rattle.std.specs.Prelude.{◌≡◌, ◌↔◌, IsTrue, ℕ, Option, is_some, length, map, IfSome, IfNone};
 ghost use Rattle.dubp_atoms.specs.Same.{Text};
-ghost use Rattle.dubp_block.specs.declared.block.Block.{Block as BlockValue};
-ghost use Rattle.dubp_chain.specs.Words.{names};
-ghost use Rattle.dubp_chain.specs.Chains.{Chain};
-ghost use Rattle.dubp_chain.specs.Members.{member, members};
-ghost use Rattle.dubp_chain.specs.Made.{made, certification_made};
-ghost use Rattle.dubp_chain.specs.People.{identity_lines, leaving, revoked};
-ghost use Rattle.dubp_chain.specs.Live.{live, received, stock, wrote};
-ghost use Rattle.dubp_chain.specs.Tables.{is_to_be_excluded};
-ghost use Rattle.dubp_facts.specs.Below.{IsSound};
+ghost use Rattle.dubp_left.specs.OfChain.{Block as BlockValue};
+ghost use Rattle.dubp_left.specs.OfChain.{names};
+ghost use Rattle.dubp_left.specs.OfChain.{Chain};
+ghost use Rattle.dubp_left.specs.OfChain.{member, members};
+ghost use Rattle.dubp_left.specs.OfChain.{made, certification_made};
+ghost use Rattle.dubp_left.specs.OfChain.{identity_lines, leaving, revoked};
+ghost use Rattle.dubp_left.specs.OfChain.{live, received, stock, wrote};
+ghost use Rattle.dubp_left.specs.OfChain.{is_to_be_excluded};
+ghost use Rattle.dubp_left.specs.OfFacts.{IsSound};
 ghost use Rattle.dubp_iindex.specs.Order.{IsNext};
 ghost use Rattle.dubp_expiry.specs.Entries.{IsBehind, IsNextDue, NoneIsDue};
-ghost use Rattle.dubp_facts.specs.Facts.{first_at};
+ghost use Rattle.dubp_left.specs.OfFacts.{first_at};
 ghost use Rattle.dubp_left.specs.Laws.{time_numbered};
 ghost use Rattle.dubp_left.specs.Left.{identity_left, membership_left, certification_left, queue_left};
 
 use crate::registry::Registry;
 use dubp_atoms::{Key, Stamp, Uid};
-use dubp_block::{Block, CertLine};
 use dubp_cindex::CertRow;
 use dubp_expiry::{Behind, Due};
-use dubp_facts::First;
 use dubp_iindex::IdentityRow;
+use dubp_left::{Block, CertLine, First};
 use dubp_mindex::MemberRow;
 use dubp_undo::Tables;
 

@@ -1,11 +1,10 @@
 ghost use Rattle.std.specs.Prelude.{◌≡◌, List, [], ℕ};
-ghost use Rattle.dubp_chain.specs.Chains.{Chain};
+ghost use Rattle.dubp_left.specs.OfChain.{Chain};
 ghost use Rattle.dubp_left.specs.Left.{queue_left, kicked_at};
 
 use dubp_atoms::{Key, NoMemory, Steps};
-use dubp_block::Block;
 use dubp_expiry::{Entries, Queue};
-use dubp_facts::Facts;
+use dubp_left::{Block, Facts};
 use dubp_undo::{Along, Definition, Leaf, StateOf, Tables, Three};
 use std::alloc::Global;
 use std::sync::ledger::Ledger as StepBook;

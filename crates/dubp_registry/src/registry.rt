@@ -1,16 +1,15 @@
 ghost use Rattle.std.specs.Prelude.{◌≡◌, List, [], ℕ};
 ghost use Rattle.dubp_undo.specs.States.{states};
-ghost use Rattle.dubp_chain.specs.Chains.{Chain};
+ghost use Rattle.dubp_left.specs.OfChain.{Chain};
 ghost use Rattle.dubp_left.specs.Left.{identities_left, memberships_left, certifications_left, queue_left};
 
 use crate::indexes::Indexes;
 use crate::others::Others;
 use dubp_atoms::{NoMemory, Steps};
-use dubp_block::Block;
 use dubp_cindex::{CIndex, CertRows};
 use dubp_expiry::{Entries, Queue};
-use dubp_facts::Facts;
 use dubp_iindex::{IIndex, IdentityRows};
+use dubp_left::{Block, Facts};
 use dubp_mindex::{MIndex, MemberRows};
 use dubp_undo::{Both, Tables};
 use std::alloc::Global;

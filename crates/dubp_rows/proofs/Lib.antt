@@ -1,3 +1,4 @@
 pub mod Longer
 pub mod SameLines
 pub mod Joined
+pub mod OfKept

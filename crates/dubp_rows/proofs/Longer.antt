@@ -14,7 +14,7 @@ use Rattle.dubp_chain.specs.Members.{members}
 use Rattle.dubp_chain.specs.Heads.{heads_of, next_head}
 use Rattle.dubp_chain.specs.Made.{head_stamped, head_numbered, made, certification_made}
 use Rattle.dubp_validity.specs.Rules.{IsSound}
-use Rattle.dubp_facts.proofs.Numbered.{AreBelow, next-number, heads-below, of_hash, stamped-numbered}
+use Rattle.dubp_money.proofs.OfFacts.{AreBelow, next-number, heads-below, of_hash, stamped-numbered}
 
 pub sound_below : (d c : Chain) → IsSound (d ++ c) → IsSound c
 sound_below [] c sound = sound

@@ -15,4 +15,5 @@ mod lines;
 mod money;
 mod rows;
 
+pub use dubp_kept::{Held, Kept, LeftBehind, check_local};
 pub use rows::put_records;

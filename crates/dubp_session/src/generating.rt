@@ -1,7 +1,7 @@
 ghost use Rattle.std.specs.Prelude.{◌≡◌, ◌≤◌, ◌++◌, List, ℕ, Option, OnOk, OnErr, IfOk, map, reverse};
 ghost use Rattle.std.specs.List.{AllByRecursion};
 ghost use Rattle.dubp_block.specs.Text.{IsBlock};
-ghost use Rattle.dubp_ledger.specs.Traces.{IsShort};
+ghost use Rattle.dubp_gen.specs.OfLedger.{IsShort};
 ghost use Rattle.dubp_gen.specs.Generated.{IsMade};
 ghost use Rattle.dubp_gen.specs.Making.{made_of};
 ghost use Rattle.dubp_session.specs.Run.{at};
@@ -12,11 +12,9 @@ ghost use Rattle.dubp_session.specs.Generating.{IsGivenFront, commands_of, shown
 use crate::texts::{asked_for, no_block, no_nonce};
 use dubp_atoms::{Hash, Key, NoMemory, Sig, Steps};
 use dubp_block::Block;
-use dubp_gen::{Chain, GenRefusal, make_chain};
-use dubp_ledger::{Ledger, PeopleAndMoney};
+use dubp_gen::{Chain, GenRefusal, Ledger, PeopleAndMoney, make_chain};
 use dubp_outside::{Sink, write_whole};
-use dubp_query::{head_line, money_line};
-use dubp_turns::Node;
+use dubp_turns::{Node, head_line, money_line};
 use std::alloc::Global;
 use std::sync::ledger::Ledger as StepBook;
 

@@ -6,7 +6,7 @@ ghost use Rattle.dubp_session.specs.Entries.{Entry, Frame as frame_entry, HeadsF
 ghost use Rattle.dubp_session.specs.Turns.{EntryServed, EntryTurn};
 ghost use Rattle.dubp_script.specs.Framed.{framed_command, framed_len};
 ghost use Rattle.dubp_script.specs.Spelling.{Says};
-ghost use Rattle.dubp_query.specs.AnswerBytes.{answer_bytes};
+ghost use Rattle.dubp_turns.specs.OfQuery.{answer_bytes};
 ghost use Rattle.dubp_replay.specs.Turns.{State};
 ghost use Rattle.dubp_session.specs.Session.{Broke};
 ghost use Rattle.dubp_session.specs.Reading.{Shows, Stands, most_at_hand};
@@ -16,13 +16,11 @@ use crate::item::Item;
 use crate::reading::{Found, LONGEST_LINE, Phase, frame_head, line_end, take_one};
 use crate::texts::bad;
 use dubp_atoms::Steps;
+use dubp_gen::PeopleAndMoney;
 use dubp_laws::conserved;
-use dubp_ledger::PeopleAndMoney;
 use dubp_outside::{Failed, Sink, write_whole};
-use dubp_query::Answer;
 use dubp_script::{Framed, read_command};
-use dubp_turns::Node;
-use dubp_turns::refused;
+use dubp_turns::{Answer, Node, refused};
 use std::sync::ledger::Ledger as StepBook;
 
 /// The node takes its turn, and the answer is written.

@@ -1,14 +1,13 @@
 ghost use Rattle.std.specs.Prelude.{◌≡◌, ◌++◌, ◌∷◌, codes, decimal};
 ghost use Rattle.dubp_atoms.specs.Letters.{SPACE};
-ghost use Rattle.dubp_query.specs.AnswerBytes.{answer_bytes};
+ghost use Rattle.dubp_turns.specs.OfQuery.{answer_bytes};
 ghost use Rattle.dubp_replay.specs.Answers.{answer_line, bad_answer};
 ghost use Rattle.dubp_rules.specs.Table.{code_text};
 
 use arrayvec::ArrayVec;
 use dubp_atoms::{Line, put_bytes, put_number};
-use dubp_query::Answer;
 use dubp_rules::{Rule, code};
-use dubp_turns::{numbered, one};
+use dubp_turns::{Answer, numbered, one};
 
 /// `BAD`: the answer to a line that is no command, and to a frame that does not end with LF.
 pub fn bad() -> Answer

@@ -5,7 +5,7 @@ use Rattle.std.specs.List.{list_any}
 use Rattle.std.proofs.lemmas.List.Folds.{list_any-append}
 use Rattle.std.proofs.lemmas.Map.Views.{any-filter_same}
 use Rattle.dubp_atoms.specs.Same.{Text, same_text}
-use Rattle.dubp_params.specs.declared.params.Params.{Params}
+use Rattle.dubp_block.specs.OfParams.{Params}
 use Rattle.dubp_block.specs.declared.block.Block.{Block}
 use Rattle.dubp_block.specs.declared.block.IdentityLine.{IdentityLine}
 use Rattle.dubp_block.specs.declared.block.MemberLine.{MemberLine}

@@ -4,7 +4,7 @@ use Rattle.std.specs.Prelude.{◌≡◌, ℕ, ◌+◌, ◌*◌, Bool, true, fals
 use Rattle.std.specs.Option.{option_map_or}
 use Rattle.dubp_atoms.specs.Same.{Text}
 use Rattle.dubp_block.specs.declared.block.Block.{Block}
-use Rattle.dubp_params.specs.declared.params.Params.{Params}
+use Rattle.dubp_block.specs.OfParams.{Params}
 use Rattle.dubp_chain.specs.Words.{last_of}
 use Rattle.dubp_chain.specs.Chains.{Chain}
 use Rattle.dubp_chain.specs.Members.{is_of}

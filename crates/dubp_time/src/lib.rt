@@ -18,5 +18,6 @@
 mod medians;
 mod window;
 
+pub use dubp_atoms::{Hash, Key, Stamp};
 pub use medians::{median, median_laws};
 pub use window::Window;

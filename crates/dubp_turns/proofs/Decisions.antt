@@ -5,10 +5,10 @@ use Rattle.dubp_atoms.specs.declared.stamp.Stamp.{Stamp}
 use Rattle.dubp_block.specs.declared.block.Block.{Block}
 use Rattle.dubp_block.specs.Text.{stamp_of}
 use Rattle.dubp_block.specs.RefusedLine.{IsRefusedLine}
-use Rattle.dubp_kept.specs.KeptChain.{KeptChain, Out, kept_of, with_block}
-use Rattle.dubp_ledger.specs.States.{Accepted, HandedBack}
-use Rattle.dubp_ledger.specs.declared.refusal.SubmitRefusal.{SubmitRefusal}
-use Rattle.dubp_ledger.specs.declared.refusal.SubmitRefusal.TheVariants as refusal
+use Rattle.dubp_forks.specs.OfKept.{KeptChain, Out, kept_of, with_block}
+use Rattle.dubp_forks.specs.OfLedger.{Accepted, HandedBack}
+use Rattle.dubp_forks.specs.OfLedger.{SubmitRefusal}
+use Rattle.dubp_forks.specs.OfLedger.submit_refusal_variants as refusal
 use Rattle.dubp_rules.specs.declared.rule.Rule.{Rule}
 use Rattle.dubp_rules.specs.declared.rule.Rule.TheVariants.{X01, P01}
 use Rattle.dubp_rules.specs.Table.{code_text, table_rules}

@@ -9,8 +9,8 @@ use Rattle.dubp_rules.specs.Table.{code_text}
 use Rattle.dubp_validity.specs.Rules.{FirstBroken}
 use Rattle.dubp_replay.specs.Answers.{accepted_answer, branch_refused_answer, detached_answer, full_answer, known_answer, no_memory_answer, refused_answer, stored_answer, switched_answer, too_deep_answer, unknown_answer, unread_answer}
 use Rattle.dubp_replay.specs.Turns.{State, Only, BlockTurn, OfferTurn, accepted}
-use Rattle.dubp_ledger.specs.declared.refusal.SubmitRefusal.{SubmitRefusal}
-use Rattle.dubp_ledger.specs.declared.refusal.SubmitRefusal.TheVariants.{Refused, NoMemory}
+use Rattle.dubp_forks.specs.OfLedger.{SubmitRefusal}
+use Rattle.dubp_forks.specs.OfLedger.{Refused, NoMemory}
 use Rattle.dubp_forks.specs.declared.refusals.OfferRefusal.{OfferRefusal}
 use Rattle.dubp_forks.specs.declared.refusals.OfferRefusal.TheVariants as offer
 use Rattle.dubp_forks.specs.declared.refusals.SwitchRefusal.{SwitchRefusal}

@@ -12,5 +12,6 @@
 mod node;
 mod texts;
 
+pub use dubp_query::{Answer, head_line, money_line};
 pub use node::{LONGEST_BLOCK, Node};
 pub use texts::{numbered, one, refused};

@@ -15,8 +15,7 @@ use crate::texts::{
 use dubp_atoms::{Hash, Key, NoMemory, Secret, Sig, Stamp, Steps};
 use dubp_block::laws::blocks_have_one_text;
 use dubp_block::{Block, ReadRefusal, read_block};
-use dubp_forks::Store;
-use dubp_ledger::{Ledger, PeopleAndMoney, SubmitRefusal, TooDeep};
+use dubp_forks::{Ledger, PeopleAndMoney, Store, SubmitRefusal, TooDeep};
 use dubp_query::{Answer, Query, answer};
 use dubp_replay::Command;
 use dubp_verdict::Verdicts;

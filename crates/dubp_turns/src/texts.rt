@@ -7,8 +7,7 @@ ghost use Rattle.dubp_rules.specs.Table.{code_text};
 
 use arrayvec::ArrayVec;
 use dubp_atoms::{Line, Stamp, put_bytes, put_number};
-use dubp_forks::{OfferRefusal, SwitchRefusal};
-use dubp_ledger::SubmitRefusal;
+use dubp_forks::{OfferRefusal, SubmitRefusal, SwitchRefusal};
 use dubp_query::Answer;
 use dubp_rules::{Rule, code};
 

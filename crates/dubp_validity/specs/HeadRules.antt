@@ -3,11 +3,11 @@
 use Rattle.std.specs.Prelude.{◌≡◌, ℕ, ◌*◌, ◌^◌, ◌<◌, ◌≤◌, max, min, IsTrue, List, [], ◌∷◌, length, take, sum_by, ⊤}
 use Rattle.std.specs.Option.{MatchOption, IsSomeAnd}
 use Rattle.std.specs.Int.{div_ceil}
-use Rattle.dubp_chain.specs.Below.{Params}
-use Rattle.dubp_chain.specs.Below.{Meets}
-use Rattle.dubp_chain.specs.Below.{numerator}
-use Rattle.dubp_chain.specs.BlockTexts.{block_hash_of, size_of}
-use Rattle.dubp_chain.specs.Below.{Block}
+use Rattle.dubp_chain.specs.OfParams.{Params}
+use Rattle.dubp_chain.specs.OfPow.{Meets}
+use Rattle.dubp_chain.specs.OfDividend.{numerator}
+use Rattle.dubp_chain.specs.OfBlock.{block_hash_of, size_of}
+use Rattle.dubp_chain.specs.OfBlock.{Block}
 use Rattle.dubp_chain.specs.declared.head.Head.{Head}
 use Rattle.dubp_chain.specs.Chains.{Chain, params, currency}
 use Rattle.dubp_chain.specs.Members.{member, members}

@@ -5,4 +5,6 @@ pub mod MoneyRules
 pub mod Rules
 pub mod Records
 pub mod Reduced
-pub mod Below
+pub mod OfChain
+pub mod OfBlock
+pub mod OfRules

@@ -2,22 +2,22 @@
 use Rattle.std.specs.Prelude.{◌≡◌, ◌⊎◌, ℕ, ◌+◌, ◌^◌, ◌<◌, ◌≤◌, ◌==◌, Bool, true, false, IsTrue, ◌&&◌, not, List, [], ◌∷◌, ◌++◌, map, length, count_by, sum_by, ⊤}
 use Rattle.std.specs.Option.{MatchOption}
 use Rattle.std.specs.List.{AllByRecursion, list_any, zip}
-use Rattle.dubp_atoms.specs.Same.{Text, same_text, same_stamp, empty_stamp}
-use Rattle.dubp_atoms.specs.Hashing.{hash_of}
-use Rattle.dubp_chain.specs.Below.{IsInRange, greatest_acceleration}
-use Rattle.dubp_cond.specs.declared.unlock.Unlock.{Unlock}
-use Rattle.dubp_cond.specs.declared.unlock.Unlock.TheVariants.{Sig, Xhx}
-use Rattle.dubp_cond.specs.declared.source.Input.{Input}
-use Rattle.dubp_cond.specs.declared.output.Output.{Output}
-use Rattle.dubp_cond.specs.declared.tx.Tx.{Tx}
-use Rattle.dubp_chain.specs.Below.{signed_text as signed_document, signed_tx}
-use Rattle.dubp_chain.specs.Below.{Identity, Membership}
-use Rattle.dubp_chain.specs.Below.{compact_lines}
-use Rattle.dubp_chain.specs.BlockTexts.{inner_text, signed_text}
-use Rattle.dubp_chain.specs.Below.{Block}
-use Rattle.dubp_chain.specs.Below.{IdentityLine}
-use Rattle.dubp_chain.specs.Below.{MemberLine}
-use Rattle.dubp_chain.specs.Below.{CertLine}
+use Rattle.dubp_verdict.specs.OfAtoms.{Text, same_text, same_stamp, empty_stamp}
+use Rattle.dubp_verdict.specs.OfAtoms.{hash_of}
+use Rattle.dubp_chain.specs.OfParams.{IsInRange, greatest_acceleration}
+use Rattle.dubp_chain.specs.OfCond.{Unlock}
+use Rattle.dubp_chain.specs.OfCond.{Sig, Xhx}
+use Rattle.dubp_chain.specs.OfCond.{Input}
+use Rattle.dubp_chain.specs.OfCond.{Output}
+use Rattle.dubp_chain.specs.OfCond.{Tx}
+use Rattle.dubp_chain.specs.OfDocs.{signed_text as signed_document, signed_tx}
+use Rattle.dubp_chain.specs.OfDocs.{Identity, Membership}
+use Rattle.dubp_chain.specs.OfBlock.{compact_lines}
+use Rattle.dubp_chain.specs.OfBlock.{inner_text, signed_text}
+use Rattle.dubp_chain.specs.OfBlock.{Block}
+use Rattle.dubp_chain.specs.OfBlock.{IdentityLine}
+use Rattle.dubp_chain.specs.OfBlock.{MemberLine}
+use Rattle.dubp_chain.specs.OfBlock.{CertLine}
 use Rattle.dubp_chain.specs.Words.{names, each_once}
 use Rattle.dubp_chain.specs.Chains.{Chain, params}
 use Rattle.dubp_chain.specs.Members.{is_of}

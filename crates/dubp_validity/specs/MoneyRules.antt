@@ -2,12 +2,12 @@
 use Rattle.std.specs.Prelude.{ℕ, ◌+◌, ◌≤◌, ◌==◌, Bool, IsTrue, ◌&&◌, not, List, [], ◌∷◌, ◌++◌, filter, find, Option, ⊤}
 use Rattle.std.specs.Option.{MatchOption, IsSomeAnd}
 use Rattle.std.specs.List.{AllByRecursion, flat_map, enumerate_from}
-use Rattle.dubp_atoms.specs.Same.{same_text}
-use Rattle.dubp_cond.specs.Truth.{Moment, IsTrueAt}
-use Rattle.dubp_cond.specs.declared.unlock.Unlock.{Unlock}
-use Rattle.dubp_cond.specs.declared.source.Input.{Input}
-use Rattle.dubp_cond.specs.declared.tx.Tx.{Tx}
-use Rattle.dubp_chain.specs.Below.{Block}
+use Rattle.dubp_verdict.specs.OfAtoms.{same_text}
+use Rattle.dubp_chain.specs.OfCond.{Moment, IsTrueAt}
+use Rattle.dubp_chain.specs.OfCond.{Unlock}
+use Rattle.dubp_chain.specs.OfCond.{Input}
+use Rattle.dubp_chain.specs.OfCond.{Tx}
+use Rattle.dubp_chain.specs.OfBlock.{Block}
 use Rattle.dubp_chain.specs.Words.{names, each_once}
 use Rattle.dubp_chain.specs.Chains.{Chain}
 use Rattle.dubp_chain.specs.Heads.{time_of, unit_base_of}

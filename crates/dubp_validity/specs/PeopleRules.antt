@@ -3,15 +3,15 @@
 use Rattle.std.specs.Prelude.{◌≡◌, ◌⊎◌, ℕ, ◌+◌, ◌<◌, ◌≤◌, Bool, IsTrue, ◌&&◌, not, List, [], ◌∷◌, ◌++◌, map, length, is_some, Option, ⊤}
 use Rattle.std.specs.Option.{MatchOption, IsSomeAnd}
 use Rattle.std.specs.List.{AllByRecursion, list_any}
-use Rattle.dubp_atoms.specs.Same.{Text, same_text, same_stamp}
-use Rattle.dubp_chain.specs.Below.{signed_text as signed_document}
-use Rattle.dubp_chain.specs.Below.{Revocation, Certification}
-use Rattle.dubp_chain.specs.Below.{Block}
-use Rattle.dubp_chain.specs.Below.{IdentityLine}
-use Rattle.dubp_chain.specs.Below.{MemberLine}
-use Rattle.dubp_chain.specs.Below.{RevokedLine}
-use Rattle.dubp_chain.specs.Below.{CertLine}
-use Rattle.dubp_atoms.specs.declared.stamp.Stamp.{Stamp}
+use Rattle.dubp_verdict.specs.OfAtoms.{Text, same_text, same_stamp}
+use Rattle.dubp_chain.specs.OfDocs.{signed_text as signed_document}
+use Rattle.dubp_chain.specs.OfDocs.{Revocation, Certification}
+use Rattle.dubp_chain.specs.OfBlock.{Block}
+use Rattle.dubp_chain.specs.OfBlock.{IdentityLine}
+use Rattle.dubp_chain.specs.OfBlock.{MemberLine}
+use Rattle.dubp_chain.specs.OfBlock.{RevokedLine}
+use Rattle.dubp_chain.specs.OfBlock.{CertLine}
+use Rattle.dubp_verdict.specs.OfAtoms.{Stamp}
 use Rattle.dubp_chain.specs.Words.{names}
 use Rattle.dubp_chain.specs.Chains.{Chain, params}
 use Rattle.dubp_chain.specs.Members.{member}

@@ -1,15 +1,15 @@
 -- What a block writes to the indexes, one record for each change, and the text of a record. Protocol: records.
 use Rattle.std.specs.Prelude.{◌≡◌, ℕ, ◌≤◌, ◌==◌, Bool, true, not, ◌&&◌, List, [], ◌∷◌, ◌++◌, codes, decimal, map, filter, length, unwrap_or, Option, Some, None, if◌then◌else◌}
 use Rattle.std.specs.List.{flat_map}
-use Rattle.dubp_atoms.specs.Same.{Text, same_text}
-use Rattle.dubp_atoms.specs.Letters.{SPACE, is_key, is_uid}
-use Rattle.dubp_atoms.specs.Spelling.{IsNumber, stamp_text, IsStamp}
-use Rattle.dubp_cond.specs.Conditions.{cond_text}
-use Rattle.dubp_cond.specs.Sources.{input_text, IsInput}
-use Rattle.dubp_cond.specs.declared.source.Input.{Input}
-use Rattle.dubp_cond.specs.declared.tx.Tx.{Tx}
-use Rattle.dubp_chain.specs.Below.{Block}
-use Rattle.dubp_chain.specs.Below.{MemberLine}
+use Rattle.dubp_verdict.specs.OfAtoms.{Text, same_text}
+use Rattle.dubp_verdict.specs.OfAtoms.{SPACE, is_key, is_uid}
+use Rattle.dubp_verdict.specs.OfAtoms.{IsNumber, stamp_text, IsStamp}
+use Rattle.dubp_chain.specs.OfCond.{cond_text}
+use Rattle.dubp_chain.specs.OfCond.{input_text, IsInput}
+use Rattle.dubp_chain.specs.OfCond.{Input}
+use Rattle.dubp_chain.specs.OfCond.{Tx}
+use Rattle.dubp_chain.specs.OfBlock.{Block}
+use Rattle.dubp_chain.specs.OfBlock.{MemberLine}
 use Rattle.dubp_validity.specs.declared.record.Record.{Record}
 use Rattle.dubp_validity.specs.declared.record.Record.TheVariants.{Create, Enter, Exit, Join, Active, Leave, Revoke, Expire, ExpireRev, Cert, CertExpire, Spend, Make, Dividend, Clear}
 use Rattle.dubp_chain.specs.Words.{names, in_order}

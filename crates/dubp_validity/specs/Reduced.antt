@@ -1,17 +1,17 @@
 -- The tables that the records of all blocks leave, each changed by every record in turn. Protocol: records.
 use Rattle.std.specs.Prelude.{◌≡◌, ℕ, ◌+◌, Bool, true, false, ◌&&◌, [], ◌∷◌, Option, Some, None, option_map, fold, nat_lt, if◌then◌else◌}
 use Rattle.std.specs.Option.{option_map_or}
-use Rattle.dubp_atoms.specs.Same.{Text, same_text}
-use Rattle.dubp_atoms.specs.declared.stamp.Stamp.{Stamp}
-use Rattle.dubp_cond.specs.declared.source.SourceId.{SourceId}
-use Rattle.dubp_cond.specs.declared.source.SourceId.TheVariants.{D, T}
-use Rattle.dubp_cond.specs.declared.source.Input.{Input}
+use Rattle.dubp_verdict.specs.OfAtoms.{Text, same_text}
+use Rattle.dubp_verdict.specs.OfAtoms.{Stamp}
+use Rattle.dubp_chain.specs.OfCond.{SourceId}
+use Rattle.dubp_chain.specs.OfCond.{D, T}
+use Rattle.dubp_chain.specs.OfCond.{Input}
 use Rattle.dubp_validity.specs.declared.record.Record.{Record}
 use Rattle.dubp_validity.specs.declared.record.Record.TheVariants.{Create, Enter, Exit, Join, Active, Leave, Revoke, ExpireRev, Cert, CertExpire, Spend, Make, Dividend, Clear}
 use Rattle.dubp_chain.specs.Chains.{Chain, params}
 use Rattle.dubp_chain.specs.Heads.{time_of}
 use Rattle.dubp_chain.specs.Money.{same_source, signed_by}
-use Rattle.dubp_cond.specs.Conditions.{cond_text}
+use Rattle.dubp_chain.specs.OfCond.{cond_text}
 use Rattle.dubp_validity.specs.Records.{records}
 use Rattle.dubp_chain.specs.Tables.{IdentityRow, identity_row, MembershipRow, membership_row, CertificationRow, certification_row, SourceRow, source_row}
 use Rattle.dubp_verdict.specs.Verdicts.{Verdicts}

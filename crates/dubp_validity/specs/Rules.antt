@@ -1,7 +1,7 @@
 -- The rules of blocks in one table, the first that a block breaks, and which chains are valid. Protocol: rules.
 use Rattle.std.specs.Prelude.{◌≡◌, ℕ, ◌≤◌, Bool, true, false, List, [], ◌∷◌, length, Option, None, ⊤}
-use Rattle.dubp_chain.specs.Below.{Block}
-use Rattle.dubp_chain.specs.BlockTexts.{IsBlock, block_text}
+use Rattle.dubp_chain.specs.OfBlock.{Block}
+use Rattle.dubp_chain.specs.OfBlock.{IsBlock, block_text}
 use Rattle.dubp_rules.specs.declared.rule.Rule.{Rule}
 use Rattle.dubp_rules.specs.declared.rule.Rule.TheVariants.{X01, P01, X02, X07, L01, L02, L03, L04, L05, L06, L07, L08, L09, L10, L11, L12, L13, L14, L15, L16, L17, L18, L19, L20, L21, L22, L23, L24, G51, G52, G53, G49, G101, X03, X04, X08, G50, G54, G55, G56, G57, G58, G59, G60, G61, G62, X06, G63, G73, G74, G64, G75, G108, G82, G78, G81, G80, G77, G83, G84, G65, G66, G67, G68, G69, G70, G71, G72, G79, G76, G85, G86, X05, G103, G87, G88, G89, G90}
 use Rattle.dubp_rules.specs.Table.{table_rules, StandsBefore}

@@ -12,5 +12,5 @@
 
 mod record;
 
-pub use dubp_chain::Head;
+pub use dubp_chain::{Block, CertLine, Head, Params};
 pub use record::{Record, put_record};

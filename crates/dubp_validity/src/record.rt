@@ -1,12 +1,12 @@
 ghost use Rattle.std.specs.Prelude.{◌≡◌, ◌+◌, ◌≤◌, ◌<◌, ◌^◌, ◌++◌, ◌∷◌, [], codes, decimal, length};
 ghost use Rattle.arrayvec.specs.ArrayVec.{array_vec_len};
-ghost use Rattle.dubp_atoms.specs.Letters.{SPACE};
-ghost use Rattle.dubp_atoms.specs.Spelling.{stamp_text};
-ghost use Rattle.dubp_cond.specs.Sources.{input_text, IsInput};
+ghost use Rattle.dubp_verdict.specs.OfAtoms.{SPACE};
+ghost use Rattle.dubp_verdict.specs.OfAtoms.{stamp_text};
+ghost use Rattle.dubp_chain.specs.OfCond.{input_text, IsInput};
 ghost use Rattle.dubp_validity.specs.Records.{record_text, IsRecord};
 
-use dubp_atoms::{Items, Key, Line, Stamp, Uid, put_bytes, put_number};
-use dubp_cond::{Input, put_input};
+use dubp_chain::{Input, put_input};
+use dubp_verdict::{Items, Key, Line, Stamp, Uid, put_bytes, put_number};
 
 /// What a block writes to the indexes, one record for each change.
 ///

@@ -15,5 +15,6 @@ mod entry;
 mod laws;
 mod verdicts;
 
+pub use dubp_atoms::{Items, Key, Line, Stamp, Uid, put_bytes, put_number};
 pub use laws::verdict_laws;
 pub use verdicts::Verdicts;

@@ -2,7 +2,7 @@ use Rattle.std.proofs.Common.{◌∙◌, Some, None, ap, sym, subst}
 use Rattle.dubp_atoms.specs.Same.{same_stamp}
 use Rattle.dubp_block.specs.Text.{stamp_of}
 use Rattle.dubp_block.specs.declared.block.Block.{Block}
-use Rattle.dubp_kept.specs.KeptChain.{with_block}
+use Rattle.dubp_ledger.specs.OfKept.{with_block}
 use Rattle.dubp_validity.specs.Rules.{FirstBroken}
 use Rattle.dubp_forks.proofs.Marked.{same_some}
 use Rattle.dubp_forks.proofs.Onward.{put_again}

@@ -1,5 +1,5 @@
 use Rattle.std.proofs.Common.{◌≡◌, ◌<◌, ◌-◌, ◌∙◌, ap, arith, drop, length, suc, sym}
-use Rattle.dubp_kept.specs.KeptChain.{KeptChain}
+use Rattle.dubp_ledger.specs.OfKept.{KeptChain}
 use Rattle.dubp_forks.specs.Entries.{blocks_in}
 use Rattle.dubp_forks.proofs.Onward.{accept_place, laid_rest, onward_place, why_place}
 use Rattle.dubp_forks.proofs.switching.accept_all.Goals as goal

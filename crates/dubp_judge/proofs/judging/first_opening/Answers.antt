@@ -1,7 +1,7 @@
 use Rattle.std.proofs.Common.{option_copied, reverse, sym, subst}
 use Rattle.dubp_validity.specs.Rules.{Holds}
-use Rattle.dubp_local.specs.Local.{AreParamsOf, FirstLocal, local_rules}
-use Rattle.dubp_local.specs.Checking.{IsChecked}
+use Rattle.dubp_kept.specs.OfLocal.{AreParamsOf, FirstLocal, local_rules}
+use Rattle.dubp_kept.specs.OfLocal.{IsChecked}
 use Rattle.dubp_judge.proofs.Orders.{local_breaks, number_breaks, opening_holds}
 use Rattle.dubp_judge.proofs.judging.first_opening.Goals as goal
 

@@ -1,7 +1,7 @@
 use Rattle.std.proofs.Common.{◌∙◌, ap, sym}
 use Rattle.dubp_atoms.specs.Same.{same_text}
-use Rattle.dubp_chain.specs.People.{membership_lines}
-use Rattle.dubp_chain.specs.Words.{each_once}
+use Rattle.dubp_validity.specs.OfChain.{membership_lines}
+use Rattle.dubp_validity.specs.OfChain.{each_once}
 use Rattle.dubp_validity.specs.LocalRules.{revoked_keys}
 use Rattle.dubp_local.proofs.Lines.{and_also, where_ok, apart_by, map-itself}
 use Rattle.dubp_local.proofs.once.revoked_stand_once.Goals as goal

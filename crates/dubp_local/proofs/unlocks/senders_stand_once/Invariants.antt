@@ -1,6 +1,6 @@
 use Rattle.std.proofs.Common.{IsTrue}
 use Rattle.dubp_atoms.specs.Same.{same_text}
-use Rattle.dubp_chain.specs.Words.{each_once}
+use Rattle.dubp_validity.specs.OfChain.{each_once}
 use Rattle.dubp_local.proofs.Checking.{Rests}
 use Rattle.dubp_local.proofs.unlocks.senders_stand_once.Given as goal
 

@@ -1,6 +1,6 @@
 use Rattle.std.proofs.Common.{ap, ◌∙◌}
 use Rattle.dubp_money_rules.specs.Lines.{whole_hashes}
-use Rattle.dubp_money.proofs.Hashes.{whole_hashes-all}
+use Rattle.dubp_money_rules.proofs.OfMoney.{whole_hashes-all}
 use Rattle.dubp_money_checks.proofs.first.money_rules.Goals as goal
 
 pub returns : goal.returns

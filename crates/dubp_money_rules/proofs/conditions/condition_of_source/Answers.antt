@@ -4,7 +4,7 @@ use Rattle.dubp_chain.specs.Money.{unspent}
 use Rattle.dubp_validity.specs.MoneyRules.{spent}
 use Rattle.dubp_sindex.specs.Accounts.{accounts}
 use Rattle.dubp_sindex.specs.declared.rows.SourceRow.{SourceRow}
-use Rattle.dubp_money.specs.Below.{sources_left}
+use Rattle.dubp_money.specs.OfMoneySteps.{sources_left}
 use Rattle.dubp_money_rules.specs.Spending.{fitting_row}
 use Rattle.dubp_money_rules.proofs.Found.{row_left}
 use Rattle.dubp_money_rules.proofs.Opened.{told_source, found_source, no_source}

@@ -1,7 +1,7 @@
 use Rattle.std.proofs.Common.{ap, ◌∙◌}
 use Rattle.dubp_undo.specs.States.{states}
 use Rattle.dubp_sindex.specs.Accounts.{accounts}
-use Rattle.dubp_money.specs.Below.{sources_left}
+use Rattle.dubp_money.specs.OfMoneySteps.{sources_left}
 use Rattle.dubp_money_rules.specs.Spending.{time_of_row}
 use Rattle.dubp_money_rules.proofs.Found.{time_left}
 use Rattle.dubp_money_rules.proofs.spending.time_of_source.Goals as goal

@@ -2,8 +2,8 @@ use Rattle.std.proofs.Common.{sym, ◌∙◌, subst}
 use Rattle.dubp_undo.specs.States.{states}
 use Rattle.dubp_sindex.specs.Accounts.{accounts}
 use Rattle.dubp_sindex.specs.Rows.{AreRows}
-use Rattle.dubp_money_steps.specs.Left.{sources_left}
-use Rattle.dubp_money_steps.proofs.Ranges.{sources_are_rows}
+use Rattle.dubp_money.specs.OfMoneySteps.{sources_left}
+use Rattle.dubp_money.proofs.OfMoneySteps.{sources_are_rows}
 use Rattle.dubp_money_views.proofs.Accounts.{rows_left}
 use Rattle.dubp_money_views.proofs.Rows.{views_found, views_none}
 use Rattle.dubp_money_views.proofs.views.rows_of.Goals as goal

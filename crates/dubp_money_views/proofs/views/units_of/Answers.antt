@@ -1,7 +1,7 @@
 use Rattle.std.proofs.Common.{sym, ◌∙◌}
 use Rattle.dubp_sindex.specs.Accounts.{accounts}
 use Rattle.dubp_undo.specs.States.{states}
-use Rattle.dubp_money_steps.specs.Left.{sources_left}
+use Rattle.dubp_money.specs.OfMoneySteps.{sources_left}
 use Rattle.dubp_money_views.proofs.Accounts.{units_found, units_none}
 use Rattle.dubp_money_views.proofs.views.units_of.Goals as goal
 

@@ -4,11 +4,11 @@ use Rattle.std.specs.Ordering.{nat_cmp}
 use Rattle.dubp_rules.specs.declared.rule.Rule.TheVariants.{G51}
 use Rattle.dubp_undo.specs.Definition.{IsAt}
 use Rattle.dubp_undo.proofs.Numbers.{settled_length, settled_plus}
-use Rattle.dubp_facts.specs.contracts.facts.FactsTablesBlock.TheImpl as facts
+use Rattle.dubp_registry.specs.OfFacts.facts_tables_block as facts
 use Rattle.dubp_registry.specs.contracts.indexes.IndexesTablesBlock.TheImpl as indexes
 use Rattle.dubp_registry.specs.contracts.others.OthersTablesBlock.TheImpl as others
-use Rattle.dubp_steps.specs.Steps.{people_records}
-use Rattle.dubp_left.specs.Left.{kicked_at}
+use Rattle.dubp_people_apply.specs.OfSteps.{people_records}
+use Rattle.dubp_registry.specs.OfLeft.{kicked_at}
 use Rattle.dubp_people_identities.specs.Writing.{most_sets}
 use Rattle.dubp_people_identities.proofs.Onward.{more_and_more}
 use Rattle.dubp_people_apply.specs.Counting.{membership_sets, certification_sets, queue_sets}

@@ -3,8 +3,8 @@ use Rattle.std.specs.FinMap.{empty}
 use Rattle.dubp_undo.specs.States.{states}
 use Rattle.dubp_chain.specs.Tables.{identity_row, membership_row}
 use Rattle.dubp_cindex.specs.Rows.{received_in}
-use Rattle.dubp_left.specs.Left.{identities_left, memberships_left, certifications_left}
-use Rattle.dubp_left.proofs.Looked.{identity-look, membership-look, newest-left}
+use Rattle.dubp_registry.specs.OfLeft.{identities_left, memberships_left, certifications_left}
+use Rattle.dubp_registry.proofs.OfLeft.{identity-look, membership-look, newest-left}
 use Rattle.dubp_registry.proofs.Counted.{received-counted}
 use Rattle.dubp_people.specs.Exclusion.{is_kicked}
 use Rattle.dubp_people.proofs.Rows.{kicked_told}

@@ -7,7 +7,7 @@ use Rattle.dubp_atoms.specs.Same.{same_text}
 use Rattle.dubp_undo.specs.MovingTable.{get}
 use Rattle.dubp_chain.specs.Live.{received}
 use Rattle.dubp_chain.specs.Tables.{identity_row, membership_row}
-use Rattle.dubp_steps.specs.Taken.{kicked_by}
+use Rattle.dubp_people_apply.specs.OfSteps.{kicked_by}
 use Rattle.dubp_people_identities.proofs.Onward.{none_more}
 use Rattle.dubp_people.proofs.Rows.{renewed}
 use Rattle.dubp_people.proofs.kicked.renew.Goals as goal

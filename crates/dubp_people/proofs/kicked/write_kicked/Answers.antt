@@ -5,10 +5,10 @@ use Rattle.std.specs.Ordering.{nat_cmp}
 use Rattle.dubp_undo.specs.MovingTable.{get}
 use Rattle.dubp_chain.specs.Live.{received}
 use Rattle.dubp_chain.specs.Tables.{identity_row, membership_row, is_to_be_excluded}
-use Rattle.dubp_steps.specs.Loops.{kicked_record}
-use Rattle.dubp_steps.specs.Steps.{touches}
-use Rattle.dubp_steps.specs.Taken.{kicked_by}
-use Rattle.dubp_steps.proofs.Lines.{kicked_fold}
+use Rattle.dubp_people_apply.specs.OfSteps.{kicked_record}
+use Rattle.dubp_people_apply.specs.OfSteps.{touches}
+use Rattle.dubp_people_apply.specs.OfSteps.{kicked_by}
+use Rattle.dubp_people_apply.proofs.OfSteps.{kicked_fold}
 use Rattle.dubp_people_identities.proofs.Onward.{none_more, more_and_more, more_settled, fold_next, fold_whole}
 use Rattle.dubp_people.proofs.Rows.{unit_of, some_of}
 use Rattle.dubp_people.proofs.kicked.write_kicked.Goals as goal

@@ -12,9 +12,9 @@ use Rattle.dubp_block.specs.declared.block.Block.{Block}
 use Rattle.dubp_iindex.specs.contracts.index.IIndexTablesIdentityRows.TheImpl as identities
 use Rattle.dubp_mindex.specs.contracts.member.MIndexTablesMemberRows.TheImpl as memberships
 use Rattle.dubp_cindex.specs.contracts.index.CIndexTablesCertRows.TheImpl as certifications
-use Rattle.dubp_steps.specs.Loops.{kicked_record}
-use Rattle.dubp_left.specs.Left.{identities_left, memberships_left, certifications_left, kicked_at}
-use Rattle.dubp_left.specs.Next.{IsWritten}
+use Rattle.dubp_people_apply.specs.OfSteps.{kicked_record}
+use Rattle.dubp_registry.specs.OfLeft.{identities_left, memberships_left, certifications_left, kicked_at}
+use Rattle.dubp_registry.specs.OfLeft.{IsWritten}
 use Rattle.dubp_people.proofs.kicked.write_kicked.Given as goal
 
 abbrev pub invariant-loop-record : goal.invariant-loop-record

@@ -4,7 +4,7 @@ use Rattle.dubp_undo.proofs.Numbers.{settled_length}
 use Rattle.dubp_iindex.specs.contracts.index.IIndexTablesIdentityRows.TheImpl as identities
 use Rattle.dubp_mindex.specs.contracts.member.MIndexTablesMemberRows.TheImpl as memberships
 use Rattle.dubp_cindex.specs.contracts.index.CIndexTablesCertRows.TheImpl as certifications
-use Rattle.dubp_left.specs.Left.{identities_left, memberships_left, certifications_left, queue_left}
+use Rattle.dubp_registry.specs.OfLeft.{identities_left, memberships_left, certifications_left, queue_left}
 use Rattle.dubp_people.proofs.Beside.{three_settled, three_more}
 use Rattle.dubp_people.proofs.writing.write_indexes.Goals as goal
 

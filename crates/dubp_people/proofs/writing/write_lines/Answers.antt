@@ -2,7 +2,7 @@ use Rattle.std.proofs.Common.{◌+◌, ◌∙◌, length, refl, ap, arith}
 use Rattle.dubp_undo.specs.Numbers.{counts}
 use Rattle.dubp_undo.proofs.Numbers.{settled_length}
 use Rattle.dubp_expiry.specs.contracts.queue.QueueTablesEntries.TheImpl as queue
-use Rattle.dubp_facts.specs.contracts.facts.FactsTablesBlock.TheImpl as facts
+use Rattle.dubp_registry.specs.OfFacts.facts_tables_block as facts
 use Rattle.dubp_people_apply.specs.Counting.{queue_sets}
 use Rattle.dubp_people_identities.proofs.Onward.{none_more}
 use Rattle.dubp_people.proofs.Beside.{three_settled, three_more}

@@ -4,9 +4,9 @@ use Rattle.std.specs.Ordering.{nat_cmp}
 use Rattle.dubp_undo.specs.Definition.{Waits}
 use Rattle.dubp_undo.specs.Numbers.{counts}
 use Rattle.dubp_undo.proofs.Numbers.{settled_length}
-use Rattle.dubp_left.specs.Left.{kicked_at}
+use Rattle.dubp_registry.specs.OfLeft.{kicked_at}
 use Rattle.dubp_expiry.specs.contracts.queue.QueueTablesEntries.TheImpl as queue
-use Rattle.dubp_facts.specs.contracts.facts.FactsTablesBlock.TheImpl as facts
+use Rattle.dubp_registry.specs.OfFacts.facts_tables_block as facts
 use Rattle.dubp_people_identities.proofs.Onward.{none_more}
 use Rattle.dubp_people.proofs.Beside.{three_settled, three_more}
 use Rattle.dubp_people.proofs.writing.write_others.Goals as goal

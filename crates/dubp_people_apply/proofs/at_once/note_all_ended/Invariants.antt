@@ -8,7 +8,7 @@ use Rattle.dubp_left.specs.Next.{IsWritten}
 use Rattle.dubp_steps.specs.Ordered.{pair_cmp}
 use Rattle.dubp_steps.specs.Loops.{ended_line}
 use Rattle.dubp_cindex.specs.contracts.index.CIndexTablesCertRows.TheImpl as cindex
-use Rattle.dubp_facts.specs.contracts.facts.FactsTablesBlock.TheImpl as facts
+use Rattle.dubp_left.specs.OfFacts.facts_tables_block as facts
 use Rattle.dubp_people_apply.proofs.at_once.note_all_ended.Given as goal
 
 abbrev pub invariant-loop-line : goal.invariant-loop-line

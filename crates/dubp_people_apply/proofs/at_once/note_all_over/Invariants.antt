@@ -8,7 +8,7 @@ use Rattle.dubp_left.specs.Next.{IsWritten}
 use Rattle.dubp_steps.specs.Ordered.{text_cmp}
 use Rattle.dubp_steps.specs.Loops.{over_line}
 use Rattle.dubp_mindex.specs.contracts.member.MIndexTablesMemberRows.TheImpl as mindex
-use Rattle.dubp_facts.specs.contracts.facts.FactsTablesBlock.TheImpl as facts
+use Rattle.dubp_left.specs.OfFacts.facts_tables_block as facts
 use Rattle.dubp_people_apply.specs.Taking.{IsSince}
 use Rattle.dubp_people_apply.proofs.at_once.note_all_over.Given as goal
 

@@ -5,7 +5,7 @@ use Rattle.dubp_chain.specs.Chains.{Chain}
 use Rattle.dubp_left.specs.Next.{IsWritten}
 use Rattle.dubp_steps.specs.Ordered.{text_cmp}
 use Rattle.dubp_steps.specs.Loops.{over_by_time_line}
-use Rattle.dubp_facts.specs.contracts.facts.FactsTablesBlock.TheImpl as facts
+use Rattle.dubp_left.specs.OfFacts.facts_tables_block as facts
 use Rattle.dubp_people_apply.proofs.at_once.note_all_revoked.Given as goal
 
 abbrev pub invariant-loop-line : goal.invariant-loop-line

@@ -8,7 +8,7 @@ use Rattle.dubp_expiry.specs.contracts.queue.QueueTablesEntries.TheImpl as queue
 use Rattle.dubp_chain.specs.Chains.{Chain}
 use Rattle.dubp_left.specs.Next.{IsWritten}
 use Rattle.dubp_steps.specs.AfterLines.{enter_line, enter_queue}
-use Rattle.dubp_facts.specs.contracts.facts.FactsTablesBlock.TheImpl as facts
+use Rattle.dubp_left.specs.OfFacts.facts_tables_block as facts
 use Rattle.dubp_people_apply.specs.Held.{Memberships, Waiting}
 use Rattle.dubp_people_apply.specs.Lines.{Stands}
 use Rattle.dubp_people_apply.proofs.memberships.enter_all.Given as goal

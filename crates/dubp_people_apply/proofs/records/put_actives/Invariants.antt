@@ -3,7 +3,7 @@ use Rattle.dubp_chain.specs.Chains.{Chain}
 use Rattle.dubp_validity.specs.Rules.{IsSound}
 use Rattle.dubp_validity.specs.Records.{membership_time}
 use Rattle.dubp_validity.specs.declared.record.Record.TheVariants.{Active}
-use Rattle.dubp_facts.specs.contracts.facts.FactsTablesBlock.TheImpl as facts
+use Rattle.dubp_left.specs.OfFacts.facts_tables_block as facts
 use Rattle.dubp_people_apply.proofs.records.put_actives.Given as goal
 
 abbrev pub invariant-loop-line : goal.invariant-loop-line

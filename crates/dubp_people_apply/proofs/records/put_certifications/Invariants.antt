@@ -2,7 +2,7 @@ use Rattle.std.proofs.Common.{◌≡◌, ◌++◌, map, take}
 use Rattle.dubp_chain.specs.Chains.{Chain}
 use Rattle.dubp_steps.specs.AfterLines.{certification_time}
 use Rattle.dubp_validity.specs.declared.record.Record.TheVariants.{Cert}
-use Rattle.dubp_facts.specs.contracts.facts.FactsTablesBlock.TheImpl as facts
+use Rattle.dubp_left.specs.OfFacts.facts_tables_block as facts
 use Rattle.dubp_people_apply.proofs.records.put_certifications.Given as goal
 
 abbrev pub invariant-loop-line : goal.invariant-loop-line

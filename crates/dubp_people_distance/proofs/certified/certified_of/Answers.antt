@@ -1,5 +1,5 @@
 use Rattle.std.proofs.Common.{◌∙◌, ◌∷◌}
-use Rattle.dubp_steps.proofs.Lives.{received_is_count}
+use Rattle.dubp_people_after.proofs.OfSteps.{received_is_count}
 use Rattle.dubp_people_distance.proofs.certified.certified_of.Goals as goal
 
 pub returns : goal.returns

@@ -2,7 +2,7 @@ use Rattle.std.proofs.Common.{◌∙◌, inl}
 use Rattle.indexmap.specs.IndexMap.{get}
 use Rattle.dubp_atoms.specs.Same.{same_text}
 use Rattle.dubp_lists.proofs.Elements.{or_true}
-use Rattle.dubp_steps.specs.AfterLines.{now_of}
+use Rattle.dubp_people_after.specs.OfSteps.{now_of}
 use Rattle.dubp_people_distance.proofs.Walked.{walk_starts, walk_goes_on, walk_ends}
 use Rattle.dubp_people_distance.proofs.changed.put_dues.Goals as goal
 

@@ -1,6 +1,6 @@
 use Rattle.std.proofs.Common.{◌∙◌, ◌++◌, ap, option_to_list}
 use Rattle.dubp_block.specs.Text.{IsBlock}
-use Rattle.dubp_ledger.specs.Traces.{IsShort}
+use Rattle.dubp_gen.specs.OfLedger.{IsShort}
 use Rattle.dubp_session.proofs.Givens.{blocks_more, blocks_none, of_last}
 use Rattle.dubp_session.proofs.generating.give_blocks.Goals as goal
 

@@ -1,6 +1,6 @@
 use Rattle.std.proofs.Common.{[], sym, subst}
-use Rattle.dubp_registry.specs.contracts.registry.RegistryTablesBlock.TheImpl as people
-use Rattle.dubp_money.specs.contracts.money.MoneyTablesBlock.TheImpl as money
+use Rattle.dubp_people.specs.OfRegistry.registry_tables_block as people
+use Rattle.dubp_money_checks.specs.OfMoney.money_tables_block as money
 use Rattle.dubp_books.proofs.books.Books.new.Goals as goal
 
 pub returns-clause-stands : goal.returns-clause-stands

@@ -1,13 +1,13 @@
 use Rattle.std.proofs.Common.{◌∷◌, ◌+◌, ◌*◌, ◌++◌, ◌∙◌, filter, length, refl, ap, sym}
-use Rattle.dubp_registry.specs.contracts.registry.RegistryTablesBlock.TheImpl as people
-use Rattle.dubp_money.specs.contracts.money.MoneyTablesBlock.TheImpl as money
+use Rattle.dubp_people.specs.OfRegistry.registry_tables_block as people
+use Rattle.dubp_money_checks.specs.OfMoney.money_tables_block as money
 use Rattle.dubp_undo.specs.Numbers.{plus}
 use Rattle.dubp_undo.proofs.Numbers.{settled_length, settled_plus}
 use Rattle.dubp_people.specs.Applied as people_words
 use Rattle.dubp_people.proofs.Beside.{two_more}
-use Rattle.dubp_money.specs.Applied as money_words
-use Rattle.dubp_steps.specs.Steps.{people_records}
-use Rattle.dubp_money.specs.Applied.{money_records}
+use Rattle.dubp_money_checks.specs.OfMoney.applied as money_words
+use Rattle.dubp_people.specs.OfSteps.{people_records}
+use Rattle.dubp_money_checks.specs.OfMoney.{money_records}
 use Rattle.dubp_books.specs.Kinds.{is_ended, is_cleared}
 use Rattle.dubp_books.proofs.Asked.{whole_hashes_are}
 use Rattle.dubp_books.proofs.Chosen.{ended_of_people, cleared_of_money, are_paid, paid_by_head}

@@ -1,5 +1,5 @@
 use Rattle.std.proofs.Common.{ap, subst, Some, ◌∙◌}
-use Rattle.dubp_kept.specs.KeptChain.{IsKnown}
+use Rattle.dubp_rows.specs.OfKept.{IsKnown}
 use Rattle.dubp_ledger.proofs.Difficulties.{may_count, difficulty_is, no_difficulty}
 use Rattle.dubp_ledger.proofs.ledger.Ledger.difficulty.Goals as goal
 

@@ -1,7 +1,7 @@
 use Rattle.std.proofs.Common.{subst}
 use Rattle.dubp_validity.specs.Rules.{Holds}
-use Rattle.dubp_local.specs.Local.{local_rules}
-use Rattle.dubp_kept.specs.KeptChain.{IsKnown}
+use Rattle.dubp_rows.specs.OfKept.{local_rules}
+use Rattle.dubp_rows.specs.OfKept.{IsKnown}
 use Rattle.dubp_ledger.proofs.Difficulties.{before_the_rest, may_count, no_params_here, params_here}
 use Rattle.dubp_ledger.proofs.ledger.Ledger.first_local.Goals as goal
 

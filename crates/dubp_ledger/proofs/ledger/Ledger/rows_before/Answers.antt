@@ -2,8 +2,8 @@ use Rattle.std.proofs.Common.{◌∙◌, ◌++◌, Some, ap, subst, sym}
 use Rattle.std.specs.Prelude.{slice_get}
 use Rattle.std.specs.List.{AllByRecursion}
 use Rattle.dubp_block.specs.Text.{IsBlock}
-use Rattle.dubp_facts.specs.contracts.facts.FactsTablesBlock.TheImpl as facts
-use Rattle.dubp_kept.specs.KeptChain.{IsKnown}
+use Rattle.dubp_people_views.specs.OfFacts.facts_tables_block as facts
+use Rattle.dubp_rows.specs.OfKept.{IsKnown}
 use Rattle.dubp_validity.specs.Records.{records}
 use Rattle.dubp_validity.specs.Rules.{IsSound}
 use Rattle.dubp_ledger.specs.Traces.{traces_of}

@@ -1,7 +1,7 @@
 use Rattle.std.proofs.Common.{subst}
 use Rattle.std.specs.Option.{IfSome, IfNone}
 use Rattle.dubp_expiry.specs.Entries.{IsBehind, IsNextDue, NoneIsDue}
-use Rattle.dubp_left.specs.Left.{queue_left}
+use Rattle.dubp_people_after.specs.OfLeft.{queue_left}
 use Rattle.dubp_people_distance.proofs.two_chains.JudgedTwoChains.due_behind.Goals as goal
 
 pub returns-clause-found : goal.returns-clause-found

@@ -3,7 +3,7 @@ use Rattle.dubp_undo.specs.States.{states}
 use Rattle.dubp_iindex.specs.Rows.{texts}
 use Rattle.dubp_iindex.proofs.Empty.{waits_empty}
 use Rattle.dubp_expiry.specs.contracts.queue.QueueTablesEntries.TheImpl as queue
-use Rattle.dubp_facts.specs.contracts.facts.FactsTablesBlock.TheImpl as facts
+use Rattle.dubp_left.specs.OfFacts.facts_tables_block as facts
 use Rattle.dubp_left.specs.Left.{queue_left, kicked_at}
 use Rattle.dubp_registry.proofs.others.Others.new.Goals as goal
 

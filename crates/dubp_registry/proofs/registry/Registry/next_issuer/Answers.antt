@@ -4,7 +4,7 @@ use Rattle.dubp_undo.specs.States.{states}
 use Rattle.dubp_left.specs.Left.{certifications_left}
 use Rattle.dubp_left.proofs.Looked.{newest-left}
 use Rattle.std.specs.Prelude.{IsTrue}
-use Rattle.dubp_chain.specs.Live.{live}
+use Rattle.dubp_left.specs.OfChain.{live}
 use Rattle.dubp_cindex.specs.Orders.{IsNextIssuer}
 use Rattle.dubp_cindex.specs.Rows.{live_pairs}
 use Rattle.dubp_cindex.proofs.Told.{contains_lives, lives_contains}

@@ -1,6 +1,6 @@
 use Rattle.std.specs.Prelude.{IsTrue}
 use Rattle.dubp_undo.specs.MovingTable.{get}
-use Rattle.dubp_chain.specs.Tables.{is_to_be_excluded}
+use Rattle.dubp_left.specs.OfChain.{is_to_be_excluded}
 use Rattle.dubp_iindex.specs.Rows.{texts}
 use Rattle.dubp_iindex.proofs.KeyOrder.{next-some, stands_member, member_stands}
 use Rattle.dubp_registry.proofs.registry.Registry.next_kicked.Goals as goal

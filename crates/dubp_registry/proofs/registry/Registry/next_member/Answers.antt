@@ -2,7 +2,7 @@ use Rattle.std.proofs.Common.{refl, sym, subst}
 use Rattle.std.specs.Prelude.{IsTrue}
 use Rattle.std.specs.FinMap.{empty}
 use Rattle.dubp_undo.specs.States.{states}
-use Rattle.dubp_chain.specs.Members.{member}
+use Rattle.dubp_left.specs.OfChain.{member}
 use Rattle.dubp_iindex.specs.Order.{IsNextMember}
 use Rattle.dubp_iindex.specs.Rows.{is_member_at}
 use Rattle.dubp_left.specs.Left.{identities_left}

@@ -1,9 +1,9 @@
 use Rattle.std.proofs.Common.{◌≡◌, Option, Some, None, refl, ap, sym, ◌∙◌}
 use Rattle.std.specs.Prelude.{option_map}
-use Rattle.dubp_chain.specs.declared.head.Head.{Head}
-use Rattle.dubp_chain.specs.Made.{head_numbered}
-use Rattle.dubp_facts.specs.declared.facts.BlockTime.{BlockTime}
-use Rattle.dubp_facts.specs.Facts.{block_time}
+use Rattle.dubp_left.specs.OfChain.{Head}
+use Rattle.dubp_left.specs.OfChain.{head_numbered}
+use Rattle.dubp_left.specs.OfFacts.{BlockTime}
+use Rattle.dubp_left.specs.OfFacts.{block_time}
 use Rattle.dubp_registry.proofs.registry.Registry.time_numbered.Goals as goal
 
 time_told : (o : Option Head) → option_map (λ (at : BlockTime). at.time) (option_map block_time o) ≡ option_map (λ h. h.median_time) o

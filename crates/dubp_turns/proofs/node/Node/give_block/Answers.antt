@@ -1,6 +1,6 @@
 use Rattle.std.proofs.Common.{Err, refl, subst}
 use Rattle.dubp_block.specs.Text.{block_text}
-use Rattle.dubp_ledger.specs.declared.refusal.SubmitRefusal.{SubmitRefusal}
+use Rattle.dubp_forks.specs.OfLedger.{SubmitRefusal}
 use Rattle.dubp_turns.specs.Deciding.{IsDecided}
 use Rattle.dubp_turns.specs.Given.{block_given}
 use Rattle.dubp_turns.proofs.Decisions.{decision_raw}

@@ -1,0 +1,3 @@
+-- What those above take from here of the definitions of dubp_validity.
+pub use Rattle.dubp_validity.specs.Rules.{Holds}
+pub use Rattle.dubp_validity.specs.MoneyRules.{ConditionsAreTrue, InputsAreThere, LocktimesHaveEnded, TransactionsAreInTime, TransactionsAreNew}

@@ -1,0 +1,2 @@
+pub mod OfKept
+pub mod OfLocal
