@@ -14,9 +14,10 @@
 mod books;
 mod judging;
 mod leaving;
+mod lending;
 mod writing;
 
 pub use books::Books;
-pub use dubp_judge::{Judgement, Judges, judge};
 pub use dubp_money_checks::Money;
 pub use dubp_people::People;
+pub use dubp_people_and_money::{Judges, PeopleAndMoney};

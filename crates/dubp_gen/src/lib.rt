@@ -18,5 +18,5 @@ mod spending;
 
 pub use chain::{Chain, GenRefusal};
 pub use dubp_drafts::{KEYS, SealRefusal, Sealed, key_of, next_number, seal, uid_of};
-pub use dubp_ledger::{Books, Ledger, PeopleAndMoney};
+pub use dubp_ledger::{Ledger, PeopleAndMoney};
 pub use making::make_chain;

@@ -8,13 +8,13 @@ ghost use Rattle.dubp_head.specs.Following.{MayFollow};
 ghost use Rattle.dubp_ledger.specs.Filled.{IsDraft, IsFilled, blank_sig};
 ghost use Rattle.dubp_ledger.specs.Filling.{CanBeStated, IsStated, hashed, placed, stating};
 
-use crate::books::PeopleAndMoney;
 use crate::ledger::Ledger;
 use dubp_atoms::{Currency, Items, Key, NoMemory, Sig};
 use dubp_block::{Block, inner_hash_of};
 use dubp_chain::Head;
 use dubp_head::{HeadRefusal, augment};
 use dubp_params::Params;
+use dubp_people_and_money::PeopleAndMoney;
 use dubp_people_views::{kicked, members_with};
 
 /// How many members there are at most.

@@ -14,16 +14,15 @@ ghost use Rattle.dubp_rows.specs.OfKept.{IsAsBefore, IsAsHeld, IsHeldBy, IsKnown
 ghost use Rattle.dubp_ledger.specs.States.{Accepted, HandedBack, IsTooDeep};
 ghost use Rattle.dubp_ledger.specs.Traces.{IsShort};
 
-use crate::books::PeopleAndMoney;
 use crate::refusal::{SubmitRefusal, TooDeep};
 use crate::traces::Traces;
 use dubp_atoms::{Key, NoMemory, Stamp, Steps};
 use dubp_block::Block;
-use dubp_books::{Judgement, Money, People, judge};
 use dubp_chain::Head;
 use dubp_docs::TxHashes;
 use dubp_head::{Heads, difficulty};
 use dubp_params::Params;
+use dubp_people_and_money::{Judgement, Money, People, PeopleAndMoney, judge};
 use dubp_rows::{Held, Kept, check_local, put_records};
 use dubp_rules::Rule;
 use dubp_undo::Tables;

@@ -13,14 +13,12 @@
 //! ```
 #![tactic(auto)]
 
-mod books;
 mod filling;
 mod ledger;
 mod refusal;
 mod traces;
 
-pub use books::PeopleAndMoney;
-pub use dubp_books::{Books, Money, People};
+pub use dubp_people_and_money::{Money, People, PeopleAndMoney};
 pub use dubp_rows::Held;
 pub use ledger::Ledger;
 pub use refusal::{SubmitRefusal, TooDeep};

@@ -4,7 +4,8 @@
 //! the system's.
 #![tactic(auto)]
 
-use dubp_session::{Books, NO_ROOM, Node, ReadSource, Secret, USAGE, WriteSink, run};
+use dubp_books::Books;
+use dubp_session::{NO_ROOM, Node, ReadSource, Secret, USAGE, WriteSink, run};
 use std::alloc::{AllocError, Global};
 use std::env;
 use std::hash::RandomState;

@@ -21,7 +21,7 @@ mod serving;
 mod texts;
 
 pub use dubp_atoms::Secret;
-pub use dubp_gen::{Books, PeopleAndMoney};
+pub use dubp_gen::PeopleAndMoney;
 pub use dubp_outside::{MemSink, MemSource, ReadSource, WriteSink};
 pub use dubp_turns::Node;
 pub use laws::cutting;

@@ -1,5 +1,6 @@
 use crate::session::{ANSWERS, ENDS as SESSION_ENDS, SESSION};
-use dubp_session::{Books, MemSink, MemSource, Node, run};
+use dubp_books::Books;
+use dubp_session::{MemSink, MemSource, Node, run};
 use std::alloc::Global;
 use std::mem::forget;
 use std::test::Fail;

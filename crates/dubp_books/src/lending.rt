@@ -1,0 +1,18 @@
+use crate::books::Books;
+use dubp_people::People;
+use dubp_people_and_money::{Money, PeopleAndMoney};
+use std::alloc::Global;
+
+impl PeopleAndMoney for Books {
+    fn empty(alloc: Global) -> Books {
+        Books::new(alloc)
+    }
+
+    fn people(&self) -> &People {
+        Books::people(self)
+    }
+
+    fn money(&self) -> &Money {
+        Books::money(self)
+    }
+}
