@@ -3,6 +3,7 @@
 import pathlib
 import shutil
 import subprocess
+import sys
 
 import pytest
 
@@ -29,7 +30,7 @@ class Repository:
         if not to.exists():
             shutil.copy(TOOLS / tool, to)
         how = {"stdout": subprocess.PIPE, "stderr": subprocess.PIPE, "text": True, "env": env}
-        return subprocess.Popen([to, *map(str, words)], cwd=self.top, **how)
+        return subprocess.Popen([sys.executable, "-B", to, *map(str, words)], cwd=self.top, **how)
 
     def run(self, tool, *words, env=None):
         """Runs the tool to its end: its exit status, the lines of its output, and those of its errors."""
