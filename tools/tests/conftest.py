@@ -35,7 +35,7 @@ class Repository:
     def run(self, tool, *words, env=None):
         """Runs the tool to its end: its exit status, the lines of its output, and those of its errors."""
         ran = self.start(tool, *words, env=env)
-        out, err = ran.communicate(timeout=60)
+        out, err = ran.communicate(timeout=120)
         return ran.returncode, out.splitlines(), err.splitlines()
 
 

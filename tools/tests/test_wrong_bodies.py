@@ -58,7 +58,8 @@ def test_edits_of_both_folders_are_tried_and_all_refused(bodies):
 
 
 def test_what_is_not_refused_fails_and_is_told_below_the_table(bodies):
-    missed, bad, killed = "NOT REFUSED: the crate is still proved", "BAD EDIT: it did not reach the prover:\nerror: what", "NOT TRIED: its check was killed"
+    missed, killed = "NOT REFUSED: the crate is still proved", "NOT TRIED: its check was killed"
+    bad = "BAD EDIT: it did not reach the prover:\nerror: what"
     bodies.crate("a", more={"e1": missed, "e2": bad, "e3": killed, "e4": REFUSED})
     status, lines, _ = bodies.run("a")
     assert status == 1
@@ -153,7 +154,8 @@ def test_wrong_arguments_try_nothing(bodies):
     bodies.crate("a", gate={"late": REFUSED}, more={"early": REFUSED})
     bodies.crate("b", gate={"late": REFUSED}, more={"late": REFUSED})
     bodies.crate("c")
-    for words, told in ((["c"], "no wrong bodies of c"), (["a", "--jobs", 0], "--jobs"), (["b"], "late.edit in both folders"), (["--what"], "--what")):
+    wrong = [(["c"], "no wrong bodies of c"), (["a", "--jobs", 0], "--jobs"), (["b"], "late.edit in both folders"), (["--what"], "--what")]
+    for words, told in wrong:
         status, lines, errors = bodies.run(*words)
         assert (status, lines) == (2, [])
         assert told in errors[-1]
@@ -175,7 +177,8 @@ def test_what_cannot_be_applied_is_found_without_the_prover(bodies):
     bodies.repository.write("crates/a/src/lib.rt", "one one\n")
     status, lines, _ = bodies.run("--check")
     assert (status, bodies.tried()) == (1, [])
-    assert sorted(it.split(":")[0] for it in lines) == ["crates/a/must-fail/late.edit", *(f"wrong-bodies/a/{it}.edit" for it in ("early", "gone", "none", "same"))]
+    wanted = [f"wrong-bodies/a/{it}.edit" for it in ("early", "gone", "none", "same")]
+    assert sorted(it.split(":")[0] for it in lines) == ["crates/a/must-fail/late.edit", *wanted]
     assert "crates/a/must-fail/late.edit: its old text stands 2 times, not once" in lines
 
 
@@ -184,13 +187,13 @@ def test_where_it_is_ended_nothing_stays(bodies):
         bodies.crate(name, more={"early": REFUSED})
     (bodies.log / "stay").touch()
     started = bodies.repository.start("wrong_bodies", "--jobs", 2, env=bodies.environment)
-    for _ in range(400):
+    for _ in range(1200):
         if len(bodies.tried()) == 2:
             break
         time.sleep(0.05)
     assert bodies.tried() == ["a", "b"]
     started.send_signal(signal.SIGTERM)
-    assert started.communicate(timeout=15) and started.returncode == 128 + signal.SIGTERM
+    assert started.communicate(timeout=60) and started.returncode == 128 + signal.SIGTERM
     assert list(bodies.copies.iterdir()) == []
     assert not any(pathlib.Path(f"/proc/{bodies.called(it)['pid']}").exists() for it in "ab")
     assert bodies.tried() == ["a", "b"]
