@@ -3,10 +3,9 @@ ghost use Rattle.dubp_block.specs.Text.{IsBlock, size_of};
 
 use dubp_atoms::{Hash, Items, Key, NoMemory, Sig, Stamp, Uid};
 use dubp_block::{
-    Block, MemberLine, ReadRefusal, block_hash, copy_block, inner_hash, put_block, read_block,
-    size, stamp_of,
+    Block, MemberLine, block_hash, copy_block, inner_hash, put_block, read_block, size, stamp_of,
 };
-use std::alloc::{AllocError, Global};
+use std::alloc::Global;
 use std::mem::forget;
 use std::test::Fail;
 
@@ -68,143 +67,6 @@ fn reads_hashes_and_writes_the_first_block(rt: HostRuntime) -> Result<(), Fail> 
     assert!(rt; first);
     assert!(rt; kept == Ok(true));
     Ok(())
-}
-
-// A block of another number, with a dividend, an entry in most sections and two transactions: 48 lines.
-const SECOND_BLOCK: &[u8] = b"Version: 11\n\
-Type: Block\n\
-Currency: test_currency\n\
-Number: 1\n\
-PoWMin: 4\n\
-Time: 1488990000\n\
-MedianTime: 1488990000\n\
-UniversalDividend: 1000\n\
-UnitBase: 0\n\
-Issuer: 1111111111111111111111111111111111111111111\n\
-IssuersFrame: 6\n\
-IssuersFrameVar: -5\n\
-DifferentIssuersCount: 1\n\
-PreviousHash: 213EECFB0EEA61A655E64854E92BE5C3C4F3DE3D12DAD82F421E4DFA250CBB36\n\
-PreviousIssuer: 1111111111111111111111111111111111111111111\n\
-MembersCount: 3\n\
-Identities:\n\
-1111111111111111111111111111111111111111111:AAAAAAAAAAAAAAAAAAAAAAAAAAAAAAAAAAAAAAAAAAAAAAAAAAAAAAAAAAAAAAAAAAAAAAAAAAAAAAAAAAAAAA==:0-213EECFB0EEA61A655E64854E92BE5C3C4F3DE3D12DAD82F421E4DFA250CBB36:name\n\
-Joiners:\n\
-1111111111111111111111111111111111111111111:AAAAAAAAAAAAAAAAAAAAAAAAAAAAAAAAAAAAAAAAAAAAAAAAAAAAAAAAAAAAAAAAAAAAAAAAAAAAAAAAAAAAAA==:0-213EECFB0EEA61A655E64854E92BE5C3C4F3DE3D12DAD82F421E4DFA250CBB36:0-213EECFB0EEA61A655E64854E92BE5C3C4F3DE3D12DAD82F421E4DFA250CBB36:name\n\
-Actives:\n\
-Leavers:\n\
-Revoked:\n\
-1111111111111111111111111111111111111111111:AAAAAAAAAAAAAAAAAAAAAAAAAAAAAAAAAAAAAAAAAAAAAAAAAAAAAAAAAAAAAAAAAAAAAAAAAAAAAAAAAAAAAA==\n\
-Excluded:\n\
-1111111111111111111111111111111111111111111\n\
-Certifications:\n\
-1111111111111111111111111111111111111111111:1111111111111111111111111111111111111111111:0:AAAAAAAAAAAAAAAAAAAAAAAAAAAAAAAAAAAAAAAAAAAAAAAAAAAAAAAAAAAAAAAAAAAAAAAAAAAAAAAAAAAAAA==\n\
-Transactions:\n\
-TX:10:1:1:1:1:1:0\n\
-0-213EECFB0EEA61A655E64854E92BE5C3C4F3DE3D12DAD82F421E4DFA250CBB36\n\
-1111111111111111111111111111111111111111111\n\
-1000:0:D:1111111111111111111111111111111111111111111:1\n\
-0:SIG(0)\n\
-1000:0:SIG(1111111111111111111111111111111111111111111)\n\
-a comment\n\
-AAAAAAAAAAAAAAAAAAAAAAAAAAAAAAAAAAAAAAAAAAAAAAAAAAAAAAAAAAAAAAAAAAAAAAAAAAAAAAAAAAAAAA==\n\
-TX:10:1:2:1:1:0:0\n\
-0-213EECFB0EEA61A655E64854E92BE5C3C4F3DE3D12DAD82F421E4DFA250CBB36\n\
-1111111111111111111111111111111111111111111\n\
-1000:0:D:1111111111111111111111111111111111111111111:1\n\
-500:0:T:213EECFB0EEA61A655E64854E92BE5C3C4F3DE3D12DAD82F421E4DFA250CBB36:0\n\
-0:SIG(0)\n\
-1500:0:SIG(1111111111111111111111111111111111111111111)\n\
-AAAAAAAAAAAAAAAAAAAAAAAAAAAAAAAAAAAAAAAAAAAAAAAAAAAAAAAAAAAAAAAAAAAAAAAAAAAAAAAAAAAAAA==\n\
-InnerHash: 213EECFB0EEA61A655E64854E92BE5C3C4F3DE3D12DAD82F421E4DFA250CBB36\n\
-Nonce: 7\n\
-AAAAAAAAAAAAAAAAAAAAAAAAAAAAAAAAAAAAAAAAAAAAAAAAAAAAAAAAAAAAAAAAAAAAAAAAAAAAAAAAAAAAAA==\n";
-
-#[test]
-fn a_changed_line_is_refused_where_no_block_goes_on(rt: HostRuntime) -> Result<(), Fail> {
-    let alloc = rt.alloc();
-    let changes = [
-        (1, b"Version: 12".as_slice(), 1),
-        (4, b"Number: 0".as_slice(), 14),
-        (8, b"UniversalDividend: 01000".as_slice(), 8),
-        (8, b"UnitBase: 16".as_slice(), 8),
-        (8, b"UnitBase: 0".as_slice(), 9),
-        (18, b"Joiner:".as_slice(), 18),
-        (
-            24,
-            b"1111111111111111111111111111111111111111111:".as_slice(),
-            24,
-        ),
-        (
-            28,
-            b"1111111111111111111111111111111111111111111:1111111111111111111111111111111111111111111:00:AAAAAAAAAAAAAAAAAAAAAAAAAAAAAAAAAAAAAAAAAAAAAAAAAAAAAAAAAAAAAAAAAAAAAAAAAAAAAAAAAAAAAA==".as_slice(),
-            28,
-        ),
-        (28, b"Transactions:".as_slice(), 29),
-        (30, b"TX:10:1:1:1:1:2:0".as_slice(), 30),
-        (30, b"TX:10:0:1:1:1:1:0".as_slice(), 30),
-        (30, b"TX:10:1:101:1:1:1:0".as_slice(), 30),
-        // two inputs announced, and one there
-        (30, b"TX:10:1:2:1:1:1:0".as_slice(), 34),
-        (36, b"".as_slice(), 36),
-        // one input announced, and two there
-        (38, b"TX:10:1:1:1:1:0:0".as_slice(), 42),
-        (46, b"InnerHash: 0".as_slice(), 46),
-        (48, b"".as_slice(), 48),
-    ];
-    for (line, new, refused) in changes {
-        let text = with_line(alloc, line, new)?;
-        let found = line_of(read_block(alloc, text.as_slice()));
-        assert_eq!(rt; found, refused);
-    }
-    Ok(())
-}
-
-// How many transactions the second block has, its dividend and the variable of its frame.
-fn summary(text: Result<Block, ReadRefusal>) -> Option<(usize, Option<u64>, i64)> {
-    let Ok(block) = text else {
-        return None;
-    };
-    let told = (block.transactions.len(), block.dividend, block.frame_var);
-    forget(block);
-    Some(told)
-}
-
-#[test]
-fn the_ends_of_a_text_are_refused_behind_its_lines(rt: HostRuntime) -> Result<(), Fail> {
-    let alloc = rt.alloc();
-    let read = summary(read_block(alloc, SECOND_BLOCK));
-    assert_eq!(rt; read, Some((2, Some(1000), -5)));
-    for end in [b"x".as_slice(), b"x\n".as_slice(), b"\n".as_slice()] {
-        let mut text = SECOND_BLOCK.to_vec(alloc)?;
-        text.extend_from_slice(end)?;
-        let refused = line_of(read_block(alloc, text.as_slice()));
-        assert_eq!(rt; refused, 49);
-    }
-    let short = SECOND_BLOCK.len() - 1;
-    let refused = line_of(read_block(alloc, &SECOND_BLOCK[..short]));
-    assert_eq!(rt; refused, 48);
-    let empty = line_of(read_block(alloc, b""));
-    assert_eq!(rt; empty, 1);
-    Ok(())
-}
-
-// The line of a refusal, or 0 where there is none.
-fn line_of(read: Result<Block, ReadRefusal>) -> u64 {
-    match read {
-        Err(ReadRefusal::NotABlock { line }) => line,
-        _ => 0,
-    }
-}
-
-// The text of the second block with this line changed.
-fn with_line(alloc: Global, line: usize, new: &[u8]) -> Result<Vec<u8>, AllocError> {
-    let mut text = Vec::new(alloc);
-    for (i, old) in SECOND_BLOCK.split(|c| *c == b'\n').take(48).enumerate() {
-        text.extend_from_slice(if i + 1 == line { new } else { old })?;
-        text.push(b'\n')?;
-    }
-    Ok(text)
 }
 
 const KEY: &[u8] = b"1111111111111111111111111111111111111111111";

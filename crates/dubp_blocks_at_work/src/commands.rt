@@ -30,22 +30,3 @@ fn lines_are_read_as_commands(rt: HostRuntime) {
         )
     );
 }
-
-#[test]
-fn other_lines_are_no_command(rt: HostRuntime) {
-    let lines: [&[u8]; 10] = [
-        b"",
-        b"HEAD ",
-        b"head",
-        b"BLOCK",
-        b"BLOCK 07",
-        b"BLOCK 9007199254740992",
-        b"REVERT  1",
-        b"UID a",
-        b"BALANCE CSV(1)&&CSV(2)",
-        b"IDENTITY 0",
-    ];
-    for line in lines {
-        assert!(rt; read_command(line).is_none());
-    }
-}

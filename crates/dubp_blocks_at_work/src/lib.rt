@@ -1,5 +1,5 @@
-//! Tests of the texts of blocks, documents, conditions, records and commands, of verdicts, of the rules on a block by itself, of heads and
-//! of drafts, and nothing else.
+//! Tests of the texts of blocks, documents, conditions, records and commands, of verdicts, of the rules on a block by itself, of heads, of
+//! facts and of drafts, and nothing else.
 //!
 //! Each call is made with texts whose answers are known from outside. The tests stand above the crates that they try: a crate with
 //! tests of its own is proved once more with them.
@@ -15,6 +15,8 @@ mod conditions;
 mod documents;
 #[cfg(test)]
 mod drafts;
+#[cfg(test)]
+mod facts;
 #[cfg(test)]
 mod heads;
 #[cfg(test)]

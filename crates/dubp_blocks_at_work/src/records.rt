@@ -1,10 +1,7 @@
-ghost use Rattle.std.specs.Prelude.{IfOk};
-ghost use Rattle.dubp_cond.specs.Sources.{IsInput};
 ghost use Rattle.dubp_validity.specs.Records.{IsRecord};
 
 use arrayvec::ArrayVec;
-use dubp_atoms::{Items, Key, Line, Stamp, Uid};
-use dubp_cond::{Input, read_input};
+use dubp_atoms::{Key, Line, Stamp, Uid};
 use dubp_validity::{Record, put_record};
 use std::test::Fail;
 
@@ -18,15 +15,6 @@ fn key_of(text: &[u8]) -> Result<Key, Fail> {
     match Key::read(text) {
         Some(key) => Ok(key),
         None => Err(Fail::from("no key")),
-    }
-}
-
-fn input_of(text: &[u8]) -> Result<Input, Fail>
-    ensures { IfOk result IsInput }
-{
-    match read_input(text) {
-        Some(input) => Ok(input),
-        None => Err(Fail::from("no input")),
     }
 }
 
@@ -70,24 +58,5 @@ fn records_of_people_are_written_as_they_are_spelled(_rt: HostRuntime) -> Result
             made: 1150,
         },
         b"CIDX CERT 1111111111111111111111111111111111111111111 1111111111111111111111111111111111111111112 1150",
-    )
-}
-
-#[test]
-fn records_of_sources_are_written_as_they_are_spelled(rt: HostRuntime) -> Result<(), Fail> {
-    let dividend = Record::Dividend {
-        input: input_of(b"1000:0:D:1111111111111111111111111111111111111111111:2")?,
-    };
-    is_written(
-        &dividend,
-        b"SIDX DIVIDEND 1000:0:D:1111111111111111111111111111111111111111111:2",
-    )?;
-    let made = Record::Make {
-        input: input_of(b"9:1:D:1111111111111111111111111111111111111111112:3")?,
-        cond: Items::from_vec(b"CSV(3600)".to_vec(rt.alloc())?),
-    };
-    is_written(
-        &made,
-        b"SIDX MAKE 9:1:D:1111111111111111111111111111111111111111112:3 CSV(3600)",
     )
 }

@@ -61,29 +61,3 @@ fn one_verdict(rt: HostRuntime) {
         }
     }
 }
-
-// 10,000 verdicts are given, and 100 are not.
-fn many_are_told(verdicts: &mut Verdicts, key: Key, sig: Sig) -> Result<bool, NoMemory> {
-    for number in 0..10_000u32 {
-        verdicts.add(key, Hash::of(&number.to_be_bytes()), sig)?;
-    }
-    let mut good = true;
-    for number in 0..10_100u32 {
-        let stands = verdicts.has(&key, &number.to_be_bytes(), &sig);
-        good = good && stands == (number < 10_000);
-    }
-    Ok(good)
-}
-
-#[test]
-fn many_verdicts(rt: HostRuntime) {
-    match read_atoms() {
-        None => assert!(rt; false),
-        Some(atoms) => {
-            let mut verdicts = Verdicts::new(rt.alloc());
-            let good = many_are_told(&mut verdicts, atoms.key, atoms.sig);
-            forget(verdicts);
-            assert!(rt; good == Ok(true));
-        }
-    }
-}

@@ -69,22 +69,6 @@ fn medians(rt: HostRuntime) -> Result<(), Fail> {
     Ok(())
 }
 
-/// The times below a number, from the greatest down to 0.
-fn falling(alloc: Global, count: u64) -> Result<Vec<u64>, AllocError> {
-    (0..count).rev().collect(alloc)
-}
-
-#[test]
-fn medians_of_many_times(rt: HostRuntime) -> Result<(), Fail> {
-    let alloc = rt.alloc();
-    for (count, middle) in [(20_001, 10_000), (20_000, 9_999)] {
-        let times = falling(alloc, count)?;
-        assert_eq!(rt; median(alloc, &times)?, Some(middle));
-    }
-    assert_eq!(rt; Window::new(alloc, 20_001)?.middle(), None);
-    Ok(())
-}
-
 #[test]
 fn window_against_median(rt: HostRuntime) -> Result<(), Fail> {
     let alloc = rt.alloc();
