@@ -6,6 +6,7 @@ use Rattle.dubp_cond.specs.declared.source.SourceId.{SourceId}
 use Rattle.dubp_cond.specs.declared.source.SourceId.TheVariants.{D, T}
 use Rattle.dubp_validity.specs.OfChain.{same_source}
 use Rattle.dubp_validity.specs.OfChain.{each_once}
+use Rattle.dubp_lists.proofs.Elements.{list_any-map}
 use Rattle.dubp_lists.proofs.Once.{each_once-map}
 
 -- what holds where a call succeeds gives what follows from it there
