@@ -7,7 +7,7 @@ use Rattle.std.proofs.lemmas.List.Elements.{All-nil, All-cons, All-weaker, All-c
 use Rattle.dubp_atoms.specs.Same.{Text, same_text}
 use Rattle.dubp_left.specs.OfChain.{names}
 use Rattle.dubp_left.specs.OfChain.{Chain}
-use Rattle.dubp_left.specs.OfChain.members as chain
+use Rattle.dubp_left.specs.OfChain.{members as members_of}
 use Rattle.dubp_left.specs.OfChain.{member}
 use Rattle.dubp_left.specs.OfChain.{live}
 use Rattle.dubp_left.specs.OfFacts.{IsSound}
@@ -57,7 +57,7 @@ pub live-shown : (c : Chain) (a to : Text) → lives (get (certifications_left c
 live-shown c a to = ap lives (certifications-at c (a, to)) ∙ live_told (certification_row c a to) ∙ sym (live_is_of_row c a to)
 
 -- the members in order are the list of them
-pub members-shown : (c : Chain) → IsSound c → members (identities_left c) ≡ chain.members c
+pub members-shown : (c : Chain) → IsSound c → members (identities_left c) ≡ members_of c
 members-shown c sound = members_are_table c (members (identities_left c)) (members-in_order (identities_left c)) (λ k. named k ∙ member-shown c sound k)
   where
     in_names : (k : Text) (ks : List Text) → Contains ks k → names ks k ≡ true
