@@ -54,7 +54,8 @@ class Transaction:
             place += count
         comment = lines[place] if has_comment == "1" else ""
         place += int(has_comment)
-        return cls(currency, lines[1], int(locktime), *parts, comment, lines[place : place + len(parts[0])])
+        issuers, inputs, unlocks, outputs = parts
+        return cls(currency, lines[1], int(locktime), issuers, inputs, unlocks, outputs, comment, lines[place : place + len(issuers)])
 
     @classmethod
     def from_document(cls, text: str) -> "Transaction":
@@ -62,9 +63,10 @@ class Transaction:
         lines = text.split("\n")[:-1]
         places = [lines.index(f"{name}:") for name in ("Issuers", "Inputs", "Unlocks", "Outputs")]
         end = next(place for place in range(places[3], len(lines)) if lines[place].startswith("Comment: "))
-        parts = [lines[start + 1 : stop] for start, stop in zip(places, [*places[1:], end])]
-        fields = [line.split(": ", 1)[1] for line in lines[2:5]]
-        return cls(fields[0], fields[1], int(fields[2]), *parts, lines[end].removeprefix("Comment: "), lines[end + 1 :])
+        issuers, inputs, unlocks, outputs = [lines[start + 1 : stop] for start, stop in zip(places, [*places[1:], end])]
+        currency, stamp, locktime = [line.split(": ", 1)[1] for line in lines[2:5]]
+        comment = lines[end].removeprefix("Comment: ")
+        return cls(currency, stamp, int(locktime), issuers, inputs, unlocks, outputs, comment, lines[end + 1 :])
 
     @property
     def compact_size(self) -> int:
@@ -165,7 +167,8 @@ class BlockText:
 
     def issued(self) -> int:
         """The units that its dividend makes."""
-        return (self.dividend() or 0) * 10 ** int(self.fields["UnitBase"]) * int(self.fields["MembersCount"])
+        base: int = 10 ** int(self.fields["UnitBase"])
+        return (self.dividend() or 0) * base * int(self.fields["MembersCount"])
 
     @cached_property
     def transactions(self) -> list[Transaction]:

@@ -98,7 +98,8 @@ async def memberships(turn: Turn, word: str) -> dict[str, Any]:
     for written, kind, stamp in turn.index.memberships(identity.key):
         number, block_hash = stamp.split("-")
         way = "OUT" if kind == "Leavers" else "IN"
-        lines.append({"version": 10, "currency": currency, "membership": way, "blockNumber": int(number), "blockHash": block_hash, "written": written})
+        block_of = {"blockNumber": int(number), "blockHash": block_hash, "written": written}
+        lines.append({"version": 10, "currency": currency, "membership": way, **block_of})
     return {"pubkey": identity.key, "uid": identity.uid, "sigDate": identity.stamp, "memberships": lines}
 
 

@@ -19,7 +19,7 @@ async def lookup(turn: Turn, word: str) -> dict[str, Any]:
 async def _looked_up(turn: Turn, identity: Identity) -> dict[str, Any]:
     received, issued = await people.certifications_of(turn, identity.key)
     others = [await _other(turn, each) for each in received]
-    others += [await _other_pending(turn, each) for each in turn.index.pending_of("certification", subject=identity.key) if _is_for(each, identity)]
+    others += [await _other_pending(turn, each) for each in _waiting_for(turn, identity)]
     # the wallet takes them to be in the order of expiry
     others.sort(key=lambda each: (each["meta"]["block_number"], each["pubkey"]))
     signed = [_signed(turn, each) for each in issued]
@@ -27,6 +27,11 @@ async def _looked_up(turn: Turn, identity: Identity) -> dict[str, Any]:
         "uid": identity.uid, "meta": {"timestamp": identity.stamp}, "self": identity.signature, **_revoked(turn, identity), "others": others,
     }
     return {"pubkey": identity.key, "uids": [uid], "signed": [each for each in signed if each is not None]}
+
+
+def _waiting_for(turn: Turn, identity: Identity) -> list[Pending]:
+    """The certifications of just this identity that wait."""
+    return [each for each in turn.index.pending_of("certification", subject=identity.key) if _is_for(each, identity)]
 
 
 def _is_for(certification: Pending, identity: Identity) -> bool:
@@ -160,7 +165,7 @@ async def _required(turn: Turn, identity: Identity) -> dict[str, Any]:
         "membershipPendingExpiresIn": max(ends, default=0),
         "pendingMemberships": [_shown_membership(each) for each in waiting],
         "certifications": [{"from": each.issuer, "to": each.receiver, "expiresIn": each.expires - head.median_time} for each in received],
-        "pendingCerts": [_pending_certification(each) for each in turn.index.pending_of("certification", subject=identity.key) if _is_for(each, identity)],
+        "pendingCerts": [_pending_certification(each) for each in _waiting_for(turn, identity)],
     }
 
 
@@ -181,8 +186,9 @@ def _shown_membership(pending: Pending) -> dict[str, Any]:
     fields = pending.fields()
     number, block_hash = fields["Block"].split("-")
     return {
-        "membership": fields["Membership"], "issuer": pending.issuer, "number": int(number), "blockNumber": int(number), "blockHash": block_hash,
-        "userid": fields["UserID"], "certts": fields["CertTS"], "block": fields["Block"], "signature": pending.signature(), "type": fields["Membership"],
+        "membership": fields["Membership"], "type": fields["Membership"], "issuer": pending.issuer, "userid": fields["UserID"],
+        "certts": fields["CertTS"], "block": fields["Block"], "number": int(number), "blockNumber": int(number), "blockHash": block_hash,
+        "signature": pending.signature(),
     }
 
 

@@ -98,7 +98,8 @@ class Move:
 def units(source: str) -> int:
     """What a source `AMOUNT:BASE:..` is worth."""
     amount, base, _ = source.split(":", 2)
-    return int(amount) * 10 ** int(base)
+    power: int = 10 ** int(base)
+    return int(amount) * power
 
 
 def read_pending(text: str) -> Pending:
@@ -153,7 +154,8 @@ class Index:
 
     def head(self) -> tuple[int, str] | None:
         """Number and hash of the last block."""
-        return self._row("SELECT number, hash FROM block ORDER BY number DESC LIMIT 1")
+        row = self._row("SELECT number, hash FROM block ORDER BY number DESC LIMIT 1")
+        return None if row is None else (int(row[0]), str(row[1]))
 
     def head_stamp(self) -> str:
         """The stamp of the last block, `NONE` for the empty chain."""
@@ -241,21 +243,13 @@ class Index:
             self._insert("party", [(key, "received", number, place) for key in each.receivers()])
 
     def _put_moves(self, number: int, records: list[str]) -> None:
-        made: list[tuple[str, str]] = []
-        moves: list[tuple[str, str]] = []
-        for record in records:
-            index, kind, *words = record.split(" ", 3)
-            if index != "SIDX":
-                continue
-            source = words[0]
+        lines = [record.split(" ", 3)[1:] for record in records if record.startswith("SIDX ")]
+        for place, (kind, source, *condition) in enumerate(lines):
             if kind in ("MAKE", "DIVIDEND"):
-                condition = words[1] if kind == "MAKE" else f"SIG({source.split(':')[3]})"
-                self._insert("source", [(source.split(":", 2)[2], condition, number)])
-                made.append((source, condition))
-            moves.append((source, {"SPEND": SPENT, "CLEAR": CLEARED}.get(kind, MADE)))
-        for place, (source, kind) in enumerate(moves):
-            condition = self._condition(source)
-            self._insert("move", [(condition, number, place, kind, source)])
+                made_for = condition[0] if condition else f"SIG({source.split(':')[3]})"
+                self._insert("source", [(source.split(":", 2)[2], made_for, number)])
+            move = {"SPEND": SPENT, "CLEAR": CLEARED}.get(kind, MADE)
+            self._insert("move", [(self._condition(source), number, place, move, source)])
 
     def _condition(self, source: str) -> str:
         row = self._row("SELECT condition FROM source WHERE identifier = ?", source.split(":", 2)[2])

@@ -62,8 +62,11 @@ class Log:
         if check != "ok":
             raise LogRefused(f"{self.path} is damaged: {check.splitlines()[0]}{self._whole_part()}")
         self.set_fact("format", FORMAT)
-        last = self.connection.execute("SELECT number, sum FROM log ORDER BY number DESC LIMIT 1").fetchone()
-        self._number, self._last_sum = last or (0, "")
+        self._find_last()
+
+    def _find_last(self) -> None:
+        last = self.connection.execute("SELECT number, sum FROM log ORDER BY number DESC LIMIT 1").fetchone() or (0, "")
+        self._number, self._last_sum = int(last[0]), str(last[1])
 
     def _whole_part(self) -> str:
         """How far the entries can be read and have their sums, as an end of a sentence."""
@@ -118,8 +121,7 @@ class Log:
         """Drops what was written since `begin`."""
         if self.connection.in_transaction:
             self.connection.execute("ROLLBACK")
-        last = self.connection.execute("SELECT number, sum FROM log ORDER BY number DESC LIMIT 1").fetchone()
-        self._number, self._last_sum = last or (0, "")
+        self._find_last()
 
     def entries(self) -> Iterator[Entry]:
         """All entries in order. Raises LogRefused where one is missing or has another sum, with the number of the last that is whole."""

@@ -98,9 +98,8 @@ async def _until_ended(ledger: Ledger) -> int:
     loop = asyncio.get_running_loop()
     for name in (signal.SIGTERM, signal.SIGINT):
         loop.add_signal_handler(name, ended.set)
-    waiting = asyncio.ensure_future(ended.wait())
-    await asyncio.wait({waiting, ledger.failure}, return_when=asyncio.FIRST_COMPLETED)
-    waiting.cancel()
+    ledger.failure.add_done_callback(lambda _: ended.set())
+    await ended.wait()
     if ledger.failure.done():
         _say(ledger.failure.result())
         return FAILED

@@ -7,7 +7,8 @@ HASH_PATTERN = "[0-9A-F]{64}"
 SIGNATURE_PATTERN = "[A-Za-z0-9+/]{86}=="
 NUMBER_PATTERN = "0|[1-9][0-9]{0,15}"
 STAMP_PATTERN = f"(?:{NUMBER_PATTERN})-{HASH_PATTERN}"
-CONDITION_PATTERN = r"[0-9A-Za-z()&| ]{1,1000}"
+CONDITION_PATTERN = rf"(?:SIG\({KEY_PATTERN}\)|XHX\({HASH_PATTERN}\)|(?:CSV|CLTV)\((?:{NUMBER_PATTERN})\)|[()]| && | \|\| )+"
+LONGEST_CONDITION = 1000
 
 MOST_NUMBER = 2**53 - 1
 EMPTY_STAMP = "0-E3B0C44298FC1C149AFBF4C8996FB92427AE41E4649B934CA495991B7852B855"
@@ -53,5 +54,5 @@ def is_stamp(text: str) -> bool:
 
 
 def is_condition_like(text: str) -> bool:
-    """Whether the text has only characters of conditions, and at most 1,000. Whether it is a condition the program says."""
-    return _CONDITION.fullmatch(text) is not None
+    """Whether the text has only words of conditions, and at most 1,000 characters. Whether it is a condition the program says."""
+    return len(text) <= LONGEST_CONDITION and _CONDITION.fullmatch(text) is not None

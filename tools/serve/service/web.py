@@ -294,5 +294,3 @@ async def start(service: Service, host: str, port: int) -> tuple[web.AppRunner, 
     await site.start()
     assert runner.addresses
     return runner, int(runner.addresses[0][1])
-
-

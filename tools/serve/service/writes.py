@@ -152,7 +152,8 @@ async def clear_pool(turn: Turn, blocks: list[BlockText]) -> None:
     """Takes out of the pool what these blocks have, and what can come into no block any more."""
     if turn.lacks("PEND") or not turn.index.pending():
         return
-    signatures = {word for block in blocks for name in block.sections if name != "Transactions" for line in block.sections[name] for word in line.split(":")}
+    lines = [line for block in blocks for name in block.sections if name != "Transactions" for line in block.sections[name]]
+    signatures = {word for line in lines for word in line.split(":")}
     hashes = {transaction.hash for block in blocks for transaction in block.transactions}
     for pending in turn.index.pending():
         if pending.hash in hashes or pending.signature() in signatures:

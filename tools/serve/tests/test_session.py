@@ -1,0 +1,88 @@
+"""A session by silkaj itself, unchanged, and the demonstration as the README shows it."""
+import json
+import os
+import re
+import shutil
+import subprocess
+from collections.abc import Callable
+from pathlib import Path
+
+import pytest
+from support import PROGRAM, TOOL, Server
+
+SILKAJ = shutil.which("silkaj", path="/usr/bin")
+needs_silkaj = pytest.mark.skipif(SILKAJ is None, reason="silkaj is not installed")
+Run = Callable[..., str]
+
+
+@pytest.fixture
+def silkaj(forging: Server, tmp_path: Path) -> Run:
+    """Runs silkaj, with the key of somebody where one is named, and gives what it prints."""
+    def run(*words: str, by: Path | None = None, status: int = 0, answers: str = "") -> str:
+        auth = [] if by is None else ["--auth-file", "--file", str(by)]
+        environment = {**os.environ, "LC_ALL": "C.UTF-8", "COLUMNS": "220", "TZ": "UTC", "PYTHONDONTWRITEBYTECODE": "1"}
+        command = [str(SILKAJ), "-ep", f"127.0.0.1:{forging.port}", *auth, *words]
+        done = subprocess.run(
+            command, input=answers, stdout=subprocess.PIPE, stderr=subprocess.STDOUT, text=True, timeout=120, env=environment, cwd=tmp_path, check=False
+        )
+        assert done.returncode == status and "Traceback" not in done.stdout, done.stdout
+        return done.stdout
+
+    return run
+
+
+@needs_silkaj
+def test_silkaj_reads_and_pays(silkaj: Run, forging: Server, currency: Path) -> None:
+    keys = {each["uid"]: each["pubkey"] for each in forging.get("/wot/members").json["results"]}
+    alice, bob = keys["alice"], keys["bob"]
+    assert re.search(r"Current block number: 26\n.*Number of members: 3\n", silkaj("blockchain", "info"), re.DOTALL)
+    assert "no blocks with a wrong signature" in silkaj("blockchain", "verify")
+    assert f"→ {alice}" in silkaj("wot", "lookup", "alice")
+    # three dividends of 1,000 units less 300: silkaj shows hundredths
+    assert re.search(r"Total balance.*│ +27 ", silkaj("money", "balance", alice))
+    silkaj("money", "transfer", "-a", "12.34", "-r", bob, "-c", "by silkaj", "--yes", by=currency / "alice.key")
+    assert re.search(r"Pending transaction .*-12.34", silkaj("money", "balance", alice))
+    forging.forge()
+    assert re.search(r"Total balance.*│ +14.66 ", silkaj("money", "balance", alice))
+    assert re.search(r"alice - .* 12.34 .*by silkaj", silkaj("money", "history", "-u", bob))
+    said = silkaj("money", "transfer", "-a", "99999", "-r", bob, "--yes", by=currency / "alice.key", status=1)
+    assert "have enough money" in said
+
+
+@needs_silkaj
+def test_silkaj_shows_why_it_was_refused(silkaj: Run, forging: Server, currency: Path) -> None:
+    carol = forging.get("/wot/lookup/carol").json["results"][0]["pubkey"]
+    assert "revoked: True" in silkaj("wot", "status", "carol")
+    said = silkaj("wot", "membership", by=currency / "carol.key", status=1, answers="y\n")
+    assert "HTTP Error 400: 1002 G77: " in said
+    assert "Current identity is not member" in silkaj("wot", "certify", carol, by=currency / "carol.key", status=1)
+
+
+def test_the_demonstration_tells_its_story(demo: Path) -> None:
+    said = (demo.parent / "said").read_text()
+    for sentence in ("alice, bob and carol certify one another", "the first dividend", "alice pays bob 300", "dora joins", "carol revokes", "lose to three"):
+        assert sentence in said
+    assert (demo / "alice.key").stat().st_mode & 0o077 == 0
+    assert [line.split()[0] for line in (demo / "keys.txt").read_text().splitlines()] == ["alice", "bob", "dora"]
+
+
+def test_the_demonstration_is_not_written_over(demo: Path) -> None:
+    command = [str(TOOL.parent / "demo"), str(demo), "--program", str(PROGRAM)]
+    done = subprocess.run(command, stderr=subprocess.PIPE, text=True, check=False)
+    assert done.returncode == 1 and "is there already" in done.stderr
+
+
+def test_a_program_without_forging_makes_no_demonstration(tmp_path: Path) -> None:
+    filtered = tmp_path / "filtered"
+    filtered.write_text(f"#!/bin/bash\nstdbuf -oL sed -E 's/^(FORGE)( .*)?$/HELLO/' | {PROGRAM} run\n")
+    filtered.chmod(0o755)
+    command = [str(TOOL.parent / "demo"), str(tmp_path / "currency"), "--program", str(filtered)]
+    done = subprocess.run(command, stderr=subprocess.PIPE, text=True, check=False)
+    assert done.returncode == 1 and "has no" in done.stderr and "FORGE" in done.stderr
+
+
+def test_what_the_demonstration_leaves_is_what_is_served(forging: Server, demo: Path) -> None:
+    members = {each["uid"] for each in forging.get("/wot/members").json["results"]}
+    assert members == {"alice", "bob", "dora"}
+    assert json.loads(forging.get("/node/money").body)["conserved"] is True
+    assert len(forging.get("/node/branches").json["stored"]) == 2
