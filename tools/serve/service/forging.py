@@ -79,21 +79,42 @@ async def draft(turn: Turn, key: str, clock: int | None = None) -> Draft:
     return Draft(lines, difficulty)
 
 
-async def mine(wanted: Draft, issuer: Issuer) -> bytes:
-    """The signed block. The search is a process, which ends where this is cancelled."""
-    process = await asyncio.create_subprocess_exec(
-        sys.executable, str(_MINER), stdin=asyncio.subprocess.PIPE, stdout=asyncio.subprocess.PIPE, start_new_session=True
-    )
-    task = json.dumps({"inner": wanted.inner, "difficulty": wanted.difficulty, "seed": issuer.seed.hex()})
-    try:
-        output, _ = await process.communicate(task.encode())
-    finally:
-        if process.returncode is None:
+class Miner:
+    """A process that finds nonces. It is ended where a search is cancelled, and started anew at the next."""
+
+    def __init__(self, issuer: Issuer) -> None:
+        self._issuer = issuer
+        self._process: asyncio.subprocess.Process | None = None
+
+    async def find(self, wanted: Draft) -> bytes:
+        """The signed block."""
+        task = json.dumps({"inner": wanted.inner, "difficulty": wanted.difficulty, "seed": self._issuer.seed.hex()})
+        found = b""
+        try:
+            process = self._process or await self._start()
+            assert process.stdin is not None and process.stdout is not None
+            process.stdin.write(task.encode() + b"\n")
+            await process.stdin.drain()
+            found = await process.stdout.readline()
+        finally:
+            if not found:
+                await self.stop()
+        nonce, signature = found.decode().split()
+        return wanted.signed(int(nonce), signature)
+
+    async def _start(self) -> asyncio.subprocess.Process:
+        self._process = await asyncio.create_subprocess_exec(
+            sys.executable, "-B", str(_MINER), stdin=asyncio.subprocess.PIPE, stdout=asyncio.subprocess.PIPE, start_new_session=True
+        )
+        return self._process
+
+    async def stop(self) -> None:
+        """Ends the process."""
+        process, self._process = self._process, None
+        if process is not None:
             with contextlib.suppress(ProcessLookupError):
                 process.kill()
             await process.wait()
-    nonce, signature = output.decode().split()
-    return wanted.signed(int(nonce), signature)
 
 
 async def submit_own(turn: Turn, raw: bytes, key: str) -> str:
@@ -112,7 +133,7 @@ class Forger:
 
     def __init__(self, ledger: Ledger, issuer: Issuer, pace: float | None, on_request: bool) -> None:
         self._ledger, self._issuer, self._pace, self._last = ledger, issuer, pace, -math.inf
-        self._on_request = on_request
+        self._on_request, self._miner = on_request, Miner(issuer)
         self._changed, self._wanted = asyncio.Event(), asyncio.Event()
         self._forging = asyncio.Lock()
         ledger.listen(self._changed.set)
@@ -146,7 +167,7 @@ class Forger:
 
     async def _mine_while_head_stays(self, wanted: Draft) -> bytes | None:
         head = self._ledger.index.head_stamp()
-        mining = asyncio.ensure_future(mine(wanted, self._issuer))
+        mining = asyncio.ensure_future(self._miner.find(wanted))
         try:
             while self._ledger.index.head_stamp() == head:
                 self._changed.clear()
@@ -158,6 +179,12 @@ class Forger:
             return None
         finally:
             mining.cancel()
+            with contextlib.suppress(asyncio.CancelledError, ValueError, OSError):
+                await mining
+
+    async def stop(self) -> None:
+        """Ends the search."""
+        await self._miner.stop()
 
     async def _wait_for_pace(self) -> None:
         """Waits until so many seconds are over since the head last changed; avgGenTime of the currency where no pace was given."""

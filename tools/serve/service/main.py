@@ -90,6 +90,8 @@ async def _serve(given: argparse.Namespace, ledger: Ledger, issuer: Issuer | Non
             forging.cancel()
             with contextlib.suppress(asyncio.CancelledError, Unavailable):
                 await forging
+        if forger is not None:
+            await forger.stop()
         await runner.cleanup()
 
 

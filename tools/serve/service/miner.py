@@ -1,4 +1,4 @@
-"""Finds the least nonce with which a block's hash meets a difficulty: one JSON on standard input, `NONCE SIGNATURE` on standard output.
+"""Finds the least nonce with which a block's hash meets a difficulty: for each JSON line on standard input `NONCE SIGNATURE` on standard output.
 
 It is a process of its own, and gives way to every other (nice 19)."""
 import base64
@@ -28,10 +28,11 @@ def search(inner: str, difficulty: int, seed: bytes) -> tuple[int, str]:
 
 
 def main() -> None:
-    """Reads the task and writes what was found."""
+    """Reads tasks and writes what was found."""
     os.nice(19)
-    task = json.load(sys.stdin)
-    print(*search(task["inner"], task["difficulty"], bytes.fromhex(task["seed"])))
+    for line in sys.stdin:
+        task = json.loads(line)
+        print(*search(task["inner"], task["difficulty"], bytes.fromhex(task["seed"])), flush=True)
 
 
 if __name__ == "__main__":

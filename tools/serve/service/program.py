@@ -37,12 +37,14 @@ class Program:
             raise ProgramEnded(f"{path} cannot be started: {error.strerror}") from error
         program = cls(process)
         try:
-            if await program.ask(commands.head()) != ["NONE"]:
-                raise ProgramEnded(f"{path} does not answer as dubp_node: HEAD of the empty chain is not NONE")
+            first = await program.ask(commands.head())
             program.lacks = await program._lacking()
-        except ProgramEnded:
+        except ProgramEnded as error:
             await program.stop()
-            raise
+            raise ProgramEnded(f"{path} does not answer as dubp_node: {error}") from error
+        if first != ["NONE"]:
+            await program.stop()
+            raise ProgramEnded(f"{path} does not answer as dubp_node: HEAD of the empty chain is {first[0][:20]!r}")
         return program
 
     async def _lacking(self) -> frozenset[str]:

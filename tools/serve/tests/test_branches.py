@@ -1,5 +1,6 @@
 """Reversal and switches: the index goes with the program, and what is told is what a service that never knew the other branch tells."""
 import asyncio
+import contextlib
 import sqlite3
 from pathlib import Path
 
@@ -78,19 +79,19 @@ def test_the_automatic_choice_moves_the_index(currency: Path) -> None:
     async def story() -> None:
         ledger = await Ledger.open(PROGRAM, currency / "log.sqlite")
         whole, length = _chain(ledger), ledger.index.length()
-        last = [block.text.encode() for block, _ in ledger.index.blocks(length - 2, 2)]
+        last = [block.text.encode() for block, _ in ledger.index.blocks(length - 3, 3)]
         assert await _change(ledger, commands.auto("ON")) == ["AUTO ON"]
-        await _change(ledger, commands.revert(2))
-        assert (await _change(ledger, commands.offer(last[0])))[0].startswith("STORED ")
-        answer = await _change(ledger, commands.offer(last[1]))
-        # a branch is chosen where it is two blocks longer than the chain... which this one is with the second offer
-        if len(answer) > 1:
-            assert answer[1].startswith("SWITCHED ") and _chain(ledger) == whole
-        else:
-            assert ledger.index.length() == length - 2
+        await _change(ledger, commands.revert(3))
+        for raw in last[:2]:
+            answer = await _change(ledger, commands.offer(raw))
+            assert len(answer) == 1 and answer[0].startswith("STORED ") and ledger.index.length() == length - 3
+        # the branch is chosen with its third block, whose number is three above that of the head
+        answer = await _change(ledger, commands.offer(last[2]))
+        assert answer[1].startswith("SWITCHED ") and _chain(ledger) == whole
+        stamp = ledger.index.head_stamp()
         await ledger.close()
         again = await Ledger.open(PROGRAM, currency / "log.sqlite")
-        assert again.index.head_stamp() == ledger.index.head_stamp()
+        assert again.index.head_stamp() == stamp
         await again.close()
 
     asyncio.run(story())
@@ -111,7 +112,7 @@ def test_work_that_fails_half_way_keeps_log_and_index_in_step(currency: Path) ->
             pass
         assert ledger.index.length() == length - 1
         await ledger.close()
-        with sqlite3.connect(currency / "log.sqlite") as connection:
+        with contextlib.closing(sqlite3.connect(currency / "log.sqlite")) as connection:
             assert Index(connection).length() == length - 1
         again = await Ledger.open(PROGRAM, currency / "log.sqlite")
         assert again.index.length() == length - 1

@@ -103,7 +103,7 @@ def test_blocks_are_shown_as_they_came(example: Server) -> None:
 
 
 def test_money_of_the_example(example: Server) -> None:
-    payer, payee = _texts()[3].split("Transactions:\n")[1].split("\n")[2], _texts()[3].split(":SIG(")[1].split(")")[0]
+    payer, payee = _texts()[3].split("Transactions:\n")[1].split("\n")[2], _texts()[3].split(":0:SIG(")[1].split(")")[0]
     sources = example.get(f"/tx/sources/{payer}").json["sources"]
     assert [(each["amount"], each["base"], each["type"], each["conditions"]) for each in sources] == [(900, 0, "T", f"SIG({payer})")]
     assert sources[0]["noffset"] == 1

@@ -31,19 +31,28 @@ def silkaj(forging: Server, tmp_path: Path) -> Run:
     return run
 
 
+def _total(said: str) -> int:
+    """The units of a balance that silkaj prints."""
+    found = re.search(r"Total balance.*│ +([0-9.]+) ", said)
+    assert found, said
+    return round(float(found[1]) * 100)
+
+
 @needs_silkaj
 def test_silkaj_reads_and_pays(silkaj: Run, forging: Server, currency: Path) -> None:
     keys = {each["uid"]: each["pubkey"] for each in forging.get("/wot/members").json["results"]}
     alice, bob = keys["alice"], keys["bob"]
-    assert re.search(r"Current block number: 26\n.*Number of members: 3\n", silkaj("blockchain", "info"), re.DOTALL)
+    assert re.search(r"Current block number: 26 .*Number of members: 3 ", silkaj("blockchain", "info"), re.DOTALL)
     assert "no blocks with a wrong signature" in silkaj("blockchain", "verify")
     assert f"→ {alice}" in silkaj("wot", "lookup", "alice")
-    # three dividends of 1,000 units less 300: silkaj shows hundredths
-    assert re.search(r"Total balance.*│ +27 ", silkaj("money", "balance", alice))
+    # dividends of 1,000 units less 300: silkaj shows hundredths
+    units = 1000 * len(forging.get("/blockchain/with/ud").json["result"]["blocks"]) - 300
+    assert _total(silkaj("money", "balance", alice)) == units
     silkaj("money", "transfer", "-a", "12.34", "-r", bob, "-c", "by silkaj", "--yes", by=currency / "alice.key")
     assert re.search(r"Pending transaction .*-12.34", silkaj("money", "balance", alice))
     forging.forge()
-    assert re.search(r"Total balance.*│ +14.66 ", silkaj("money", "balance", alice))
+    dividend = forging.get("/blockchain/current").json["dividend"] or 0
+    assert _total(silkaj("money", "balance", alice)) == units - 1234 + dividend
     assert re.search(r"alice - .* 12.34 .*by silkaj", silkaj("money", "history", "-u", bob))
     said = silkaj("money", "transfer", "-a", "99999", "-r", bob, "--yes", by=currency / "alice.key", status=1)
     assert "have enough money" in said
