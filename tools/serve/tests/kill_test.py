@@ -14,6 +14,7 @@ from pathlib import Path
 
 from support import Server
 
+from service.blocks import digest
 from service.forging import Issuer
 from service.wallet import Wallet
 
@@ -51,7 +52,6 @@ class Submitter:
             return text
         else:
             assert answer.status == 200, (answer.status, answer.body, text)
-        from service.blocks import digest
         text_hash = digest(text)
         self.payments.append(text_hash)
         self._source, self._waiting = f"{self._units}:0:T:{text_hash}:0", self._waiting + 1
@@ -87,10 +87,10 @@ def run(folder: Path, kills: int, submissions: int, seed: int) -> str:
     unanswered, killed = None, 0
     server = Server(folder / "log.sqlite", *words)
     submitter.begin(server)
-    while len(submitter.payments) < submissions:
+    while killed < kills or len(submitter.payments) < submissions:
         # so many submissions to the next kill, which comes at any moment of the one behind them
-        until = len(submitter.payments) + max(1, submissions // kills)
-        while len(submitter.payments) < min(until, submissions) and unanswered is None and submitter.forge(server):
+        until = submissions * (killed + 1) // (kills + 1)
+        while len(submitter.payments) < until and unanswered is None and submitter.forge(server):
             unanswered = submitter.submit(server, unanswered)
         if killed < kills:
             timer = threading.Timer(chance.uniform(0, 0.03), server.process.kill)

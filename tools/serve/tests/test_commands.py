@@ -29,6 +29,7 @@ MAKERS: list[Callable[[str], Command]] = [
     lambda word: commands.read_changing(f"VERDICT {word}", None),
 ]
 ROOTS = [KEY, HASH, SIGNATURE, f"0-{HASH}", "alice", "ON", "DIFF", "BALANCE", f"SIG({KEY})", f"UNPEND {HASH}", f"{KEY} {HASH} {SIGNATURE}"]
+MORE = ["\n", "\r", "\0", "\nHEAD", " HEAD", "\u2028", "\x85", "é", "\t"]
 
 
 @given(st.sampled_from(MAKERS), st.binary(max_size=90).map(lambda raw: raw.decode("latin-1")))
@@ -40,7 +41,7 @@ def test_any_word_is_refused_or_stays_within_its_line(make: Callable[[str], Comm
     assert encoded.count(b"\n") == 1 and encoded.endswith(b"\n")
 
 
-@given(st.sampled_from(MAKERS), st.sampled_from(ROOTS), st.sampled_from(["\n", "\r", "\0", "\nHEAD", " HEAD", "\u2028", "\x85", "é", "\t"]), st.booleans())
+@given(st.sampled_from(MAKERS), st.sampled_from(ROOTS), st.sampled_from(MORE), st.booleans())
 def test_what_stands_before_or_behind_a_right_word_is_refused(make: Callable[[str], Command], root: str, more: str, is_before: bool) -> None:
     with pytest.raises(BadWord):
         make(more + root if is_before else root + more)

@@ -83,7 +83,8 @@ def _texts() -> list[str]:
 
 def _made_again(blocks: list[dict[str, Any]]) -> str:
     """The texts of blocks that the field's own library makes of their JSON, as it is without the changes of tools/verdicts."""
-    program = "import json, sys; from duniterpy.documents import Block; [print(Block.from_parsed_json(b).signed_raw(), end='') for b in json.load(sys.stdin)]"
+    program = "import json, sys\nfrom duniterpy.documents import Block\n"
+    program += "for block in json.load(sys.stdin): print(Block.from_parsed_json(block).signed_raw(), end='')"
     return subprocess.run(["/usr/bin/python3", "-c", program], input=json.dumps(blocks), stdout=subprocess.PIPE, text=True, check=True).stdout
 
 
@@ -139,7 +140,8 @@ def test_people_of_the_example(example: Server) -> None:
 
 def test_nobody_and_nothing(example: Server) -> None:
     cases = {
-        "/blockchain/block/5": (404, 2011), "/blockchain/block/x": (400, 1002), "/blockchain/block/05": (400, 1002), "/wot/lookup/nobody": (404, 2001),
+        "/blockchain/block/5": (404, 2011), "/blockchain/block/x": (400, 1002), "/blockchain/block/05": (400, 1002),
+        "/wot/lookup/nobody": (404, 2001),
         f"/wot/lookup/{NOBODY}": (404, 2001), f"/wot/identity-of/{NOBODY}": (404, 2004), "/wot/requirements/nobody": (404, 2004),
         f"/blockchain/hardship/{NOBODY}": (404, 2004), "/blockchain/with/all": (400, 1002), "/blockchain/blocks/5001/0": (400, 1002),
         "/tx/sources/alice": (400, 1002), "/network/peering": (404, 1001), "/node/accounts/x": (400, 1002), "/node/distance/x": (400, 1002),
@@ -163,7 +165,7 @@ def test_pages_of_the_node(example: Server) -> None:
     assert block["text"] == _texts()[2]
     assert [record.split(" ")[:2] for record in block["records"]] == [["SIDX", "DIVIDEND"]] * 3
     assert example.get(f"/node/distance/{_keys(example)[0]}").json["passes"] is True
-    assert example.get("/node/branches").json == {"head": block["stamp"].replace("2-", "4-")[:2] + example.get("/node/head").json["hash"], "stored": []}
+    assert example.get("/node/branches").json == {"head": example.get("/node/head").json["stamp"], "stored": []}
     described = example.get("/node/openapi.json").json["paths"]
     for path in ("/tx/sources/{pubkey}", "/node/accounts/{condition}", "/wot/add", "/blockchain/block", "/node/why", "/node/events", "/ws/block"):
         assert path in described
@@ -217,7 +219,8 @@ def test_moves_of_the_index_are_those_of_the_program(serve: Callable[..., Server
             assert [vars(move) for move in index.moves(f"SIG({key})")] == [
                 {name: move[name] for name in ("block", "kind", "source", "balance")} for move in moves
             ]
-    assert sum(block["dividend"] is not None for block in blocks) == len([each for each in told[keys[0]] if ":D:" in each["source"] and each["kind"] == "MADE"])
+    made = [each for each in told[keys[0]] if ":D:" in each["source"] and each["kind"] == "MADE"]
+    assert sum(block["dividend"] is not None for block in blocks) == len(made)
 
 
 def test_the_program_of_the_tests_is_a_node() -> None:

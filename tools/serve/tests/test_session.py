@@ -6,6 +6,7 @@ import shutil
 import subprocess
 from collections.abc import Callable
 from pathlib import Path
+from typing import Any
 
 import pytest
 from support import PROGRAM, TOOL, Server
@@ -22,9 +23,8 @@ def silkaj(forging: Server, tmp_path: Path) -> Run:
         auth = [] if by is None else ["--auth-file", "--file", str(by)]
         environment = {**os.environ, "LC_ALL": "C.UTF-8", "COLUMNS": "220", "TZ": "UTC", "PYTHONDONTWRITEBYTECODE": "1"}
         command = [str(SILKAJ), "-ep", f"127.0.0.1:{forging.port}", *auth, *words]
-        done = subprocess.run(
-            command, input=answers, stdout=subprocess.PIPE, stderr=subprocess.STDOUT, text=True, timeout=120, env=environment, cwd=tmp_path, check=False
-        )
+        pipes: dict[str, Any] = {"stdout": subprocess.PIPE, "stderr": subprocess.STDOUT, "text": True, "timeout": 120}
+        done = subprocess.run(command, input=answers, env=environment, cwd=tmp_path, check=False, **pipes)
         assert done.returncode == status and "Traceback" not in done.stdout, done.stdout
         return done.stdout
 
@@ -53,7 +53,7 @@ def test_silkaj_reads_and_pays(silkaj: Run, forging: Server, currency: Path) -> 
     forging.forge()
     dividend = forging.get("/blockchain/current").json["dividend"] or 0
     assert _total(silkaj("money", "balance", alice)) == units - 1234 + dividend
-    assert re.search(r"alice - .* 12.34 .*by silkaj", silkaj("money", "history", "-u", bob))
+    assert re.search(r"alice - .* 12[.]340? .*by silkaj", silkaj("money", "history", "-u", bob))
     said = silkaj("money", "transfer", "-a", "99999", "-r", bob, "--yes", by=currency / "alice.key", status=1)
     assert "have enough money" in said
 
@@ -69,7 +69,8 @@ def test_silkaj_shows_why_it_was_refused(silkaj: Run, forging: Server, currency:
 
 def test_the_demonstration_tells_its_story(demo: Path) -> None:
     said = (demo.parent / "said").read_text()
-    for sentence in ("alice, bob and carol certify one another", "the first dividend", "alice pays bob 300", "dora joins", "carol revokes", "lose to three"):
+    told = ("alice, bob and carol certify one another", "the first dividend", "alice pays bob 300", "dora joins", "carol revokes", "lose to three")
+    for sentence in told:
         assert sentence in said
     assert (demo / "alice.key").stat().st_mode & 0o077 == 0
     assert [line.split()[0] for line in (demo / "keys.txt").read_text().splitlines()] == ["alice", "bob", "dora"]
