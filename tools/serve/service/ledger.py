@@ -41,6 +41,8 @@ class Turn:
     def __init__(self, program: Program, log: Log, index: Index) -> None:
         self._program, self._log, self.index = program, log, index
         self.has_changed = False
+        self.gone: list[BlockText] = []
+        """The blocks that this turn took off the chain."""
 
     def lacks(self, word: str) -> bool:
         """Whether the program has no such command."""
@@ -106,9 +108,10 @@ class Turn:
             assert block.hash == wanted, f"block {number} has another hash than the one behind it names"
             new.append(block)
             number, wanted = number - 1, block.previous
-        for gone in self.index.take_off(number + 1):
-            if are_stored:
-                self.index.store(gone)
+        taken_off = self.index.take_off(number + 1)
+        self.gone += taken_off
+        for gone in taken_off if are_stored else []:
+            self.index.store(gone)
         for block in reversed(new):
             self.index.put_on(block, await self.ask(commands.records(block.number)))
             self.index.forget(block.stamp)

@@ -48,6 +48,8 @@ class Log:
             self.connection = sqlite3.connect(path, isolation_level=None, timeout=0.5)
             self._prepare()
         except sqlite3.Error as error:
+            if "locked" in str(error):
+                raise LogRefused(f"{path} is in use by another process") from error
             raise LogRefused(f"{path} cannot be used as a log: {error}{self._whole_part()}") from error
 
     def _prepare(self) -> None:

@@ -26,6 +26,7 @@ from .refusals import (
     by_rule,
     sentence,
 )
+from .returning import put_back
 from .verdicts import Claim, Unreadable, digest, document_claims, is_true, read_block
 
 IDENTITY, MEMBERSHIP, CERTIFICATION, REVOCATION, TRANSACTION = "identity", "membership", "certification", "revocation", "transaction"
@@ -35,6 +36,9 @@ _MENDED_LATER = {
     CERTIFICATION: ("G69", "G72", "G67", "G66", "L16"),
 }
 _FULL = ("G50", "X01")
+MOST_TAKEN_OFF = 100
+"""How many blocks the program can take off at most."""
+
 _PASSWORD = re.compile(r"XHX\(([^)]*)\)")
 _CURRENCY_LINE = 2
 
@@ -242,6 +246,7 @@ async def submit_block(turn: Turn, raw: bytes) -> str:
     if word in ("KNOWN", "FULL"):
         raise Refusal(ALREADY_UP_TO_DATE, "This block is known") if word == "KNOWN" else Refusal(LIMITATION, "No more blocks can be stored")
     if turn.index.head() != head:
-        new = [block for block, _ in turn.index.blocks(max(0, length - 100), turn.index.length())]
+        await put_back(turn)
+        new = [block for block, _ in turn.index.blocks(max(0, length - MOST_TAKEN_OFF), turn.index.length())]
         await clear_pool(turn, new)
     return "\n".join(answer)

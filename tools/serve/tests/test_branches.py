@@ -1,14 +1,20 @@
 """Reversal and switches: the index goes with the program, and what is told is what a service that never knew the other branch tells."""
 import asyncio
 import contextlib
+import shutil
 import sqlite3
 from pathlib import Path
 
 from support import PROGRAM
 
 from service import commands
+from service.blocks import digest
+from service.forging import Issuer, draft, submit_own
 from service.index import Index
 from service.ledger import Ledger, Turn
+from service.miner import search
+from service.wallet import Wallet
+from service.writes import submit_block, submit_document
 
 CHAIN_TABLES = ("block", "section", "identity", "membership", "revocation", "certification", "payment", "party", "source", "move")
 
@@ -117,5 +123,41 @@ def test_work_that_fails_half_way_keeps_log_and_index_in_step(currency: Path) ->
         again = await Ledger.open(PROGRAM, currency / "log.sqlite")
         assert again.index.length() == length - 1
         await again.close()
+
+    asyncio.run(story())
+
+
+async def _forge(ledger: Ledger, issuer: Issuer) -> bytes:
+    wanted = await ledger.turn(lambda turn: draft(turn, issuer.key))
+    raw = wanted.signed(*search(wanted.inner, wanted.difficulty, issuer.seed))
+    await ledger.turn(lambda turn: submit_own(turn, raw, issuer.key))
+    return raw
+
+
+def test_what_a_lost_block_had_waits_again(currency: Path, people: dict[str, Wallet]) -> None:
+    async def story() -> None:
+        shutil.copy(currency / "log.sqlite", currency / "other.sqlite")
+        ledger, other = [await Ledger.open(PROGRAM, currency / name) for name in ("log.sqlite", "other.sqlite")]
+        alice, bob, dora = people["alice"], people["bob"], people["dora"]
+        source = next(move for move in reversed(ledger.index.moves(f"SIG({alice.key})")) if move.kind == "MADE").source
+        stamp = ledger.index.head_stamp()
+        payment = alice.payment([source], [f"{source.split(':')[0]}:0:SIG({bob.key})"], stamp)
+        identity = ledger.index.identity(dora.key)
+        renewal, certification = dora.membership(stamp, identity.stamp), dora.certification(alice, ledger.index.identity(alice.key).stamp, stamp)
+        for kind, text in (("transaction", payment), ("membership", renewal), ("certification", certification)):
+            waiting = await ledger.turn(lambda turn, kind=kind, text=text: submit_document(turn, kind, text.encode()))
+            assert waiting.hash == digest(text)
+        await _forge(ledger, alice.issuer)
+        assert ledger.index.pending() == [] and len(ledger.index.payments(alice.key, "sent")) == 2
+        # four blocks without them win
+        await _change(ledger, commands.auto("ON"))
+        rivals = [await _forge(other, bob.issuer if place % 2 else dora.issuer) for place in range(4)]
+        answers = [await ledger.turn(lambda turn, raw=raw: submit_block(turn, raw)) for raw in rivals]
+        assert answers[-1].split("\n")[1].startswith("SWITCHED ") and ledger.index.head_stamp() == other.index.head_stamp()
+        assert {each.hash for each in ledger.index.pending()} == {digest(text) for text in (payment, renewal, certification)}
+        await _forge(ledger, alice.issuer)
+        assert ledger.index.pending() == [] and len(ledger.index.payments(alice.key, "sent")) == 2
+        await ledger.close()
+        await other.close()
 
     asyncio.run(story())

@@ -1,4 +1,5 @@
 """Kept, and started again: replay, what is refused, and an index that is a function of the log."""
+import contextlib
 import os
 import signal
 import sqlite3
@@ -38,7 +39,7 @@ def test_a_start_finds_what_was_there(serve: Callable[..., Server], currency: Pa
 
 def test_the_index_is_a_function_of_the_log(serve: Callable[..., Server], currency: Path) -> None:
     def dump() -> dict[str, list[tuple[object, ...]]]:
-        with sqlite3.connect(currency / "log.sqlite") as connection:
+        with contextlib.closing(sqlite3.connect(currency / "log.sqlite")) as connection:
             return Index(connection).dump()
 
     before = dump()
@@ -95,7 +96,7 @@ def test_a_text_file_is_no_log(tmp_path: Path) -> None:
 
 def test_a_second_writer_is_refused(serve: Callable[..., Server], currency: Path) -> None:
     with serve():
-        assert "locked" in fails_to_start(currency / "log.sqlite")
+        assert "is in use by another process" in fails_to_start(currency / "log.sqlite")
 
 
 def test_a_program_that_ends_is_started_again(forging: Server, people: dict[str, Wallet]) -> None:

@@ -1,7 +1,9 @@
 """The reads of BMA: their schemas are those of Debian's duniterpy, their values those of the program and of the blocks."""
+import contextlib
 import copy
 import hashlib
 import json
+import sqlite3
 import subprocess
 from collections.abc import Callable, Iterator
 from pathlib import Path
@@ -11,6 +13,8 @@ import jsonschema
 import pytest
 from duniterpy.api.bma import blockchain, node, tx, ud, wot
 from support import PROGRAM, TOOL, Server
+
+from service.index import Index
 
 EXAMPLE = TOOL.parent / "verdicts" / "example"
 NOBODY = "5cnvo5bmR8QbtyNVnkDXWq6n5My6oNLd1o6auJApGCsv"
@@ -210,10 +214,7 @@ def test_moves_of_the_index_are_those_of_the_program(serve: Callable[..., Server
         blocks = server.get("/blockchain/blocks/50/0").json
         keys = [each["pubkey"] for each in server.get("/wot/members").json["results"]]
         told = {key: server.get(f"/node/accounts/{key}").json["moves"] for key in keys}
-    import sqlite3
-
-    from service.index import Index
-    with sqlite3.connect(currency / "log.sqlite") as connection:
+    with contextlib.closing(sqlite3.connect(currency / "log.sqlite")) as connection:
         index = Index(connection)
         for key, moves in told.items():
             assert [vars(move) for move in index.moves(f"SIG({key})")] == [
