@@ -95,7 +95,7 @@ class Transaction:
         """What BMA shows of it wherever it stands."""
         return {
             "version": 10, "currency": self.currency, "locktime": self.locktime, "blockstamp": self.stamp,
-            "blockstampTime": 0, "issuers": self.issuers, "inputs": self.inputs, "unlocks": self.unlocks, "outputs": self.outputs,
+            "issuers": self.issuers, "inputs": self.inputs, "unlocks": self.unlocks, "outputs": self.outputs,
             "comment": self.comment, "signatures": self.signatures, "hash": self.hash,
         }
 

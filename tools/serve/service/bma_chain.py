@@ -50,7 +50,7 @@ async def parameters(turn: Turn) -> dict[str, Any]:
     values = people.parameters(turn.index)
     last = await current(turn)
     replay = values["sigValidity"] if last["version"] == 10 else values["msWindow"]
-    return {"currency": last["currency"], **values, "sigReplay": replay, "msPeriod": values["msWindow"], "stepMax": values["stepMax"]}
+    return {"currency": last["currency"], **values, "sigReplay": replay, "msPeriod": values["msWindow"]}
 
 
 async def with_lines(turn: Turn, word: str) -> dict[str, Any]:

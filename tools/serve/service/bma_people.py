@@ -6,6 +6,7 @@ from .index import Identity, Pending
 from .ledger import Turn
 from .people import LiveCertification, checked_number, checked_word, head_of
 from .refusals import NO_MATCHING_IDENTITY, NO_MEMBER_MATCHING, Refusal
+from .writes import left_out
 
 
 async def lookup(turn: Turn, word: str) -> dict[str, Any]:
@@ -22,7 +23,7 @@ async def _looked_up(turn: Turn, identity: Identity) -> dict[str, Any]:
     others += [await _other_pending(turn, each) for each in _waiting_for(turn, identity)]
     # the wallet takes them to be in the order of expiry
     others.sort(key=lambda each: (each["meta"]["block_number"], each["pubkey"]))
-    signed = [_signed(turn, each) for each in issued]
+    signed = [await _signed(turn, each) for each in issued]
     uid = {
         "uid": identity.uid, "meta": {"timestamp": identity.stamp}, "self": identity.signature, **_revoked(turn, identity), "others": others,
     }
@@ -72,15 +73,16 @@ def _uids(turn: Turn, key: str) -> list[str]:
     return [] if identity is None else [identity.uid]
 
 
-def _signed(turn: Turn, live: LiveCertification) -> dict[str, Any] | None:
+async def _signed(turn: Turn, live: LiveCertification) -> dict[str, Any] | None:
     identity = turn.index.identity(live.receiver)
     written = turn.index.certification(live.issuer, live.receiver, live.written)
     if identity is None or written is None:
         return None
     return {
         "uid": identity.uid, "pubkey": identity.key, "meta": {"timestamp": identity.stamp},
-        "cert_time": {"block": written.number, "block_hash": turn.index.hash_of(written.number)}, "isMember": True,
-        "wasMember": turn.index.has_joined(identity.key), "signature": written.signature, **_revoked(turn, identity),
+        "cert_time": {"block": written.number, "block_hash": turn.index.hash_of(written.number)},
+        "isMember": await people.is_member(turn, identity.key), "wasMember": turn.index.has_joined(identity.key),
+        "signature": written.signature, **_revoked(turn, identity),
     }
 
 
@@ -159,7 +161,7 @@ async def _required(turn: Turn, identity: Identity) -> dict[str, Any]:
         **_revoked(turn, identity), "revokation_sig": None, "isMember": member,
         "wasMember": state is not None and turn.index.has_joined(identity.key), "identity_written": identity.block is not None,
         "expired": state is not None and not member and state.state == "OUT",
-        "outdistanced": not await _is_near_enough(turn, identity),
+        "outdistanced": await _is_far(turn, identity, member, waiting),
         "isSentry": member and state is not None and min(state.received, state.issued) >= degree,
         "membershipExpiresIn": max(0, state.expires - head.median_time) if member and state is not None else 0,
         "membershipPendingExpiresIn": max(ends, default=0),
@@ -169,12 +171,15 @@ async def _required(turn: Turn, identity: Identity) -> dict[str, Any]:
     }
 
 
-async def _is_near_enough(turn: Turn, identity: Identity) -> bool:
-    """Whether the distance is kept; for a pending identity nothing is known, and it counts as near."""
-    if identity.block is None:
-        return True
-    answer = await turn.ask(commands.of_key("DISTANCE", identity.key))
-    return answer == ["NONE"] or answer[0].endswith("PASS")
+async def _is_far(turn: Turn, identity: Identity, member: bool, waiting: list[Pending]) -> bool:
+    """Whether the distance is not kept. Of who is no member the program tells it only where it leaves out a membership that waits for that."""
+    if member:
+        return (await turn.ask(commands.of_key("DISTANCE", identity.key)))[0].endswith(" FAIL")
+    if not waiting or turn.lacks("FORGE"):
+        return False
+    left = await left_out(turn)
+    hashes = [each.hash for each in waiting + turn.index.pending_of("identity", issuer=identity.key)]
+    return any(left.get(each) == "G76" for each in hashes)
 
 
 def _end_of_window(turn: Turn, membership: Pending, window: int, now: int) -> int:

@@ -171,8 +171,9 @@ class Ledger:
             except _BROKEN as error:
                 try:
                     await self._begin_again()
-                except (ProgramEnded, LogRefused, *_BROKEN) as failure:
-                    self.failure.set_result(str(failure))
+                except (LogRefused, *_BROKEN) as failure:
+                    if not self.failure.done():
+                        self.failure.set_result(str(failure))
                 raise Unavailable(f"the service had to begin again: {error}") from error
 
     async def _work(self, turn: Turn, work: Callable[[Turn], Awaitable[T]]) -> T:

@@ -3,7 +3,6 @@ from pathlib import Path
 from typing import Any
 
 from . import commands, spelling
-from .blocks import BlockText
 from .branch import Branch
 from .commands import BadWord
 from .index import Move, units
@@ -13,7 +12,7 @@ from .people import checked_key, checked_number, head_of
 from .program import Program
 from .refusals import BLOCK_NOT_FOUND, NO_MEMBER_MATCHING, UNHANDLED, Refusal, sentence
 from .verdicts import Unreadable, digest, is_true, read_block
-from .writes import forged
+from .writes import left_out
 
 _BATCH = 500
 
@@ -89,14 +88,9 @@ async def failures(turn: Turn) -> dict[str, Any]:
 
 
 async def pool(turn: Turn) -> dict[str, Any]:
-    """The documents that wait. With a member's key known to be one, those that would not come into a block now have the rule."""
-    left: dict[str, str] = {}
+    """The documents that wait. Those that would not come into a block now have the rule."""
     waiting = turn.index.pending()
-    if waiting and not turn.lacks("FORGE"):
-        for identity in turn.index.identities():
-            if await turn.ask(commands.of_key("DIFF", identity.key)) != ["NONE"]:
-                left = (await forged(turn, identity.key))[1]
-                break
+    left = await left_out(turn) if waiting and not turn.lacks("FORGE") else {}
     lines = [
         {"hash": each.hash, "kind": each.kind, "issuer": each.issuer, "subject": each.subject, "text": each.text, "left": left.get(each.hash)}
         for each in waiting
@@ -150,6 +144,11 @@ async def _replay(program: Program, log: Log) -> None:
     await program.again(batch)
 
 
-def shown(found: BlockText) -> dict[str, Any]:
-    """What an event tells of a block."""
-    return {"number": found.number, "stamp": found.stamp, "issuer": found.fields["Issuer"], "median_time": found.median_time}
+async def newest(turn: Turn) -> tuple[dict[str, Any] | None, int]:
+    """What an event tells of the last block, and how many documents wait."""
+    found = turn.index.block(turn.index.length() - 1)
+    waiting = len(turn.index.pending())
+    if found is None:
+        return None, waiting
+    last = found[0]
+    return {"number": last.number, "stamp": last.stamp, "issuer": last.fields["Issuer"], "median_time": last.median_time}, waiting

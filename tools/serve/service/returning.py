@@ -6,7 +6,7 @@ from .ledger import Turn
 
 
 async def put_back(turn: Turn) -> None:
-    """Gives the documents of the blocks that this turn took off to the pool. What the new chain has, or can never have, is to be cleared behind it."""
+    """Gives the documents of the blocks that this turn took off to the pool. What the new chain has, or can never have, is cleared behind it."""
     if turn.lacks("PEND"):
         return
     for block in turn.gone:

@@ -1,7 +1,9 @@
 """The HTTP side: one application over a ledger."""
 import asyncio
+import contextlib
 import html
 import json
+import traceback
 from collections.abc import Awaitable, Callable
 from pathlib import Path
 from typing import Any
@@ -164,19 +166,22 @@ class Service:
         with self._stream("events") as changed:
             response = web.StreamResponse(headers={**_HEADERS, "Content-Type": "text/event-stream", "Cache-Control": "no-store"})
             await response.prepare(request)
-            head, pool = "", -1
-            while True:
-                now, waiting = self._ledger.index.head(), len(self._ledger.index.pending())
-                if now is not None and now[1] != head:
-                    found = self._ledger.index.block(now[0])
-                    assert found is not None
-                    head = now[1]
-                    await response.write(_event("block", node_pages.shown(found[0])))
-                if waiting != pool:
-                    pool = waiting
-                    await response.write(_event("pool", {"waiting": waiting}))
-                if not await _wait(changed, _SECONDS_BETWEEN_PINGS):
-                    await response.write(b": still here\n\n")
+            with contextlib.suppress(ConnectionError):
+                await self._write_events(response, changed)
+            return response
+
+    async def _write_events(self, response: web.StreamResponse, changed: asyncio.Event) -> None:
+        head, pool = "", -1
+        while True:
+            last, waiting = await self._ledger.turn(node_pages.newest)
+            if last is not None and last["stamp"] != head:
+                head = last["stamp"]
+                await response.write(_event("block", last))
+            if waiting != pool:
+                pool = waiting
+                await response.write(_event("pool", {"waiting": waiting}))
+            if not await _wait(changed, _SECONDS_BETWEEN_PINGS):
+                await response.write(b": still here\n\n")
 
     async def _websocket(self, request: web.Request) -> web.StreamResponse:
         with self._stream("websockets") as changed:
@@ -186,9 +191,9 @@ class Service:
             head = ""
             try:
                 while not socket.closed and not reader.done():
-                    now = self._ledger.index.head()
-                    if now is not None and now[1] != head:
-                        head = now[1]
+                    last, _ = await self._ledger.turn(node_pages.newest)
+                    if last is not None and last["stamp"] != head:
+                        head = last["stamp"]
                         await socket.send_json(await self._ledger.turn(bma_chain.current))
                     waiter = asyncio.ensure_future(_wait(changed, _SECONDS_BETWEEN_PINGS))
                     await asyncio.wait({reader, waiter}, return_when=asyncio.FIRST_COMPLETED)
@@ -222,6 +227,11 @@ class Service:
             return _refused(Refusal(UNKNOWN, "There is no such path"))
         except web.HTTPException as error:
             return _refused(Refusal(UNHANDLED, f"{error.reason}", error.status))
+        except ConnectionError:
+            raise
+        except Exception:
+            traceback.print_exc()
+            return _refused(Refusal(UNKNOWN, "The service failed at this; its log has more", 500))
 
 
 class _Stream:

@@ -98,7 +98,7 @@ async def _put_in(turn: Turn, pending: Pending, claims: list[Claim]) -> None:
     if not command.has_changed(answer[0]):
         raise Refusal(ALREADY_UP_TO_DATE, "This document waits already")
     try:
-        rule = (await _left(turn)).get(pending.hash)
+        rule = (await left_out(turn)).get(pending.hash)
     except (Lacking, Unavailable):
         await turn.ask(commands.unpend(pending.hash))
         raise
@@ -130,7 +130,7 @@ async def forged(turn: Turn, key: str, clock: int | None = None) -> tuple[list[s
     return lines, left
 
 
-async def _left(turn: Turn) -> dict[str, str]:
+async def left_out(turn: Turn) -> dict[str, str]:
     """The rules by which pending documents do not come into a block that some member would forge now."""
     for identity in turn.index.identities():
         if await people.is_member(turn, identity.key):
@@ -162,7 +162,7 @@ async def clear_pool(turn: Turn, blocks: list[BlockText]) -> None:
     for pending in turn.index.pending():
         if pending.hash in hashes or pending.signature() in signatures:
             await turn.change(commands.unpend(pending.hash))
-    left = await _left(turn)
+    left = await left_out(turn)
     for pending in turn.index.pending():
         if pending.hash in left and _is_final(turn.index, pending, left[pending.hash]):
             await turn.change(commands.unpend(pending.hash))

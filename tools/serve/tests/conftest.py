@@ -14,6 +14,7 @@ from service.wallet import Wallet
 # a machine with other work is slow at times; no example is kept beside the tests
 settings.register_profile("here", deadline=None, database=None, suppress_health_check=[HealthCheck.too_slow])
 settings.load_profile("here")
+EXAMPLE = TOOL.parent / "verdicts" / "example"
 
 
 def _knows(command: bytes) -> bool:
@@ -73,3 +74,12 @@ def forging(serve: Callable[..., Server], currency: Path) -> Server:
 def people(currency: Path) -> dict[str, Wallet]:
     """The four people of the demonstration."""
     return {uid: Wallet(Issuer.from_file(currency / f"{uid}.key"), uid, "demo") for uid in ("alice", "bob", "carol", "dora")}
+
+
+@pytest.fixture
+def example_log(tmp_path: Path) -> Path:
+    """The log of a service that was given the five blocks of the example of tools/verdicts."""
+    with Server(tmp_path / "log.sqlite") as server:
+        for place in range(5):
+            assert server.post("/blockchain/block", block=(EXAMPLE / f"block-{place}").read_text()).status == 200
+    return tmp_path / "log.sqlite"

@@ -49,42 +49,42 @@ def test_the_index_is_a_function_of_the_log(serve: Callable[..., Server], curren
     assert dump() == before
 
 
-def test_a_log_of_another_currency_is_refused(currency: Path) -> None:
-    said = fails_to_start(currency / "log.sqlite", "--currency", "g1")
-    assert "is the log of the currency demo, and not of g1" in said
+def test_a_log_of_another_currency_is_refused(example_log: Path) -> None:
+    said = fails_to_start(example_log, "--currency", "g1")
+    assert "is the log of the currency test_currency, and not of g1" in said
 
 
-def test_a_log_of_another_version_is_refused(currency: Path, tmp_path: Path) -> None:
+def test_a_log_of_another_version_is_refused(example_log: Path, tmp_path: Path) -> None:
     # a program that names another rule of a block: it refuses what this one accepted
     other = tmp_path / "other"
-    other.write_text(f"#!/bin/bash\nexec {PROGRAM} run | stdbuf -oL sed 's/^ACCEPTED 5-/REFUSED G57 5-/'\n")
+    other.write_text(f"#!/bin/bash\nexec {PROGRAM} run | stdbuf -oL sed 's/^ACCEPTED 3-/REFUSED G57 3-/'\n")
     other.chmod(other.stat().st_mode | stat.S_IXUSR)
-    said = fails_to_start(currency / "log.sqlite", program=other)
-    assert "another version of the program" in said and "ACCEPTED 5-" in said and "REFUSED G57" in said
+    said = fails_to_start(example_log, program=other)
+    assert "another version of the program" in said and "ACCEPTED 3-" in said and "REFUSED G57" in said
 
 
-def test_what_is_no_node_is_refused(currency: Path) -> None:
-    assert "does not answer" in fails_to_start(currency / "log.sqlite", program=Path("/bin/echo"))
-    assert "cannot be started" in fails_to_start(currency / "log.sqlite", program=currency / "nothing")
+def test_what_is_no_node_is_refused(example_log: Path) -> None:
+    assert "does not answer" in fails_to_start(example_log, program=Path("/bin/echo"))
+    assert "cannot be started" in fails_to_start(example_log, program=example_log.parent / "nothing")
 
 
-@pytest.mark.parametrize("change", ["UPDATE log SET answer = 'NOTED ' WHERE number = 30", "DELETE FROM log WHERE number = 30"])
-def test_a_changed_entry_is_named(currency: Path, change: str) -> None:
-    with sqlite3.connect(currency / "log.sqlite") as connection:
+@pytest.mark.parametrize("change", ["UPDATE log SET answer = 'NOTED ' WHERE number = 20", "DELETE FROM log WHERE number = 20"])
+def test_a_changed_entry_is_named(example_log: Path, change: str) -> None:
+    with sqlite3.connect(example_log) as connection:
         connection.execute(change)
     connection.close()
-    said = fails_to_start(currency / "log.sqlite")
-    assert "damaged" in said and "entry 30" in said and "up to 29 are whole" in said
+    said = fails_to_start(example_log)
+    assert "damaged" in said and "entry 20" in said and "up to 19 are whole" in said
 
 
-def test_a_damaged_file_is_refused_with_what_is_whole(currency: Path) -> None:
-    with sqlite3.connect(currency / "log.sqlite") as connection:
+def test_a_damaged_file_is_refused_with_what_is_whole(example_log: Path) -> None:
+    with sqlite3.connect(example_log) as connection:
         connection.execute("PRAGMA journal_mode = DELETE")
     connection.close()
-    size = (currency / "log.sqlite").stat().st_size
-    with (currency / "log.sqlite").open("r+b") as file:
+    size = example_log.stat().st_size
+    with example_log.open("r+b") as file:
         file.truncate(size // 2 // 4096 * 4096)
-    said = fails_to_start(currency / "log.sqlite")
+    said = fails_to_start(example_log)
     assert "damaged" in said or "malformed" in said
     assert "whole" in said
 
@@ -94,9 +94,9 @@ def test_a_text_file_is_no_log(tmp_path: Path) -> None:
     assert "cannot be used as a log" in fails_to_start(tmp_path / "log")
 
 
-def test_a_second_writer_is_refused(serve: Callable[..., Server], currency: Path) -> None:
-    with serve():
-        assert "is in use by another process" in fails_to_start(currency / "log.sqlite")
+def test_a_second_writer_is_refused(example_log: Path) -> None:
+    with Server(example_log):
+        assert "is in use by another process" in fails_to_start(example_log)
 
 
 def test_a_program_that_ends_is_started_again(forging: Server, people: dict[str, Wallet]) -> None:
