@@ -11,6 +11,8 @@ from typing import Any
 import pytest
 from support import PROGRAM, TOOL, Server
 
+from service.demo import new_wallet
+
 SILKAJ = shutil.which("silkaj", path="/usr/bin")
 needs_silkaj = pytest.mark.skipif(SILKAJ is None, reason="silkaj is not installed")
 Run = Callable[..., str]
@@ -96,3 +98,26 @@ def test_what_the_demonstration_leaves_is_what_is_served(forging: Server, demo: 
     assert members == {"alice", "bob", "dora"}
     assert json.loads(forging.get("/node/money").body)["conserved"] is True
     assert len(forging.get("/node/branches").json["stored"]) == 2
+
+
+@needs_silkaj
+def test_silkaj_brings_a_newcomer_in_and_revokes(silkaj: Run, forging: Server, currency: Path, tmp_path: Path) -> None:
+    eve = new_wallet("eve", "demo")
+    key_file = tmp_path / "eve.key"
+    key_file.write_text(eve.issuer.seed.hex())
+    # silkaj 0.11 has no command that publishes an identity
+    assert forging.post("/wot/add", identity=eve.identity(forging.get("/node/head").json["stamp"])).status == 200
+    assert "Membership successfully sent" in silkaj("wot", "membership", by=key_file, answers="y\n")
+    for friend in ("alice", "bob"):
+        assert "Certification successfully sent" in silkaj("wot", "certify", eve.key, by=currency / f"{friend}.key", answers="y\n")
+    forging.forge()
+    said = silkaj("wot", "status", "eve")
+    assert "member: True" in said and "received 2 and sent 0/" in said and said.count(" ✔") == 2
+    assert "Certification successfully sent" in silkaj("wot", "certify", "dora", by=key_file, answers="y\n")
+    assert "stored into" in silkaj("wot", "revocation", "create", by=key_file, answers="y\n")
+    assert "document is valid" in silkaj("wot", "revocation", "verify")
+    assert "successfully sent" in silkaj("wot", "revocation", "publish", answers="y\n")
+    forging.forge()
+    forging.forge()
+    said = silkaj("wot", "status", "eve")
+    assert "member: False" in said and "revoked: True" in said
