@@ -44,7 +44,9 @@ _CURRENCY_LINE = 2
 
 
 async def submit_document(turn: Turn, kind: str, raw: bytes) -> Pending:
-    """Puts a document into the pool. Raises a refusal, and then nothing has changed."""
+    """Puts a document into the pool. Raises a refusal, and then no document has come or gone; Lacking where the program has no pool."""
+    if turn.lacks("PEND"):
+        raise Lacking("PEND")
     claims = _claims(kind, raw)
     pending = read_pending(raw.decode("ascii"))
     head = await head_of(turn)

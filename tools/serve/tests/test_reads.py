@@ -204,7 +204,8 @@ def test_what_the_program_lacks_is_said(tmp_path: Path) -> None:
         assert server.post("/blockchain/block", block=_texts()[0]).status == 200
         identity = "Version: 10\nType: Identity\nCurrency: test_currency\n"
         assert server.get("/node/failures").status == 501
-        assert server.post("/wot/add", identity=identity).status == 400
+        answer = server.post("/wot/add", identity=identity)
+        assert answer.status == 501 and "has no command PEND yet" in answer.json["message"]
         assert server.get("/blockchain/current").json["number"] == 0
         assert server.get(f"/node/accounts/{NOBODY}").json["moves"] == []
 
