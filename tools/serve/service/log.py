@@ -44,6 +44,8 @@ class Log:
     def __init__(self, path: Path) -> None:
         """Opens the file, which is made where there is none. Raises LogRefused."""
         self.path = path
+        if not path.parent.is_dir():
+            raise LogRefused(f"{path} cannot be made, since there is no folder {path.parent}")
         try:
             self.connection = sqlite3.connect(path, isolation_level=None, timeout=0.5)
             self._prepare()

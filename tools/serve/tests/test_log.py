@@ -92,6 +92,7 @@ def test_a_damaged_file_is_refused_with_what_is_whole(example_log: Path) -> None
 def test_a_text_file_is_no_log(tmp_path: Path) -> None:
     (tmp_path / "log").write_text("this is no database" * 100)
     assert "cannot be used as a log" in fails_to_start(tmp_path / "log")
+    assert "there is no folder" in fails_to_start(tmp_path / "nowhere" / "log")
 
 
 def test_a_second_writer_is_refused(example_log: Path) -> None:
