@@ -159,14 +159,23 @@ class Forger:
         """Forges one block. Gives its stamp. Begins anew where the head changes meanwhile. Raises a refusal."""
         async with self._forging:
             while True:
-                wanted = await self._ledger.turn(lambda turn: draft(turn, self._issuer.key))
-                raw = await self._mine_while_head_stays(wanted)
-                if raw is not None:
-                    block = raw
-                    return await self._ledger.turn(lambda turn: submit_own(turn, block, self._issuer.key))
+                wanted, head = await self._ledger.turn(self._draft)
+                raw = await self._mine_while_head_stays(wanted, head)
+                stamp = None if raw is None else await self._submit(raw, head)
+                if stamp is not None:
+                    return stamp
 
-    async def _mine_while_head_stays(self, wanted: Draft) -> bytes | None:
-        head = self._ledger.index.head_stamp()
+    async def _draft(self, turn: Turn) -> tuple[Draft, str]:
+        return await draft(turn, self._issuer.key), turn.index.head_stamp()
+
+    async def _submit(self, raw: bytes, head: str) -> str | None:
+        """Gives the block to the chain, where it still stands on the last block."""
+        async def work(turn: Turn) -> str | None:
+            return await submit_own(turn, raw, self._issuer.key) if turn.index.head_stamp() == head else None
+
+        return await self._ledger.turn(work)
+
+    async def _mine_while_head_stays(self, wanted: Draft, head: str) -> bytes | None:
         mining = asyncio.ensure_future(self._miner.find(wanted))
         try:
             while self._ledger.index.head_stamp() == head:
@@ -175,7 +184,7 @@ class Forger:
                 await asyncio.wait({mining, changed}, return_when=asyncio.FIRST_COMPLETED)
                 changed.cancel()
                 if mining.done():
-                    return mining.result() if self._ledger.index.head_stamp() == head else None
+                    return mining.result()
             return None
         finally:
             mining.cancel()

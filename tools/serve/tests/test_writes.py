@@ -97,6 +97,26 @@ def test_payments_wait_for_one_another(forging: Server, people: dict[str, Wallet
     assert forging.get("/node/pool").json["documents"] == []
 
 
+def test_an_account_of_a_condition(forging: Server, people: dict[str, Wallet]) -> None:
+    alice, bob = people["alice"], people["bob"]
+    source, units = _source(forging, alice)
+    condition = f"(SIG({alice.key}) && CSV(3600)) || SIG({bob.key})"
+    payment = alice.payment([source], [f"{units}:0:{condition}"], _head(forging))
+    assert forging.post("/tx/process", transaction=payment).status == 200
+    forging.forge()
+    account = forging.get(f"/node/accounts/{quote(condition)}").json
+    assert (account["condition"], account["balance"]) == (condition, units)
+    assert [(each["kind"], each["units"], each["balance"]) for each in account["moves"]] == [("MADE", units, units)]
+    # both keys have it in their history; a wallet's balance is of what the key alone opens
+    made = account["sources"][0]["source"].split(":")[3]
+    for person in (alice, bob):
+        assert made in [each["hash"] for each in forging.get(f"/tx/history/{person.key}").json["history"]["received"]]
+        assert made not in [each["identifier"] for each in forging.get(f"/tx/sources/{person.key}").json["sources"]]
+    # a part of it is another condition
+    assert forging.get(f"/node/accounts/{quote(f'(SIG({alice.key}) && CSV(3600))')}").json["balance"] == 0
+    assert forging.get(f"/node/accounts/{quote(condition + ' && ')}").ucode == 1002
+
+
 def test_each_refusal_has_its_code_and_changes_nothing(forging: Server, people: dict[str, Wallet]) -> None:
     alice, bob, carol = people["alice"], people["bob"], people["carol"]
     stamp = _head(forging)
