@@ -238,6 +238,8 @@ class Ledger:
     async def _replay_batch(self, batch: list[tuple[Command, str, int]], rebuild: bool) -> None:
         answers = await self._program.again([(command, answer.count("\n") + 1) for command, answer, _ in batch])
         for (command, logged, number), lines in zip(batch, answers):
+            if lines == ["NOMEM"]:
+                raise LogRefused(f"{self.log.path}: the program has no memory for entry {number} of {self.log.number}")
             if "\n".join(lines) != logged:
                 raise LogRefused(
                     f"{self.log.path} is the log of another version of the program: {command.line[:60]!r}, entry {number}, was answered "

@@ -162,6 +162,9 @@ def test_an_empty_chain(tmp_path: Path) -> None:
         assert server.get("/blockchain/current").ucode == 2010
         assert server.get("/blockchain/parameters").ucode == 2010
         assert server.get("/node/money").json["issued"] == 0
+        first = server.ask("POST", "/node/why", _texts()[0].encode()).json
+        assert (first["accepted"], first["rule"], first["false_signatures_in_lines"]) == (True, None, [])
+        assert server.get("/node/head").ucode == 2010
 
 
 def test_pages_of_the_node(example: Server) -> None:

@@ -3,13 +3,19 @@ import asyncio
 import json
 import threading
 from collections.abc import Callable
+from dataclasses import replace
 from pathlib import Path
 from typing import Any
 
 import aiohttp
-from support import Server, until
+import pytest
+from support import PROGRAM, Server, until
 
+from service import forging
+from service.forging import Draft, Forger, draft, submit_own
+from service.ledger import Ledger, Turn
 from service.miner import search, threshold
+from service.wallet import Wallet
 
 
 async def _events(server: Server, count: int, act: Callable[[], Any]) -> list[tuple[str, dict[str, Any]]]:
@@ -71,3 +77,32 @@ def test_who_is_no_member_forges_nothing(serve: Callable[..., Server], currency:
     with serve("--key", str(currency / "carol.key"), "--forge-on-request") as server:
         answer = server.post("/node/forge")
         assert (answer.status, answer.ucode, answer.json["rule"]) == (400, 2009, "G101")
+
+
+def test_forging_begins_anew_when_the_head_changes(currency: Path, people: dict[str, Wallet], monkeypatch: pytest.MonkeyPatch) -> None:
+    async def story() -> None:
+        ledger = await Ledger.open(PROGRAM, currency / "log.sqlite")
+        forger, length = Forger(ledger, people["alice"].issuer, None, True), ledger.index.length()
+        drafts: list[Draft] = []
+
+        async def hard_at_first(turn: Turn, key: str, clock: int | None = None) -> Draft:
+            drafts.append(await draft(turn, key, clock))
+            # no nonce ever meets the first
+            return replace(drafts[0], difficulty=900) if len(drafts) == 1 else drafts[-1]
+
+        monkeypatch.setattr(forging, "draft", hard_at_first)
+        mining = asyncio.ensure_future(forger.forge())
+        while not drafts:
+            await asyncio.sleep(0.05)
+        # meanwhile another member's block comes, and the program answers
+        bob = people["bob"].issuer
+        wanted = await ledger.turn(lambda turn: draft(turn, bob.key))
+        raw = wanted.signed(*search(wanted.inner, wanted.difficulty, bob.seed))
+        await ledger.turn(lambda turn: submit_own(turn, raw, bob.key))
+        assert ledger.index.length() == length + 1
+        stamp = await asyncio.wait_for(mining, 60)
+        assert stamp.startswith(f"{length + 1}-") and ledger.index.head_stamp() == stamp and len(drafts) == 2
+        await forger.stop()
+        await ledger.close()
+
+    asyncio.run(story())
