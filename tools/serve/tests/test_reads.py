@@ -14,7 +14,9 @@ import pytest
 from duniterpy.api.bma import blockchain, node, tx, ud, wot
 from support import PROGRAM, TOOL, Server
 
+from service.demo import new_wallet
 from service.index import Index
+from service.wallet import Wallet
 
 EXAMPLE = TOOL.parent / "verdicts" / "example"
 NOBODY = "5cnvo5bmR8QbtyNVnkDXWq6n5My6oNLd1o6auJApGCsv"
@@ -77,8 +79,25 @@ def test_schemas_of_the_example(example: Server) -> None:
     _check_schemas(example)
 
 
-def test_schemas_of_the_demonstration(forging: Server) -> None:
+def test_schemas_of_the_demonstration(forging: Server, people: dict[str, Wallet]) -> None:
+    # with documents of each kind that wait
+    alice, bob, eve, stamp = people["alice"], people["bob"], new_wallet("eve", "demo"), forging.get("/node/head").json["stamp"]
+    of_alice = forging.get("/wot/identity-of/alice").json["sigDate"]
+    source = forging.get(f"/node/accounts/{alice.key}").json["sources"][0]
+    payment = alice.payment([source["source"]], [f"{source['units']}:0:SIG({bob.key})"], stamp)
+    posted = [
+        forging.post("/wot/add", identity=eve.identity(stamp)), forging.post("/blockchain/membership", membership=eve.membership(stamp, stamp)),
+        forging.post("/wot/certify", cert=alice.certification(eve, stamp, stamp)), forging.post("/tx/process", transaction=payment),
+        forging.post("/wot/revoke", revocation=alice.revocation(of_alice)),
+    ]
+    assert [each.status for each in posted] == [200] * 5
     _check_schemas(forging)
+    for path, schema in (("/wot/lookup/eve", wot.LOOKUP_SCHEMA), ("/wot/requirements-of-pending/1", wot.REQUIREMENTS_SCHEMA)):
+        jsonschema.validate(forging.get(path).json, schema)
+    required = forging.get("/wot/requirements/eve").json["identities"][0]
+    assert [each["from"] for each in required["pendingCerts"]] == [alice.key] and len(required["pendingMemberships"]) == 1
+    assert 0 < required["membershipPendingExpiresIn"] <= 604_800 and not required["outdistanced"] and not required["wasMember"]
+    assert len(forging.get(f"/tx/history/{bob.key}/pending").json["history"]["pending"]) == 1
 
 
 def _texts() -> list[str]:

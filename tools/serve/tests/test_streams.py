@@ -8,7 +8,9 @@ from pathlib import Path
 from typing import Any
 
 import aiohttp
+import jsonschema
 import pytest
+from duniterpy.api.bma.ws import WS_BLOCK_SCHEMA
 from support import PROGRAM, Server, until
 
 from service import forging
@@ -48,7 +50,9 @@ async def _sockets(server: Server) -> list[int]:
     numbers = []
     loop = asyncio.get_running_loop()
     async with aiohttp.ClientSession() as session, session.ws_connect(f"http://127.0.0.1:{server.port}/ws/block") as connection:
-        numbers.append((await connection.receive_json())["number"])
+        block = await connection.receive_json()
+        jsonschema.validate(block, WS_BLOCK_SCHEMA)
+        numbers.append(block["number"])
         await loop.run_in_executor(None, server.forge)
         numbers.append((await connection.receive_json())["number"])
     return numbers
