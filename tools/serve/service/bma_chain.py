@@ -1,4 +1,5 @@
 """BMA's pages on the chain: `blockchain/*` and `node/*`."""
+import asyncio
 from typing import Any
 
 from . import commands, people
@@ -10,6 +11,7 @@ from .refusals import BLOCK_NOT_FOUND, NO_CURRENT_BLOCK, NO_MEMBER_MATCHING, UNH
 
 MOST_BLOCKS = 5000
 POOL_SIZE = 1024
+_PIECE = 100
 _WITH = {
     "newcomers": "Identities", "certs": "Certifications", "joiners": "Joiners", "actives": "Actives", "leavers": "Leavers",
     "excluded": "Excluded", "revoked": "Revoked", "ud": "ud", "tx": "Transactions",
@@ -38,7 +40,13 @@ async def blocks(turn: Turn, count: str, start: str) -> list[dict[str, Any]]:
     wanted = checked_number(count)
     if wanted > MOST_BLOCKS:
         raise Refusal(UNHANDLED, f"At most {MOST_BLOCKS} blocks are given at once")
-    return [_shown(*found) for found in turn.index.blocks(max(0, first), max(0, wanted + min(0, first)))]
+    start_at, left, shown = max(0, first), max(0, wanted + min(0, first)), list[dict[str, Any]]()
+    while piece := turn.index.blocks(start_at, min(left, _PIECE)):
+        shown += [_shown(*found) for found in piece]
+        start_at, left = start_at + len(piece), left - len(piece)
+        # pages that are at hand are given meanwhile
+        await asyncio.sleep(0)
+    return shown
 
 
 def _shown(found: BlockText, mass: int) -> dict[str, Any]:
