@@ -1,0 +1,1 @@
+"""A service around one `dubp_node run`: it keeps the log of what changed the state, and answers wallets over HTTP."""

@@ -1,0 +1,117 @@
+"""The command line of the service."""
+import argparse
+import asyncio
+import contextlib
+import signal
+import sys
+from pathlib import Path
+
+from . import commands
+from .forging import Forger, Issuer, NoKey
+from .ledger import Ledger, Unavailable
+from .log import LogRefused
+from .program import ProgramEnded
+from .web import Service, start
+
+REPOSITORY = Path(__file__).resolve().parents[3]
+PROGRAM = REPOSITORY / "crates" / "dubp_node" / "out" / "dubp_node"
+LOG = Path("out/demo/log.sqlite")
+PORT = 10901
+WRONG_WORDS, FAILED = 2, 1
+
+_NEEDED = {
+    "OFFER": "blocks of branches are not stored",
+    "PEND": "documents of wallets are not taken (their paths are answered 501)",
+    "FORGE": "no block is forged, and whether a document fits is not tried",
+    "STATEMENT": "the moves of an account come from the service's own index",
+    "AUTO": "no branch is chosen by itself",
+    "FAILED": "failures of the automatic choice are not told (501)",
+}
+_EPILOG = """\
+exit status:
+  0  it was ended by SIGTERM or SIGINT
+  1  the log or the program cannot be used; standard error has the sentence
+  2  wrong words, or a package is missing
+"""
+
+
+def words(given: list[str] | None = None) -> argparse.Namespace:
+    """The words of the command line."""
+    parser = argparse.ArgumentParser(prog="serve", description=__doc__, epilog=_EPILOG, formatter_class=argparse.RawDescriptionHelpFormatter)
+    parser.add_argument("--program", type=Path, default=PROGRAM, help="the built dubp_node (default: that of this repository)")
+    parser.add_argument("--log", type=Path, default=LOG, help=f"the SQLite file with the log; it is made where there is none (default: {LOG})")
+    parser.add_argument("--host", default="127.0.0.1", help="where to listen (default: 127.0.0.1)")
+    parser.add_argument("--port", type=int, default=PORT, help=f"the port; 0 is a free one (default: {PORT})")
+    parser.add_argument("--currency", help="the currency that the log has to be of")
+    parser.add_argument("--key", type=Path, help="a file with a member's seed in 64 hexadecimal digits: blocks are forged by it")
+    parser.add_argument("--pace", type=float, help="seconds between the time of the last block and the next forged one (default: avgGenTime)")
+    parser.add_argument("--forge-on-request", action="store_true", help="forge at a POST to /node/forge, and not by itself")
+    parser.add_argument("--auto", choices=("on", "off"), help="turn the program's automatic choice of a branch on or off")
+    parser.add_argument("--rebuild", action="store_true", help="make the service's own index anew from the log")
+    return parser.parse_args(given)
+
+
+async def run(given: argparse.Namespace) -> int:
+    """Serves until a signal comes. Gives the exit status."""
+    try:
+        issuer = None if given.key is None else Issuer.from_file(given.key)
+        ledger = await Ledger.open(given.program, given.log, currency=given.currency, rebuild=given.rebuild)
+    except (NoKey, LogRefused, ProgramEnded) as error:
+        _say(str(error))
+        return FAILED
+    try:
+        return await _serve(given, ledger, issuer)
+    finally:
+        await ledger.close()
+
+
+async def _serve(given: argparse.Namespace, ledger: Ledger, issuer: Issuer | None) -> int:
+    for command, sentence in _NEEDED.items():
+        if ledger.lacks(command):
+            _say(f"this program has no {command}: {sentence}")
+    if issuer is not None and ledger.lacks("FORGE"):
+        _say("no block can be forged by --key, since this program has no FORGE")
+        return FAILED
+    if given.auto and not ledger.lacks("AUTO"):
+        await ledger.turn(lambda turn: turn.change(commands.auto(given.auto.upper())))
+    forger = None if issuer is None else Forger(ledger, issuer, given.pace, given.forge_on_request)
+    service = Service(ledger, given.program, forger, forge_on_request=given.forge_on_request)
+    try:
+        runner, port = await start(service, given.host, given.port)
+    except OSError as error:
+        _say(f"{given.host}:{given.port} cannot be listened at: {error.strerror}")
+        return FAILED
+    _say(f"at http://{given.host}:{port}, head {ledger.index.head_stamp()}")
+    forging = None if forger is None else asyncio.ensure_future(forger.run())
+    try:
+        return await _until_ended(ledger)
+    finally:
+        if forging is not None:
+            forging.cancel()
+            with contextlib.suppress(asyncio.CancelledError, Unavailable):
+                await forging
+        if forger is not None:
+            await forger.stop()
+        await runner.cleanup()
+
+
+async def _until_ended(ledger: Ledger) -> int:
+    ended = asyncio.Event()
+    loop = asyncio.get_running_loop()
+    for name in (signal.SIGTERM, signal.SIGINT):
+        loop.add_signal_handler(name, ended.set)
+    ledger.failure.add_done_callback(lambda _: ended.set())
+    await ended.wait()
+    if ledger.failure.done():
+        _say(ledger.failure.result())
+        return FAILED
+    return 0
+
+
+def _say(sentence: str) -> None:
+    print(f"serve: {sentence}", file=sys.stderr, flush=True)
+
+
+def main() -> int:
+    """Runs the service. Gives the exit status."""
+    return asyncio.run(run(words()))

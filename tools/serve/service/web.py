@@ -1,0 +1,306 @@
+"""The HTTP side: one application over a ledger."""
+import asyncio
+import contextlib
+import html
+import json
+import traceback
+from collections.abc import Awaitable, Callable
+from pathlib import Path
+from typing import Any
+from urllib.parse import parse_qs
+
+from aiohttp import web
+
+from . import bma_chain, node_pages
+from .commands import BadWord
+from .forging import Forger
+from .ledger import Lacking, Ledger, Turn, Unavailable
+from .program import ProgramEnded
+from .refusals import BLOCK_REQUIRED, LIMITATION, UNHANDLED, UNKNOWN, WRONG_DOCUMENT, Refusal
+from .routes import POSTS, READS, Post, Read, openapi
+from .writes import submit_block, submit_document
+
+LONGEST_BODY = 3_000_000
+"""Bytes of a body; a longer one is refused with status 413."""
+
+SECONDS_FOR_BODY = 30.0
+MOST_STREAMS = 64
+"""Event streams and websockets at once, of each kind."""
+
+_MOST_KEPT = 20_000
+_MOST_KEPT_BYTES = 64_000_000
+_SECONDS_BETWEEN_PINGS = 15.0
+_SECONDS_TO_RETRY = "2"
+_HEADERS = {"Access-Control-Allow-Origin": "*", "X-Content-Type-Options": "nosniff"}
+_TYPE = "application/json"
+Handler = Callable[[web.Request], Awaitable[web.StreamResponse]]
+
+
+class _Kept:
+    """Bodies of pages as they are for the state that there is; a new state drops them."""
+
+    def __init__(self) -> None:
+        self._bodies: dict[str, bytes] = {}
+        self._bytes = 0
+
+    def drop(self) -> None:
+        """Drops all."""
+        self._bodies, self._bytes = {}, 0
+
+    def get(self, path: str) -> bytes | None:
+        """The body of a page, where it is kept."""
+        return self._bodies.get(path)
+
+    def put(self, path: str, body: bytes) -> None:
+        """Keeps the body of a page."""
+        if len(self._bodies) >= _MOST_KEPT or self._bytes + len(body) > _MOST_KEPT_BYTES:
+            self.drop()
+        self._bodies[path] = body
+        self._bytes += len(body)
+
+
+class Service:
+    """A ledger behind HTTP."""
+
+    def __init__(self, ledger: Ledger, program: Path, forger: Forger | None = None, *, forge_on_request: bool = False) -> None:
+        self._ledger, self._program, self._forger = ledger, program, forger
+        self._forge_on_request = forge_on_request
+        self._kept, self._streams = _Kept(), dict[str, int]()
+        self._waiters: set[asyncio.Event] = set()
+        self._why = asyncio.Lock()
+        ledger.listen(self._tell)
+
+    def application(self) -> web.Application:
+        """The application with all paths."""
+        application = web.Application(middlewares=[self._answer_refusals], client_max_size=LONGEST_BODY)
+        router = application.router
+        for read in READS:
+            router.add_get(read.path, self._reader(read))
+        for post in POSTS:
+            router.add_post(post.path, self._poster(post))
+        router.add_post("/blockchain/block", self._post_block)
+        router.add_post("/node/why", self._post_why)
+        router.add_post("/node/forge", self._post_forge)
+        router.add_get("/node/events", self._events)
+        router.add_get("/ws/block", self._websocket)
+        router.add_get("/node/openapi.json", self._openapi)
+        router.add_get("/node", self._page)
+        return application
+
+    def _tell(self) -> None:
+        self._kept.drop()
+        for waiter in self._waiters:
+            waiter.set()
+
+    # pages
+
+    def _reader(self, read: Read) -> Handler:
+        async def handle(request: web.Request) -> web.StreamResponse:
+            path = request.path
+            body = self._kept.get(path)
+            if body is None:
+                words = [request.match_info[word] for word in read.words]
+                body = await self._ledger.turn(lambda turn: self._make(turn, read, path, words))
+            return web.Response(body=body, content_type=_TYPE, headers=_HEADERS)
+
+        return handle
+
+    async def _make(self, turn: Turn, read: Read, path: str, words: list[str]) -> bytes:
+        body = json.dumps(await read.page(turn, *words)).encode()
+        self._kept.put(path, body)
+        return body
+
+    async def _openapi(self, _: web.Request) -> web.Response:
+        return _json(openapi())
+
+    async def _page(self, _: web.Request) -> web.Response:
+        rows = [
+            f"<tr><td>{method.upper()}</td><td><code>{html.escape(path)}</code></td><td>{html.escape(what['summary'])}</td></tr>"
+            for path, methods in openapi()["paths"].items()
+            for method, what in methods.items()
+        ]
+        text = (
+            "<!doctype html><html lang=\"en\"><meta charset=\"utf-8\"><title>dubp_node</title><h1>dubp_node</h1>"
+            "<p>The paths of this node, as <a href=\"/node/openapi.json\">OpenAPI</a> too.</p>"
+            f"<table><tr><th>Method</th><th>Path</th><th>What it gives</th></tr>{''.join(rows)}</table></html>"
+        )
+        return web.Response(text=text, content_type="text/html", headers={**_HEADERS, "Content-Security-Policy": "default-src 'none'"})
+
+    # what is posted
+
+    def _poster(self, post: Post) -> Handler:
+        async def handle(request: web.Request) -> web.StreamResponse:
+            raw = (await _form(request)).get(post.field, b"")
+            if not raw:
+                raise Refusal(post.missing, f"The field {post.field} is missing")
+            pending = await self._ledger.turn(lambda turn: submit_document(turn, post.kind, raw))
+            return _json({"hash": pending.hash, "type": pending.kind, "issuer": pending.issuer})
+
+        return handle
+
+    async def _post_block(self, request: web.Request) -> web.StreamResponse:
+        form = await _form(request)
+        raw, signature = form.get("block", b""), form.get("signature", b"")
+        if not raw:
+            raise Refusal(BLOCK_REQUIRED, "The field block is missing")
+        if signature and not raw.endswith(signature + b"\n"):
+            raw += signature + b"\n"
+        answer = await self._ledger.turn(lambda turn: submit_block(turn, raw))
+        return _json({"answer": answer.split("\n")})
+
+    async def _post_why(self, request: web.Request) -> web.StreamResponse:
+        raw = await _body(request)
+        if self._why.locked():
+            raise Unavailable("another block is being looked at")
+        async with self._why:
+            return _json(await node_pages.why(self._ledger, self._program, raw))
+
+    async def _post_forge(self, _: web.Request) -> web.StreamResponse:
+        if self._forger is None or not self._forge_on_request:
+            raise Refusal(UNKNOWN, "This service forges no block on request")
+        return _json({"stamp": await self._forger.forge()})
+
+    # streams
+
+    async def _events(self, request: web.Request) -> web.StreamResponse:
+        with self._stream("events") as changed:
+            response = web.StreamResponse(headers={**_HEADERS, "Content-Type": "text/event-stream", "Cache-Control": "no-store"})
+            await response.prepare(request)
+            with contextlib.suppress(ConnectionError):
+                await self._write_events(response, changed)
+            return response
+
+    async def _write_events(self, response: web.StreamResponse, changed: asyncio.Event) -> None:
+        head, pool = "", -1
+        while True:
+            last, waiting = await self._ledger.turn(node_pages.newest)
+            if last is not None and last["stamp"] != head:
+                head = last["stamp"]
+                await response.write(_event("block", last))
+            if waiting != pool:
+                pool = waiting
+                await response.write(_event("pool", {"waiting": waiting}))
+            if not await _wait(changed, _SECONDS_BETWEEN_PINGS):
+                await response.write(b": still here\n\n")
+
+    async def _websocket(self, request: web.Request) -> web.StreamResponse:
+        with self._stream("websockets") as changed:
+            socket = web.WebSocketResponse(heartbeat=_SECONDS_BETWEEN_PINGS * 4, max_msg_size=4096)
+            await socket.prepare(request)
+            reader = asyncio.ensure_future(_read_to_end(socket))
+            head = ""
+            try:
+                while not socket.closed and not reader.done():
+                    last, _ = await self._ledger.turn(node_pages.newest)
+                    if last is not None and last["stamp"] != head:
+                        head = last["stamp"]
+                        await socket.send_json(await self._ledger.turn(bma_chain.current))
+                    waiter = asyncio.ensure_future(_wait(changed, _SECONDS_BETWEEN_PINGS))
+                    await asyncio.wait({reader, waiter}, return_when=asyncio.FIRST_COMPLETED)
+                    waiter.cancel()
+            finally:
+                reader.cancel()
+            return socket
+
+    def _stream(self, kind: str) -> "_Stream":
+        if self._streams.get(kind, 0) >= MOST_STREAMS:
+            raise Unavailable("too many streams are open")
+        return _Stream(kind, self._streams, self._waiters)
+
+    # refusals
+
+    @web.middleware
+    async def _answer_refusals(self, request: web.Request, handler: Handler) -> web.StreamResponse:
+        try:
+            return await handler(request)
+        except Refusal as refusal:
+            return _refused(refusal)
+        except BadWord as error:
+            return _refused(Refusal(UNHANDLED, str(error)))
+        except Lacking as error:
+            return _refused(Refusal(UNHANDLED, f"The program that runs here has no command {error} yet", 501))
+        except (Unavailable, ProgramEnded) as error:
+            return _refused(Refusal(LIMITATION, str(error)))
+        except asyncio.TimeoutError:
+            return _refused(Refusal(UNHANDLED, "The body did not come in time", 408))
+        except web.HTTPNotFound:
+            return _refused(Refusal(UNKNOWN, "There is no such path"))
+        except web.HTTPException as error:
+            return _refused(Refusal(UNHANDLED, f"{error.reason}", error.status))
+        except ConnectionError:
+            raise
+        except Exception:
+            traceback.print_exc()
+            return _refused(Refusal(UNKNOWN, "The service failed at this; its log has more", 500))
+
+
+class _Stream:
+    """One open stream, counted, with an event that tells of changes."""
+
+    def __init__(self, kind: str, counts: dict[str, int], waiters: set[asyncio.Event]) -> None:
+        self._kind, self._counts, self._waiters, self._event = kind, counts, waiters, asyncio.Event()
+
+    def __enter__(self) -> asyncio.Event:
+        self._counts[self._kind] = self._counts.get(self._kind, 0) + 1
+        self._waiters.add(self._event)
+        return self._event
+
+    def __exit__(self, *_: object) -> None:
+        self._counts[self._kind] -= 1
+        self._waiters.discard(self._event)
+
+
+async def _wait(changed: asyncio.Event, seconds: float) -> bool:
+    try:
+        await asyncio.wait_for(changed.wait(), seconds)
+    except asyncio.TimeoutError:
+        return False
+    changed.clear()
+    return True
+
+
+async def _read_to_end(socket: web.WebSocketResponse) -> None:
+    async for _ in socket:
+        pass
+
+
+def _event(name: str, value: dict[str, Any]) -> bytes:
+    return f"event: {name}\ndata: {json.dumps(value)}\n\n".encode()
+
+
+def _json(value: object) -> web.Response:
+    return web.Response(body=json.dumps(value).encode(), content_type=_TYPE, headers=_HEADERS)
+
+
+def _refused(refusal: Refusal) -> web.Response:
+    headers = {**_HEADERS, "Retry-After": _SECONDS_TO_RETRY} if refusal.status == 503 else _HEADERS
+    body = json.dumps({"ucode": refusal.ucode, "message": refusal.message, **({"rule": refusal.rule} if refusal.rule else {})})
+    return web.Response(body=body.encode(), status=refusal.status, reason=refusal.reason(), content_type=_TYPE, headers=headers)
+
+
+async def _body(request: web.Request) -> bytes:
+    if request.content_length is None:
+        raise Refusal(UNHANDLED, "The length of the body is not told", 411)
+    if request.content_length > LONGEST_BODY:
+        raise Refusal(UNHANDLED, f"A body has at most {LONGEST_BODY} bytes", 413)
+    return await asyncio.wait_for(request.read(), SECONDS_FOR_BODY)
+
+
+async def _form(request: web.Request) -> dict[str, bytes]:
+    """The fields of a form, each as bytes; a field that stands twice counts as its first. Raises a refusal where a field has bytes beyond ASCII."""
+    raw = await _body(request)
+    try:
+        fields = parse_qs(raw.decode("ascii"), keep_blank_values=True, strict_parsing=bool(raw), encoding="latin-1", max_num_fields=16)
+        return {name: values[0].encode("ascii") for name, values in fields.items()}
+    except ValueError as error:
+        raise Refusal(WRONG_DOCUMENT, "The body is no form of printable texts") from error
+
+
+async def start(service: Service, host: str, port: int) -> tuple[web.AppRunner, int]:
+    """Listens. Gives what is to be cleaned up, and the port (a free one where it was 0)."""
+    runner = web.AppRunner(service.application(), access_log=None, keepalive_timeout=75.0)
+    await runner.setup()
+    site = web.TCPSite(runner, host, port, shutdown_timeout=2.0, backlog=1024)
+    await site.start()
+    assert runner.addresses
+    return runner, int(runner.addresses[0][1])
