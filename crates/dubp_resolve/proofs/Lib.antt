@@ -7,3 +7,4 @@ pub mod Resolving
 pub mod Apart
 pub mod Candidates
 pub mod Last
+mod Examples
