@@ -1,5 +1,4 @@
-//! Tests of a moving table and of two that move as one, of the queue of what falls due, and of the indexes at
-//! work, and nothing else.
+//! Tests of a moving table, of the queue of what falls due, and of the indexes at work, and nothing else.
 //!
 //! Each call of theirs is made once or twice, with values whose answers are known from outside. A call with a long contract stands in a
 //! small function without one, so that the tests, which are proved as code is, stay cheap.
@@ -7,8 +6,6 @@
 
 #[cfg(test)]
 mod accounts;
-#[cfg(test)]
-mod both;
 #[cfg(test)]
 mod certifications;
 #[cfg(test)]
