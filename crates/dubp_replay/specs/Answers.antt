@@ -10,6 +10,7 @@ use Rattle.dubp_chain.specs.HeadStamp.{head_stamp}
 use Rattle.dubp_chain.specs.declared.head.Head.{Head}
 use Rattle.dubp_atoms.specs.Same.{Text, same_text}
 use Rattle.dubp_cond.specs.Sources.{input_text}
+use Rattle.dubp_cond.specs.declared.source.Input.{Input}
 use Rattle.dubp_block.specs.declared.block.Block.{Block}
 use Rattle.dubp_block.specs.declared.block.IdentityLine.{IdentityLine}
 use Rattle.dubp_block.specs.declared.block.CertLine.{CertLine}
@@ -26,6 +27,10 @@ use Rattle.dubp_chain.specs.Live.{certification, made_of, end_of, received, stoc
 use Rattle.dubp_chain.specs.Distance.{IsReached, IsNear, sentry_count}
 use Rattle.dubp_chain.specs.Money.{Source, unspent_units, cleared_units, balance, sources_of}
 use Rattle.dubp_validity.specs.Records.{records_at, record_text, input_of}
+use Rattle.dubp_moves.specs.Moves.{moves_of}
+use Rattle.dubp_moves.specs.declared.moves.Kind.{Kind}
+use Rattle.dubp_moves.specs.declared.moves.Kind.TheVariants.{Made, Spent, Cleared}
+use Rattle.dubp_moves.specs.declared.moves.Move.{Move}
 
 -- a line of an answer
 abbrev pub answer_line : List ℕ → List ℕ
@@ -216,6 +221,25 @@ show_answer_of (Some b) = block_text b ++ answer_line (codes "END")
 
 abbrev pub show_answer : Chain → ℕ → List ℕ
 show_answer c number = show_answer_of (block_of_number c number)
+
+-- ---- statements
+
+abbrev pub kind_text : Kind → List ℕ
+kind_text Made = codes "MADE"
+kind_text Spent = codes "SPENT"
+kind_text Cleared = codes "CLEARED"
+
+-- the source that a move is about
+abbrev pub moved_input : Move → Input
+moved_input m = record { amount = m.amount; base = m.base; source = m.source }
+
+-- MOVE NUMBER KIND AMOUNT:BASE:SOURCE BALANCE
+abbrev pub move_line : Move → List ℕ
+move_line m = values_line (codes "MOVE") (decimal m.number ∷ kind_text m.kind ∷ input_text (moved_input m) ∷ decimal m.balance ∷ [])
+
+-- the moves of the condition of this text
+abbrev pub statement_answer : Chain → Text → List ℕ
+statement_answer c cond = ended (map move_line (moves_of c cond))
 
 -- what each query is answered
 abbrev pub IsAnswered : Chain → Query → List ℕ → Type 0

@@ -18,7 +18,7 @@ use Rattle.dubp_chain.specs.Chains.{Chain}
 use Rattle.dubp_verdict.specs.Verdicts.{Verdicts, with_verdict}
 use Rattle.dubp_validity.specs.Rules.{FirstBroken, FirstBrokenRaw, HoldsRaw, IsTextOf, longest_block}
 use Rattle.dubp_block.specs.RefusedLine.{IsRefusedLine}
-use Rattle.dubp_replay.specs.Answers.{noted_answer, accepted_answer, refused_answer, unread_answer, reverted_answer, too_deep_answer, stored_answer, known_answer, full_answer, switched_answer, unknown_answer, detached_answer, branch_refused_answer, forgotten_answer, bad_answer, no_memory_answer, IsAnswered}
+use Rattle.dubp_replay.specs.Answers.{noted_answer, accepted_answer, refused_answer, unread_answer, reverted_answer, too_deep_answer, stored_answer, known_answer, full_answer, switched_answer, unknown_answer, detached_answer, branch_refused_answer, forgotten_answer, statement_answer, bad_answer, no_memory_answer, IsAnswered}
 
 -- what all answers depend on: the verdicts, the chain of accepted and unreversed blocks, how many of them can be reversed, and
 -- the stored blocks of branches in their order
@@ -207,6 +207,7 @@ Turn old (command.Revert count) frame answer new = RevertTurn old count answer n
 Turn old (command.Offer len) frame answer new = OfferTurn old frame answer new
 Turn old (command.Switch stamp) frame answer new = SwitchTurn old stamp answer new
 Turn old (command.Forget stamp) frame answer new = ForgetTurn old stamp answer new
+Turn old (command.Statement cond) frame answer new = Only (statement_answer old.chain cond.items) old answer new
 Turn old (command.Ask q) frame answer new = IsAnswered old.chain q answer × (new ≡ old)
 
 -- the queries that take memory
@@ -226,6 +227,7 @@ TakesMemory (command.Revert count) = ⊥
 TakesMemory (command.Offer len) = len ≤ longest_block
 TakesMemory (command.Switch stamp) = ⊤
 TakesMemory (command.Forget stamp) = ⊥
+TakesMemory (command.Statement cond) = ⊤
 TakesMemory (command.Ask q) = AskingTakesMemory q
 
 -- the turn of the command, or NOMEM, which changes nothing

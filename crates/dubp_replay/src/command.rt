@@ -1,5 +1,6 @@
 use crate::query::Query;
 use dubp_atoms::{Hash, Key, Sig, Stamp};
+use dubp_cond::CondText;
 
 /// A command of the input, without the raw bytes of its frame. Protocol: commands and answers.
 #[derive(Debug, Drop)]
@@ -16,6 +17,8 @@ pub enum Command {
     Switch { stamp: Stamp },
     /// `FORGET STAMP`: a stored block leaves the store.
     Forget { stamp: Stamp },
+    /// `STATEMENT COND`: the moves of a condition, with what it has behind each.
+    Statement { cond: CondText },
     /// A query, which changes nothing.
     Ask(Query),
 }

@@ -36,6 +36,10 @@ change_of line =
 unfoldable pub cond_text_if : List ℕ → Option (ArrayVec ℕ)
 cond_text_if text = if is_some (cond_of_text text) then Some (record { items = text }) else None
 
+-- whose moves are asked for
+unfoldable pub statement_of : List ℕ → Option Command
+statement_of line = option_map command.Statement (named (codes "STATEMENT ") cond_text_if line)
+
 -- what is asked of a key or a name
 unfoldable pub keyed_of : List ℕ → Option Query
 keyed_of line =
@@ -59,4 +63,4 @@ abbrev pub query_of : List ℕ → Option Command
 query_of line = option_or (option_map command.Ask (keyed_of line)) (option_map command.Ask (other_of line))
 
 unfoldable pub command_of : List ℕ → Option Command
-command_of line = option_or (change_of line) (query_of line)
+command_of line = option_or (change_of line) (option_or (statement_of line) (query_of line))

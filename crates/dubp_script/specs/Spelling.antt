@@ -32,6 +32,7 @@ command_text (command.Revert count) = codes "REVERT " ++ decimal count
 command_text (command.Offer len) = codes "OFFER " ++ decimal len
 command_text (command.Switch stamp) = codes "SWITCH " ++ stamp_text stamp
 command_text (command.Forget stamp) = codes "FORGET " ++ stamp_text stamp
+command_text (command.Statement cond) = codes "STATEMENT " ++ cond.items
 command_text (command.Ask q) = query_text q
 
 -- the text of some condition
@@ -60,6 +61,7 @@ IsCommand (command.Revert count) = IsNumber count
 IsCommand (command.Offer len) = IsNumber len
 IsCommand (command.Switch stamp) = IsStamp stamp
 IsCommand (command.Forget stamp) = IsStamp stamp
+IsCommand (command.Statement cond) = IsCondText cond.items
 IsCommand (command.Ask q) = IsQuery q
 
 -- the line is the spelling of this command

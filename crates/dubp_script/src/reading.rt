@@ -19,7 +19,7 @@ pub fn read_command(line: &[u8]) -> Option<Command>
 }
 
 // A command has room for the longest condition, so it is made where its line has been told, and nowhere before.
-#[tactic(auto, unfolding(crate::specs::Reading::command_of, crate::specs::Reading::change_of))]
+#[tactic(auto, unfolding(crate::specs::Reading::command_of, crate::specs::Reading::change_of, crate::specs::Reading::statement_of))]
 fn command(line: &[u8]) -> Option<Command>
     ensures { result ≡ command_of line.now }
 {
@@ -40,6 +40,10 @@ fn command(line: &[u8]) -> Option<Command>
     }
     if let Some(stamp) = stamp_behind(b"FORGET ", line) {
         return Some(Command::Forget { stamp });
+    }
+    if let Some(text) = cond_behind(b"STATEMENT ", line) {
+        let cond = filled(text);
+        return Some(Command::Statement { cond });
     }
     query(line)
 }
