@@ -1,0 +1,5 @@
+pub mod Names
+pub mod Lists
+pub mod Tallies
+pub mod Folds
+pub mod Signers

@@ -1,0 +1,141 @@
+//! What is known of a condition's account, block by block.
+ghost use Rattle.std.specs.Prelude.{◌≡◌, ◌+◌, ◌||◌, ◌++◌, ◌∷◌, [], OnOk, IfOk};
+ghost use Rattle.std.specs.List.{list_any};
+ghost use Rattle.dubp_chain.specs.Heads.{units as units_of};
+ghost use Rattle.dubp_chain.specs.Money.{same_source};
+ghost use Rattle.dubp_chain.specs.OfCond.{SourceId as SourceIdValue};
+ghost use Rattle.dubp_replay.specs.OfMoves.{Account, balance_behind, no_account, with_gone};
+ghost use Rattle.dubp_account.specs.Tallies.{IsTallyOf, with_move, with_source};
+
+use dubp_atoms::NoMemory;
+use dubp_cond::{Input, SourceId};
+use dubp_replay::{Kind, Move};
+use indexmap::IndexSet;
+use std::alloc::Global;
+
+/// What is known of a condition's account so far: the names of its sources that were made, its moves, and the units behind the last.
+#[derive(Drop)]
+pub struct Tally {
+    names: IndexSet<SourceId>,
+    moves: Vec<Move>,
+    balance: u128,
+}
+
+impl Tally {
+    /// That of an account without any move. It takes no memory.
+    pub fn new(alloc: Global) -> Tally
+        ensures { IsTallyOf no_account result }
+    {
+        Tally {
+            names: IndexSet::new(alloc),
+            moves: Vec::new(alloc),
+            balance: 0,
+        }
+    }
+
+    /// The moves, in order.
+    pub fn into_moves(self) -> Vec<Move>
+        ensures { (a : Account) → IsTallyOf a self → result.items ≡ a.moves }
+    {
+        self.moves
+    }
+
+    /// A source of the condition is made in the block of this number.
+    ///
+    /// `NoMemory` where there is no room, or the units are no number of 128 bits.
+    pub(crate) fn make(&mut self, number: u64, input: &Input) -> Result<(), NoMemory>
+        ensures { OnOk result ((a : Account) → IsTallyOf a self.old → IsTallyOf (with_source number a input.now) self.new) }
+    {
+        insert(&mut self.names, input.source)?;
+        self.note(number, Kind::Made, input)
+    }
+
+    /// A source is spent or cleared in the block of this number: a move where it is one of the condition.
+    ///
+    /// `NoMemory` where there is no room, or the units are no number of 128 bits.
+    pub(crate) fn take(&mut self, number: u64, kind: Kind, input: &Input) -> Result<(), NoMemory>
+        ensures { OnOk result ((a : Account) → IsTallyOf a self.old → IsTallyOf (with_gone kind number a input.now) self.new) }
+    {
+        if !has(&self.names, &input.source) {
+            return Ok(());
+        }
+        self.note(number, kind, input)
+    }
+
+    // One move more.
+    fn note(&mut self, number: u64, kind: Kind, input: &Input) -> Result<(), NoMemory>
+        ensures { OnOk result ((a : Account) → IsTallyOf a self.old → IsTallyOf (with_move kind number a input.now) self.new) }
+    {
+        let balance = balance_after(self.balance, kind, input)?;
+        let next = Move {
+            number,
+            kind,
+            amount: input.amount,
+            base: input.base,
+            source: input.source,
+            balance,
+        };
+        push(&mut self.moves, next)?;
+        self.balance = balance;
+        Ok(())
+    }
+}
+
+// Appends the value.
+fn push<T: Drop>(list: &mut Vec<T>, value: T) -> Result<(), NoMemory>
+    ensures { OnOk result (list.new.items ≡ list.old.items ++ value ∷ []) }
+{
+    list.push(value).map_err(|_| NoMemory)
+}
+
+// One name more.
+fn insert(names: &mut IndexSet<SourceId>, source: SourceId) -> Result<(), NoMemory>
+    ensures { OnOk result ((x : SourceIdValue) → list_any (λ name. same_source name x) names.new.keys ≡ (list_any (λ name. same_source name x) names.old.keys || same_source source x)) }
+{
+    match names.insert(source) {
+        Ok(_) => Ok(()),
+        Err(_) => Err(NoMemory),
+    }
+}
+
+// Whether the source has one of the names.
+fn has(names: &IndexSet<SourceId>, source: &SourceId) -> bool
+    ensures { result ≡ list_any (λ name. same_source name source.now) names.now.keys }
+{
+    names.contains(source)
+}
+
+// The units behind a move. `NoMemory` where they are no number of 128 bits.
+fn balance_after(balance: u128, kind: Kind, input: &Input) -> Result<u128, NoMemory>
+    ensures { IfOk result (λ behind. behind ≡ balance_behind balance kind input.now) }
+{
+    let units = units(input.amount, input.base)?;
+    match kind {
+        Kind::Made => sum_of(balance, units),
+        Kind::Spent => Ok(balance.saturating_sub(units)),
+        Kind::Cleared => Ok(balance.saturating_sub(units)),
+    }
+}
+
+// The sum. `NoMemory` where it is no number of 128 bits.
+fn sum_of(a: u128, b: u128) -> Result<u128, NoMemory>
+    ensures { IfOk result (λ n. n ≡ a + b) }
+{
+    match a.checked_add(b) {
+        Some(sum) => Ok(sum),
+        None => Err(NoMemory),
+    }
+}
+
+// The units of an amount. `NoMemory` where they are no number of 128 bits.
+fn units(amount: u64, base: u8) -> Result<u128, NoMemory>
+    ensures { IfOk result (λ n. n ≡ units_of amount base) }
+{
+    let Some(power) = 10u128.checked_pow(base as u32) else {
+        return Err(NoMemory);
+    };
+    match (amount as u128).checked_mul(power) {
+        Some(units) => Ok(units),
+        None => Err(NoMemory),
+    }
+}
