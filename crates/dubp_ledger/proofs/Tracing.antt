@@ -2,6 +2,7 @@
 use Rattle.std.proofs.Common.{◌≡◌, ℕ, zero, suc, ◌+◌, ◌≤◌, ◌<◌, Bool, true, false, cond, ◌==◌, List, [], ◌∷◌, ◌++◌, length, length-append, append_assoc, drop, take, take-append-drop, Option, Some, None, refl, sym, ap, subst, ◌∙◌, arith, eq-eqb, eqb-true}
 use Rattle.std.proofs.lemmas.List.{length-reverse, reverse-append}
 use Rattle.std.specs.Prelude.{slice_get, reverse}
+use Rattle.std.specs.Option.{MatchOption}
 use Rattle.std.specs.List.{AllByRecursion}
 use Rattle.dubp_block.specs.declared.block.Block.{Block}
 use Rattle.dubp_chain.specs.declared.head.Head.{Head}
@@ -11,7 +12,9 @@ use Rattle.dubp_validity.specs.Records.{records, records_at}
 use Rattle.dubp_rows.specs.OfKept.{KeptChain, Out, IsHeldBy, IsAsHeld, IsAsBefore, with_block}
 use Rattle.dubp_rows.specs.OfKept.{left_behind}
 use Rattle.dubp_rows.specs.OfKept.{LeftBehind}
+use Rattle.dubp_block.specs.Text.{IsBlock}
 use Rattle.dubp_ledger.specs.Traces.{TracesState, AreTraces, AreHeld, IsShort, traces_of}
+use Rattle.dubp_ledger.specs.Written.{IsWrittenAt}
 
 pub length_traces : (c : Chain) → length (traces_of c) ≡ length c
 length_traces [] = refl
@@ -161,14 +164,14 @@ block_here d c b number is =
     ap (λ l. slice_get l number) (reverse-append d (b ∷ c) ∙ ap (λ l. l ++ reverse d) (reverse-append (b ∷ []) c) ∙ append_assoc (reverse c) (b ∷ []) (reverse d))
     ∙ get_at (reverse c) (reverse d) b number (length-reverse c ∙ is)
 
--- what is found of the block of a number
-pub record RowsAt (c : Chain) (number : ℕ) (b : Block) (h : Head) (l : LeftBehind) : Type 0 where
-  pub above : Chain
-  pub below : Chain
-  pub is : c ≡ above ++ b ∷ below
-  pub head : head_of (b ∷ below) ≡ Some h
-  pub left : l ≡ left_behind below b
-  pub rows : records_at c number ≡ Some (records below b)
+-- what is there for certain is there
+pub is_there : {X : Type 0} (o : Option X) (P : Type 0) (Q : X → Type 0) → MatchOption o ⊥ Q → MatchOption o P Q
+is_there None P Q none = absurd none
+is_there (Some x) P Q some = some
+
+-- the records of a block that the ledger lends
+pub rows_written : (c : Chain) (number : ℕ) (b : Block) (h : Head) (l : LeftBehind) → (w : IsWrittenAt c number b h l) → records_at c number ≡ Some (records w.below b)
+rows_written c number b h l w = ap (λ x. records_at x number) w.is ∙ at_number w.above w.below b number (sym w.number_is)
 
 module _ (c : Chain) (number count : ℕ) (stands : number + (count + 1) ≡ length c) where
   place : At c count
@@ -198,14 +201,15 @@ module _ (c : Chain) (number count : ℕ) (stands : number + (count + 1) ≡ len
   pub left_there : slice_get (traces_of c) count ≡ None → ⊥
   left_there none = let is = left_is in cc
 
-  pub rows_found : (b : Block) (h : Head) (l : LeftBehind) → block_of_number c number ≡ Some b → slice_get (heads_of c) count ≡ Some h → slice_get (traces_of c) count ≡ Some l → RowsAt c number b h l
-  rows_found b h l has_block has_head has_left =
+  pub written_found : (b : Block) (h : Head) (l : LeftBehind) → IsBlock b → block_of_number c number ≡ Some b → slice_get (heads_of c) count ≡ Some h → slice_get (traces_of c) count ≡ Some l → IsWrittenAt c number b h l
+  written_found b h l text has_block has_head has_left =
       let same : place.block ≡ b = let is = block_is in cc in
-      subst (λ x. RowsAt c number x h l) same (record {
+      subst (λ x. IsWrittenAt c number x h l) same (record {
         above = place.above;
         below = place.below;
         is = place.is;
+        number_is = below_is;
+        text = subst IsBlock (sym same) text;
         head = sym head_is ∙ has_head;
         left = let is = left_is in cc;
-        rows = ap (λ x. records_at x number) place.is ∙ at_number place.above place.below place.block number (sym below_is);
       })

@@ -1,5 +1,6 @@
 pub mod States
 pub mod Traces
+pub mod Written
 pub mod Filled
 pub mod Filling
 pub mod OfKept

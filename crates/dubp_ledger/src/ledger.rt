@@ -13,9 +13,11 @@ ghost use Rattle.dubp_rows.specs.OfKept.{all_hashes, local_rules};
 ghost use Rattle.dubp_rows.specs.OfKept.{IsAsBefore, IsAsHeld, IsHeldBy, IsKnown, MayJoin, last_steps, most_kept, most_steps, steps_of_last, steps_of_out, without_last};
 ghost use Rattle.dubp_ledger.specs.States.{Accepted, HandedBack, IsTooDeep};
 ghost use Rattle.dubp_ledger.specs.Traces.{IsShort};
+ghost use Rattle.dubp_ledger.specs.Written.{IsWrittenAt};
 
 use crate::refusal::{SubmitRefusal, TooDeep};
 use crate::traces::Traces;
+use crate::written::WrittenBlock;
 use dubp_atoms::{Key, NoMemory, Stamp, Steps};
 use dubp_block::Block;
 use dubp_chain::Head;
@@ -166,40 +168,51 @@ impl<T: PeopleAndMoney> Ledger<T> {
         self.kept.tables().money()
     }
 
+    /// The block of this number, with its head and what it left behind. None exactly where the chain has none. It takes no memory.
+    pub fn written_at(&self, number: u64) -> Option<WrittenBlock<'_>>
+        ensures { MatchOption result (length self.now.chain ≤ number) (λ w. IsWrittenAt self.now.chain number w.block.now w.head.now w.left.now) }
+    {
+        let len = self.len() as u64;
+        if number >= len {
+            return None;
+        }
+        self.written_before(number, len - 1 - number)
+    }
+
+    // The same, where so many blocks stand behind that block.
+    fn written_before(&self, number: u64, count: u64) -> Option<WrittenBlock<'_>>
+        requires { number + (count + 1) ≡ length self.now.chain }
+        ensures { MatchOption result ⊥ (λ w. IsWrittenAt self.now.chain number w.block.now w.head.now w.left.now) }
+    {
+        let Some(block) = self.block_at(number) else {
+            return None;
+        };
+        let Some(head) = self.kept.heads().before(count) else {
+            return None;
+        };
+        let Some(left) = self.traces.before(count as usize) else {
+            return None;
+        };
+        Some(WrittenBlock { block, head, left })
+    }
+
     /// The records of the block of this number, in the order of the protocol. None exactly where the chain has no such block.
     ///
     /// `NoMemory` where there is no room for them.
     pub fn rows_at(&self, number: u64) -> Result<Option<Vec<Record>>, NoMemory>
         ensures { IfOk result (λ rows. option_map (λ r. r.items) rows ≡ records_at self.now.chain number) }
     {
-        let len = self.len() as u64;
-        if number >= len {
-            return Ok(None);
-        }
-        self.rows_before(number, len - 1 - number)
-    }
-
-    // The same, where so many blocks stand behind that block.
-    fn rows_before(&self, number: u64, count: u64) -> Result<Option<Vec<Record>>, NoMemory>
-        requires { number + (count + 1) ≡ length self.now.chain }
-        ensures { IfOk result (λ rows. option_map (λ r. r.items) rows ≡ records_at self.now.chain number) }
-    {
-        let Some(block) = self.block_at(number) else {
-            return Ok(None);
-        };
-        let Some(head) = self.kept.heads().before(count) else {
-            return Ok(None);
-        };
-        let Some(left) = self.traces.before(count as usize) else {
+        self.laws();
+        let Some(written) = self.written_at(number) else {
             return Ok(None);
         };
         let mut rows = Vec::new(self.alloc);
         put_records(
             self.alloc,
-            block,
-            head,
+            written.block,
+            written.head,
             self.people().facts(),
-            left,
+            written.left,
             &mut rows,
         )?;
         Ok(Some(rows))

@@ -17,8 +17,10 @@ mod filling;
 mod ledger;
 mod refusal;
 mod traces;
+mod written;
 
 pub use dubp_people_and_money::{Money, People, PeopleAndMoney};
-pub use dubp_rows::Held;
+pub use dubp_rows::{Held, LeftBehind};
 pub use ledger::Ledger;
 pub use refusal::{SubmitRefusal, TooDeep};
+pub use written::WrittenBlock;
