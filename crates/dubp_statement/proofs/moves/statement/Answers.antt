@@ -1,0 +1,13 @@
+use Rattle.std.proofs.Common.{◌∙◌, List, ℕ, subst, sym}
+use Rattle.dubp_replay.specs.OfMoves.{IsStatement, account_of}
+use Rattle.dubp_account.specs.Tallies.{IsTallyOf}
+use Rattle.dubp_statement.proofs.moves.statement.Goals as goal
+
+pub returns : goal.returns
+returns g c =
+    let chain = c.args.ledger.now.chain in
+    let cond = c.args.cond.now.items in
+    let sound = c.laws.ensures.sound in
+    let tally = subst (λ (t : List ℕ). IsTallyOf (account_of t chain) c.in_ok-tally.tally) c.as_slice.ensures.value c.in_ok-tally.ensures in
+    subst (IsStatement chain cond) (sym (c.into_moves.ensures (account_of cond chain) tally ∙ c.accounts_have_the_moves.ensures chain cond sound))
+    (c.moves_are_statements.ensures chain cond sound)
