@@ -1,3 +1,4 @@
 pub mod SourceLines
 pub mod CertificationLines
 pub mod RecordLines
+pub mod MoveLines

@@ -11,6 +11,7 @@
 //! let text = sources_text(alloc, &money, &cond)?;
 //! let text = certs_text(alloc, &registry, key)?;
 //! let text = records_text(alloc, Some(records.as_slice()))?;
+//! let text = statement_text(alloc, moves.as_slice())?;
 //! ```
 #![tactic(auto)]
 
@@ -19,6 +20,7 @@ mod certifications;
 mod difficulties;
 mod distance;
 mod money;
+mod moves;
 mod people;
 mod records;
 mod sources;
@@ -29,6 +31,7 @@ pub use certifications::certs_text;
 pub use difficulties::diff_line;
 pub use distance::distance_line;
 pub use money::{balance_line, money_line};
+pub use moves::statement_text;
 pub use people::{identity_line, uid_line};
 pub use records::records_text;
 pub use sources::sources_text;

@@ -69,7 +69,7 @@ fn put_view(view: &SourceView, line: &mut Line)
 }
 
 /// The name of the source. `line` has 300 free places.
-fn put_source(id: &SourceId, line: &mut Line)
+pub(crate) fn put_source(id: &SourceId, line: &mut Line)
     requires { array_vec_len line.old + 300 ≤ 2048 }
     ensures text { line.new.items ≡ line.old.items ++ source_text id.now }
     ensures room { array_vec_len line.new ≤ array_vec_len line.old + 107 }
