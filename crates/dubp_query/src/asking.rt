@@ -9,8 +9,8 @@ use dubp_answers::{
     show_text, sources_text, uid_line,
 };
 use dubp_atoms::{Key, Line, NoMemory};
-use dubp_ledger::{Ledger, PeopleAndMoney};
 use dubp_replay::Query;
+use dubp_statement::{Ledger, PeopleAndMoney};
 use std::alloc::Global;
 
 /// The answer to a query. HEAD, MONEY, IDENTITY, UID and BALANCE take no memory.

@@ -8,8 +8,8 @@ ghost use Rattle.dubp_chain.specs.HeadStamp.{head_stamp};
 
 use arrayvec::ArrayVec;
 use dubp_atoms::{Line, Stamp, put_bytes, put_number, put_signed};
-use dubp_ledger::{Ledger, PeopleAndMoney};
 use dubp_replay::Head;
+use dubp_statement::{Ledger, PeopleAndMoney};
 
 /// The answer to HEAD: the values of the chain's head, or `NONE` where the chain is empty. It takes no memory.
 pub fn head_line<T: PeopleAndMoney>(ledger: &Ledger<T>) -> Line
