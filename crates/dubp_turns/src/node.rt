@@ -6,7 +6,7 @@ ghost use Rattle.dubp_validity.specs.Rules.{longest_block};
 ghost use Rattle.dubp_turns.specs.Deciding.{ShortBlockActs, ShortOfferActs, Decided, IsDecided};
 ghost use Rattle.dubp_turns.specs.Given.{IsGivenAll, block_given, verdict_given};
 ghost use Rattle.dubp_replay.specs.Turns.{start};
-ghost use Rattle.dubp_replay.specs.declared.command.Command.TheVariants.{Ask as AskCommand, Block as BlockCommand, Forget as ForgetCommand, Offer as OfferCommand, Revert as RevertCommand, Switch as SwitchCommand, Verdict as VerdictCommand};
+ghost use Rattle.dubp_replay.specs.declared.command.Command.TheVariants.{Ask as AskCommand, Block as BlockCommand, Forget as ForgetCommand, Offer as OfferCommand, Revert as RevertCommand, Statement as StatementCommand, Switch as SwitchCommand, Verdict as VerdictCommand};
 
 use crate::texts::{
     accepted, forgotten, no_memory, noted, offer_answer, refusal_answer, refused, reverted,
@@ -16,7 +16,7 @@ use dubp_atoms::{Hash, Key, NoMemory, Secret, Sig, Stamp, Steps};
 use dubp_block::laws::blocks_have_one_text;
 use dubp_block::{Block, ReadRefusal, read_block};
 use dubp_forks::{Ledger, PeopleAndMoney, Store, SubmitRefusal, TooDeep};
-use dubp_query::{Answer, Query, answer};
+use dubp_query::{Answer, CondText, Query, answer, statement_answer};
 use dubp_replay::Command;
 use dubp_verdict::Verdicts;
 use std::alloc::Global;
@@ -97,6 +97,7 @@ impl<T: PeopleAndMoney> Node<T> {
             Command::Offer { len } => self.act_offer(*len, frame),
             Command::Switch { stamp } => self.switch(*stamp, steps),
             Command::Forget { stamp } => self.forget(*stamp),
+            Command::Statement { cond } => self.statement(cond),
             Command::Ask(query) => self.ask(query),
         }
     }
@@ -115,6 +116,16 @@ impl<T: PeopleAndMoney> Node<T> {
         ensures { (frame : List ℕ) → Acts self.now (AskCommand query.now) frame (answer_bytes result) self.now }
     {
         match answer(self.alloc, &self.ledger, query) {
+            Ok(answer) => answer,
+            Err(_) => no_memory(),
+        }
+    }
+
+    // The moves of the condition are told, and nothing changes.
+    fn statement(&self, cond: &CondText) -> Answer
+        ensures { (frame : List ℕ) → Acts self.now (StatementCommand cond.now) frame (answer_bytes result) self.now }
+    {
+        match statement_answer(self.alloc, &self.ledger, cond) {
             Ok(answer) => answer,
             Err(_) => no_memory(),
         }
