@@ -11,9 +11,12 @@ use Rattle.dubp_replay.specs.declared.query.Query.TheVariants as query
 use Rattle.dubp_chain.specs.Chains.{Chain}
 use Rattle.dubp_verdict.specs.Verdicts.{Verdict, Verdicts, same_verdict, with_verdict}
 use Rattle.dubp_replay.specs.declared.command.Command.{Command}
-use Rattle.dubp_replay.specs.declared.command.Command.TheVariants.{Verdict as Note, Block, Offer, Revert, Switch, Forget, Ask}
+use Rattle.dubp_replay.specs.declared.command.Command.TheVariants.{Verdict as Note, Block, Offer, Revert, Switch, Forget, Statement, Ask}
 use Rattle.dubp_replay.specs.Turns.{State, start, IsServed, Turn, TakesMemory}
-use Rattle.dubp_trials.specs.Samples.{key0, unread, two_blocks, three_blocks}
+use Rattle.dubp_block.specs.declared.block.Block.{Block as Written}
+use Rattle.dubp_trials.specs.Samples.{key0, key3, unread, two_blocks, three_blocks, output_to, spending, spending_block}
+use Rattle.dubp_trials.proofs.Checks.{condition_of}
+use Rattle.dubp_trials.proofs.MoreSamples.{key9}
 
 -- the command is answered by this line and leads there, and in no other way
 record Gives (old : State) (command : Command) (line : List ℕ) (after : State) : Type 0 where
@@ -80,6 +83,31 @@ switches_to_unknown = record {
   only = λ answer new turn. turn.goes;
 }
 
+-- ---- STATEMENT
+
+-- the moves of the condition are told in these lines, and nothing else happens
+record Tells (c : Chain) (cond : Text) (lines : List (List ℕ)) : Type 0 where
+  is : Turn (keeping c 0) (Statement (record { items = cond })) [] (unlines lines) (keeping c 0)
+  only : (answer : List ℕ) (new : State) → Turn (keeping c 0) (Statement (record { items = cond })) [] answer new → (answer ≡ unlines lines) × (new ≡ keeping c 0)
+
+abbrev dividend_told : List ℕ
+dividend_told = codes "MOVE 2 MADE 1000:0:D:" ++ (key0 ++ codes ":2 1000")
+
+tells_a_dividend : Tells three_blocks (condition_of key0) (dividend_told ∷ codes "END" ∷ [])
+unfolding digits
+tells_a_dividend = record { is = (refl, refl); only = λ answer new turn. turn }
+
+tells_nobody : Tells three_blocks (condition_of key9) (codes "END" ∷ [])
+tells_nobody = record { is = (refl, refl); only = λ answer new turn. turn }
+
+-- key0 sends the whole dividend to key3
+abbrev sending : Written
+sending = record (spending_block 0 0) { transactions = record (spending 0 0) { outputs = output_to key3 1000 ∷ [] } ∷ [] }
+
+tells_a_payment : Tells (sending ∷ three_blocks) (condition_of key0) (dividend_told ∷ (codes "MOVE 3 SPENT 1000:0:D:" ++ (key0 ++ codes ":2 0")) ∷ codes "END" ∷ [])
+unfolding digits
+tells_a_payment = record { is = (refl, refl); only = λ answer new turn. turn }
+
 -- ---- a line that is no command
 
 what_is_no_command_is_bad : IsServed start None (codes "BAD" ++ 10 ∷ []) start
@@ -116,3 +144,6 @@ balance_in_place cond takes = takes
 
 certs_need_room : (key : Text) → TakesMemory (Ask (query.Certs key))
 certs_need_room key = tt
+
+statements_need_room : (cond : Text) → TakesMemory (Statement (record { items = cond }))
+statements_need_room cond = tt
