@@ -15,7 +15,6 @@ mod query;
 pub use command::Command;
 pub use dubp_chain::Head;
 pub use dubp_laws as laws;
-pub use dubp_moves::laws as move_laws;
-pub use dubp_moves::{Kind, Move};
+pub use dubp_moves::{Kind, Move, laws as move_laws};
 pub use dubp_validity::{Record, put_record};
 pub use query::Query;
