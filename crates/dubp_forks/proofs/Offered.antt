@@ -9,7 +9,7 @@ use Rattle.dubp_rules.specs.First.{IsFirst}
 use Rattle.dubp_rules.proofs.FirstLaws.{IsFirst_from_FirstOf, FirstOf_from_IsFirst, FirstOf_same}
 use Rattle.dubp_ledger.specs.OfLocal.{local_rules}
 use Rattle.dubp_validity.specs.Rules.{Holds, HoldsRaw, IsTextOf, longest_block}
-use Rattle.dubp_replay.specs.Turns.{State, offer_rules}
+use Rattle.dubp_replay.specs.Turns.{Branches, offer_rules}
 use Rattle.dubp_forks.specs.Offering.{Added, Checked, FirstLocal}
 use Rattle.dubp_forks.specs.Offers.{FirstOffered, Offered}
 use Rattle.dubp_forks.specs.declared.refusals.OfferRefusal.{OfferRefusal}
@@ -18,7 +18,7 @@ use Rattle.dubp_forks.specs.declared.refusals.OfferRefusal.TheVariants.{Unread, 
 local_are : offer_rules ≡ X01 ∷ P01 ∷ local_rules
 local_are = refl
 
-module _ (s : State) (bytes : List ℕ) (b : Block) (text : IsTextOf bytes b) (only : (d : Block) → IsTextOf bytes d → b ≡ d) (short : length bytes ≤ longest_block) where
+module _ (s : Branches) (bytes : List ℕ) (b : Block) (text : IsTextOf bytes b) (only : (d : Block) → IsTextOf bytes d → b ≡ d) (short : length bytes ≤ longest_block) where
   to_raw : (r : Rule) → Holds s.verdicts s.chain b r → HoldsRaw s.verdicts s.chain bytes r
   to_raw X01 h = short
   to_raw P01 h = (b, text)
@@ -47,12 +47,12 @@ module _ (s : State) (bytes : List ℕ) (b : Block) (text : IsTextOf bytes b) (o
   offered (Err (Unread line)) new h = absurd h
 
 -- bytes that are no block
-pub unread : (s : State) (bytes : List ℕ) (line : ℕ) → ((d : Block) → IsTextOf bytes d → ⊥) → length bytes ≤ longest_block → IsRefusedLine bytes line → Offered s bytes (Err (Unread line)) s.store
+pub unread : (s : Branches) (bytes : List ℕ) (line : ℕ) → ((d : Block) → IsTextOf bytes d → ⊥) → length bytes ≤ longest_block → IsRefusedLine bytes line → Offered s bytes (Err (Unread line)) s.store
 unread s bytes line none short refused =
     (record { before = X01 ∷ []; after = local_rules; stands = local_are; passed = (short, tt); fails = λ h. none h.0 h.1 }, refused, refl)
 
 -- a block that breaks no rule is added, or why it is not is named
-pub checked_added : (s : State) (b : Block) (r : Result Stamp OfferRefusal) (new : List Block) → FirstLocal s b None → Added s b r new → Checked s b r new
+pub checked_added : (s : Branches) (b : Block) (r : Result Stamp OfferRefusal) (new : List Block) → FirstLocal s b None → Added s b r new → Checked s b r new
 checked_added s b (Ok stamp) new first a = (first, a)
 checked_added s b (Err (Local rule)) new first a = absurd a
 checked_added s b (Err (Known stamp)) new first a = (first, a)

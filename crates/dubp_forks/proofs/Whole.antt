@@ -11,7 +11,7 @@ use Rattle.dubp_verdict.specs.Verdicts.{Verdicts}
 use Rattle.dubp_validity.specs.Rules.{IsSound}
 use Rattle.dubp_ledger.specs.OfKept.{KeptChain}
 use Rattle.dubp_ledger.specs.Traces.{IsShort}
-use Rattle.dubp_replay.specs.Turns.{State, IsPath, blocks_behind, is_on, most_stored, stored, switched}
+use Rattle.dubp_replay.specs.Turns.{Branches, IsPath, blocks_behind, is_on, most_stored, stored, switched}
 use Rattle.dubp_forks.specs.Entries.{AreKept, Entries, blocks_in, entries_of}
 use Rattle.dubp_forks.specs.Stores.{AreOutside, AreStored, IsStorable, state_of}
 use Rattle.dubp_forks.specs.Switches.{BranchesOff, IsAlong, MayTry, Switched, stored_then}

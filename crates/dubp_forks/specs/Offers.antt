@@ -8,21 +8,21 @@ use Rattle.dubp_rules.specs.declared.rule.Rule.{Rule}
 use Rattle.dubp_rules.specs.declared.rule.Rule.TheVariants.{P01}
 use Rattle.dubp_rules.specs.First.{IsFirst}
 use Rattle.dubp_validity.specs.Rules.{HoldsRaw, IsTextOf}
-use Rattle.dubp_replay.specs.Turns.{State, offer_rules, is_known, most_stored}
+use Rattle.dubp_replay.specs.Turns.{Branches, offer_rules, is_known, most_stored}
 use Rattle.dubp_forks.specs.declared.refusals.OfferRefusal.{OfferRefusal}
 use Rattle.dubp_forks.specs.declared.refusals.OfferRefusal.TheVariants.{Unread, Local, Known, Full, NoMemory}
 
 -- the first of the rules before G51 that the bytes break on the chain as it is
-abbrev pub FirstOffered : State → List ℕ → Option Rule → Type 0
+abbrev pub FirstOffered : Branches → List ℕ → Option Rule → Type 0
 FirstOffered s bytes broken = IsFirst (HoldsRaw s.verdicts s.chain bytes) offer_rules broken
 
 -- the bytes are this block, which breaks none of them
-pub record IsOffered (s : State) (bytes : List ℕ) (b : Block) : Type 0 where
+pub record IsOffered (s : Branches) (bytes : List ℕ) (b : Block) : Type 0 where
   pub text : IsTextOf bytes b
   pub keeps : FirstOffered s bytes None
 
 -- the block goes to the end of the store, or the first reason against it is named and the store stays
-abbrev pub Offered : State → List ℕ → Result Stamp OfferRefusal → List Block → Type 0
+abbrev pub Offered : Branches → List ℕ → Result Stamp OfferRefusal → List Block → Type 0
 Offered old bytes (Ok stamp) new =
     (b : Block) × IsOffered old bytes b × (stamp ≡ stamp_of b) × (is_known old stamp ≡ false) × (length old.store < most_stored) × (new ≡ old.store ++ b ∷ [])
 Offered old bytes (Err (Unread line)) new = FirstOffered old bytes (Some P01) × IsRefusedLine bytes line × (new ≡ old.store)

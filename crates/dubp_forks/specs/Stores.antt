@@ -7,7 +7,7 @@ use Rattle.dubp_verdict.specs.Verdicts.{Verdicts}
 use Rattle.dubp_validity.specs.Rules.{longest_block}
 use Rattle.dubp_chain.specs.Chains.{Chain}
 use Rattle.dubp_ledger.specs.OfKept.{KeptChain}
-use Rattle.dubp_replay.specs.Turns.{State, is_stamped, most_stored}
+use Rattle.dubp_replay.specs.Turns.{Branches, is_stamped, most_stored}
 
 -- a block in range, whose text is no longer than blocks are read
 pub record IsStorable (b : Block) : Type 0 where
@@ -34,5 +34,5 @@ abbrev pub AreOutside : List Block → Chain → Type 0
 AreOutside store c = AllByRecursion (λ b. has_stamp_of c b ≡ false) store
 
 -- the state that verdicts, a ledger and a store make together
-abbrev pub state_of : Verdicts → KeptChain → List Block → State
+abbrev pub state_of : Verdicts → KeptChain → List Block → Branches
 state_of v s store = record { verdicts = v; chain = s.chain; kept = s.kept; store = store }

@@ -3,33 +3,33 @@ use Rattle.std.specs.Prelude.{◌≡◌, ◌+◌, ◌-◌, ◌<◌, ◌≤◌, t
 use Rattle.dubp_atoms.specs.declared.stamp.Stamp.{Stamp}
 use Rattle.dubp_block.specs.declared.block.Block.{Block}
 use Rattle.dubp_block.specs.Text.{stamp_of}
-use Rattle.dubp_replay.specs.Turns.{State, stored, IsPath, blocks_behind, switched, IsAcceptedOn, BreaksAt, most_stored}
+use Rattle.dubp_replay.specs.Turns.{Branches, stored, IsPath, blocks_behind, switched, IsAcceptedOn, BreaksAt, most_stored}
 use Rattle.dubp_forks.specs.declared.refusals.SwitchRefusal.{SwitchRefusal}
 use Rattle.dubp_forks.specs.declared.refusals.SwitchRefusal.TheVariants.{Unknown, Detached, TooDeep, Full, Refused, NoMemory}
 
 -- the path from a stored stamp, newest block first, and where it ends
-pub record IsAlong (s : State) (stamp : Stamp) (path : List Block) (end : Option Stamp) : Type 0 where
+pub record IsAlong (s : Branches) (stamp : Stamp) (path : List Block) (end : Option Stamp) : Type 0 where
   pub some : is_some (stored s.store stamp) ≡ true
   pub is : IsPath s.store stamp path end
 
 -- so many blocks of the chain stand behind the ancestor of the path
-pub record BranchesOff (s : State) (stamp : Stamp) (path : List Block) (count : ℕ) : Type 0 where
+pub record BranchesOff (s : Branches) (stamp : Stamp) (path : List Block) (count : ℕ) : Type 0 where
   pub end : Option Stamp
   pub along : IsAlong s stamp path end
   pub behind : blocks_behind s.chain end ≡ Some count
 
 -- so many blocks would be stored behind the switch
-abbrev pub stored_then : State → List Block → ℕ → ℕ
+abbrev pub stored_then : Branches → List Block → ℕ → ℕ
 stored_then s path count = (length s.store - length path) + count
 
 -- so many can be reversed, and stored in place of the path
-pub record MayTry (s : State) (stamp : Stamp) (path : List Block) (count : ℕ) : Type 0 where
+pub record MayTry (s : Branches) (stamp : Stamp) (path : List Block) (count : ℕ) : Type 0 where
   pub goes : BranchesOff s stamp path count
   pub deep : count ≤ s.kept
   pub fits : stored_then s path count ≤ most_stored
 
 -- the path is accepted whole, or the first reason against it is named and nothing changes
-abbrev pub Switched : State → Stamp → Result (Unit {0}) SwitchRefusal → State → Type 0
+abbrev pub Switched : Branches → Stamp → Result (Unit {0}) SwitchRefusal → Branches → Type 0
 Switched old stamp (Ok done) new =
     (path : List Block) × (count : ℕ) × MayTry old stamp path count × IsAcceptedOn old.verdicts (drop count old.chain) path × (new ≡ switched old path count)
 Switched old stamp (Err Unknown) new = (stored old.store stamp ≡ None) × (new ≡ old)

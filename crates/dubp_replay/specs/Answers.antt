@@ -15,6 +15,8 @@ use Rattle.dubp_block.specs.declared.block.Block.{Block}
 use Rattle.dubp_block.specs.declared.block.IdentityLine.{IdentityLine}
 use Rattle.dubp_block.specs.declared.block.CertLine.{CertLine}
 use Rattle.dubp_block.specs.Text.{block_text}
+use Rattle.dubp_rules.specs.Table.{code_text}
+use Rattle.dubp_replay.specs.declared.failure.Failure.{Failure}
 use Rattle.dubp_replay.specs.declared.query.Query.{Query}
 use Rattle.dubp_replay.specs.declared.query.Query.TheVariants as query
 use Rattle.dubp_validity.specs.declared.record.Record.{Record}
@@ -221,6 +223,21 @@ show_answer_of (Some b) = block_text b ++ answer_line (codes "END")
 
 abbrev pub show_answer : Chain → ℕ → List ℕ
 show_answer c number = show_answer_of (block_of_number c number)
+
+-- ---- choice
+
+abbrev pub auto_on_answer : List ℕ
+auto_on_answer = answer_line (codes "AUTO ON")
+
+abbrev pub auto_off_answer : List ℕ
+auto_off_answer = answer_line (codes "AUTO OFF")
+
+-- FAILED TIP AT RULE
+abbrev pub failed_line : Failure → List ℕ
+failed_line f = values_line (codes "FAILED") (stamp_text f.tip ∷ stamp_text f.at ∷ code_text f.rule ∷ [])
+
+abbrev pub failures_answer : List Failure → List ℕ
+failures_answer failures = ended (map failed_line failures)
 
 -- ---- statements
 

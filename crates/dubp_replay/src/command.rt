@@ -19,6 +19,10 @@ pub enum Command {
     Forget { stamp: Stamp },
     /// `STATEMENT COND`: the moves of a condition, with what it has behind each.
     Statement { cond: CondText },
+    /// `AUTO ON` or `AUTO OFF`: whether the node chooses among the stored branches by itself.
+    Auto { on: bool },
+    /// `FAILED`: the branches that the node chose and that failed.
+    Failures,
     /// A query, which changes nothing.
     Ask(Query),
 }

@@ -10,6 +10,7 @@
 #![tactic(auto)]
 
 mod command;
+mod failure;
 mod query;
 
 pub use command::Command;
@@ -17,4 +18,5 @@ pub use dubp_chain::Head;
 pub use dubp_laws as laws;
 pub use dubp_moves::{Kind, Move, laws as move_laws};
 pub use dubp_validity::{Record, put_record};
+pub use failure::Failure;
 pub use query::Query;

@@ -20,7 +20,7 @@ use Rattle.dubp_replay.specs.declared.query.Query.TheVariants as query
 use Rattle.dubp_replay.specs.declared.command.Command.{Command}
 use Rattle.dubp_replay.specs.declared.command.Command.TheVariants as command
 use Rattle.dubp_script.specs.Spelling.{IsCommand, IsQuery, IsCondText, command_text, query_text, Says}
-use Rattle.dubp_script.specs.Reading.{bare, verdict_of, change_of, cond_text_if, statement_of, keyed_of, other_of, command_of}
+use Rattle.dubp_script.specs.Reading.{bare, verdict_of, change_of, choice_of, cond_text_if, statement_of, keyed_of, other_of, command_of}
 use Rattle.dubp_script.proofs.Tried.{or_some, map_some, behind, bare_found}
 
 -- whatever is read has this text and is in range
@@ -110,6 +110,13 @@ change_tells =
     (either_tells (stamp_tells (codes "SWITCH ") command.Switch (λ s is. is) (λ s. refl))
     (stamp_tells (codes "FORGET ") command.Forget (λ s is. is) (λ s. refl))))))
 
+choice_tells : Tells IsCommand command_text choice_of
+unfolding choice_of
+choice_tells =
+    either_tells (bare_tells (codes "AUTO ON") (command.Auto true) tt refl)
+    (either_tells (bare_tells (codes "AUTO OFF") (command.Auto false) tt refl)
+    (bare_tells (codes "FAILED") command.Failures tt refl))
+
 statement_tells : Tells IsCommand command_text statement_of
 unfolding statement_of
 statement_tells = cond_tells (codes "STATEMENT ") command.Statement (λ t is. is) (λ t. refl)
@@ -143,7 +150,7 @@ asks_tells {read = read} p = record {
 
 command_tells : Tells IsCommand command_text command_of
 unfolding command_of
-command_tells = either_tells change_tells (either_tells statement_tells (either_tells (asks_tells keyed_tells) (asks_tells other_tells)))
+command_tells = either_tells change_tells (either_tells choice_tells (either_tells statement_tells (either_tells (asks_tells keyed_tells) (asks_tells other_tells))))
 
 pub command_says : (line : List ℕ) (c : Command) → command_of line ≡ Some c → Says line c
 command_says line c e = let f = command_tells.tells line c e in record { is = f.0; text = f.1 }
@@ -169,7 +176,7 @@ verdict_again key hash sig k h s =
     ∙ rw (text_again is_sig sig s) refl
 
 pub command_again : (c : Command) → IsCommand c → command_of (command_text c) ≡ Some c
-unfolding command_of change_of statement_of keyed_of other_of
+unfolding command_of change_of choice_of statement_of keyed_of other_of
 command_again (command.Verdict key hash sig) is = rw (verdict_again key hash sig is.0 is.1 is.2) refl
 command_again (command.Block len) is = rw (number_again len is) refl
 command_again (command.Revert count) is = rw (number_again count is) refl
@@ -177,6 +184,9 @@ command_again (command.Offer len) is = rw (number_again len is) refl
 command_again (command.Switch stamp) is = rw (stamp_again stamp is) refl
 command_again (command.Forget stamp) is = rw (stamp_again stamp is) refl
 command_again (command.Statement cond) is = rw (cond_text_again cond.items is) refl
+command_again (command.Auto true) is = refl
+command_again (command.Auto false) is = refl
+command_again command.Failures is = refl
 command_again (command.Ask query.Head) is = refl
 command_again (command.Ask query.Money) is = refl
 command_again (command.Ask (query.Identity key)) is = rw (text_again is_key key is) refl

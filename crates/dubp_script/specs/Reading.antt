@@ -1,6 +1,6 @@
 -- How the code reads a command: one word after another is tried at the front of the line. The laws that join it to the spelling
 -- stand in the contract of `read_command`.
-use Rattle.std.specs.Prelude.{ℕ, List, codes, Option, Some, None, is_some, nat_eq, option_map, if◌then◌else◌}
+use Rattle.std.specs.Prelude.{ℕ, true, false, List, codes, Option, Some, None, is_some, nat_eq, option_map, if◌then◌else◌}
 use Rattle.std.specs.Option.{option_or}
 use Rattle.std.specs.Cmp.Lexicographic.{pointwise}
 use Rattle.arrayvec.specs.ArrayVec.{ArrayVec}
@@ -36,6 +36,13 @@ change_of line =
 unfoldable pub cond_text_if : List ℕ → Option (ArrayVec ℕ)
 cond_text_if text = if is_some (cond_of_text text) then Some (record { items = text }) else None
 
+-- what is said of the choice of a branch
+unfoldable pub choice_of : List ℕ → Option Command
+choice_of line =
+    option_or (bare (codes "AUTO ON") (command.Auto true) line)
+    (option_or (bare (codes "AUTO OFF") (command.Auto false) line)
+    (bare (codes "FAILED") command.Failures line))
+
 -- whose moves are asked for
 unfoldable pub statement_of : List ℕ → Option Command
 statement_of line = option_map command.Statement (named (codes "STATEMENT ") cond_text_if line)
@@ -63,4 +70,4 @@ abbrev pub query_of : List ℕ → Option Command
 query_of line = option_or (option_map command.Ask (keyed_of line)) (option_map command.Ask (other_of line))
 
 unfoldable pub command_of : List ℕ → Option Command
-command_of line = option_or (change_of line) (option_or (statement_of line) (query_of line))
+command_of line = option_or (change_of line) (option_or (choice_of line) (option_or (statement_of line) (query_of line)))

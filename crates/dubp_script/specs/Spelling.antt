@@ -1,5 +1,5 @@
 -- The one spelling of each command, without its LF. Protocol: commands and answers.
-use Rattle.std.specs.Prelude.{◌≡◌, ℕ, List, ◌∷◌, ◌++◌, codes, true, ⊤}
+use Rattle.std.specs.Prelude.{◌≡◌, ℕ, List, ◌∷◌, ◌++◌, codes, true, false, ⊤}
 use Rattle.std.specs.Fmt.{decimal}
 use Rattle.dubp_atoms.specs.Letters.{SPACE, is_key, is_uid, is_hash, is_sig}
 use Rattle.dubp_atoms.specs.Spelling.{IsNumber, stamp_text, IsStamp}
@@ -33,6 +33,9 @@ command_text (command.Offer len) = codes "OFFER " ++ decimal len
 command_text (command.Switch stamp) = codes "SWITCH " ++ stamp_text stamp
 command_text (command.Forget stamp) = codes "FORGET " ++ stamp_text stamp
 command_text (command.Statement cond) = codes "STATEMENT " ++ cond.items
+command_text (command.Auto true) = codes "AUTO ON"
+command_text (command.Auto false) = codes "AUTO OFF"
+command_text command.Failures = codes "FAILED"
 command_text (command.Ask q) = query_text q
 
 -- the text of some condition
@@ -62,6 +65,8 @@ IsCommand (command.Offer len) = IsNumber len
 IsCommand (command.Switch stamp) = IsStamp stamp
 IsCommand (command.Forget stamp) = IsStamp stamp
 IsCommand (command.Statement cond) = IsCondText cond.items
+IsCommand (command.Auto on) = ⊤
+IsCommand command.Failures = ⊤
 IsCommand (command.Ask q) = IsQuery q
 
 -- the line is the spelling of this command

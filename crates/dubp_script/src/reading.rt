@@ -19,7 +19,7 @@ pub fn read_command(line: &[u8]) -> Option<Command>
 }
 
 // A command has room for the longest condition, so it is made where its line has been told, and nowhere before.
-#[tactic(auto, unfolding(crate::specs::Reading::command_of, crate::specs::Reading::change_of, crate::specs::Reading::statement_of))]
+#[tactic(auto, unfolding(crate::specs::Reading::command_of, crate::specs::Reading::change_of, crate::specs::Reading::choice_of, crate::specs::Reading::statement_of))]
 fn command(line: &[u8]) -> Option<Command>
     ensures { result ≡ command_of line.now }
 {
@@ -40,6 +40,15 @@ fn command(line: &[u8]) -> Option<Command>
     }
     if let Some(stamp) = stamp_behind(b"FORGET ", line) {
         return Some(Command::Forget { stamp });
+    }
+    if line == b"AUTO ON".as_slice() {
+        return Some(Command::Auto { on: true });
+    }
+    if line == b"AUTO OFF".as_slice() {
+        return Some(Command::Auto { on: false });
+    }
+    if line == b"FAILED".as_slice() {
+        return Some(Command::Failures);
     }
     if let Some(text) = cond_behind(b"STATEMENT ", line) {
         let cond = filled(text);

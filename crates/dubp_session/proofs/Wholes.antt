@@ -76,6 +76,8 @@ heads_framed line len h = framed_by h.command h.says h.frame_is
     framed_by (command.Switch stamp) says e = absurd cc
     framed_by (command.Forget stamp) says e = absurd cc
     framed_by (command.Statement cond) says e = absurd cc
+    framed_by (command.Auto on) says e = absurd cc
+    framed_by command.Failures says e = absurd cc
     framed_by (command.Ask q) says e = absurd cc
 
 -- what is read of a line tells whether it heads a frame
