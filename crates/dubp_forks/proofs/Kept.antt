@@ -49,7 +49,7 @@ kept_lookup entries stamp kept = ap (lookup (same_stamp stamp)) kept.whole ∙ l
 pub kept_is_some : (entries : Entries) (stamp : Stamp) → AreKept entries → is_some (lookup (same_stamp stamp) entries) ≡ is_some (stored (blocks_in entries) stamp)
 kept_is_some entries stamp kept = ap is_some (kept_lookup entries stamp kept) ∙ some_mapped (stored (blocks_in entries) stamp)
 
-kept_any : (entries : Entries) (stamp : Stamp) → AreKept entries → is_some (lookup (same_stamp stamp) entries) ≡ list_any (is_stamped stamp) (blocks_in entries)
+pub kept_any : (entries : Entries) (stamp : Stamp) → AreKept entries → is_some (lookup (same_stamp stamp) entries) ≡ list_any (is_stamped stamp) (blocks_in entries)
 kept_any entries stamp kept = kept_is_some entries stamp kept ∙ find_any (is_stamped stamp) (blocks_in entries)
 
 module _ (v : Verdicts) (s : KeptChain) (entries : Entries) (store : List Block) (stamp : Stamp) (kept : AreKept entries) (view : blocks_in entries ≡ store) where

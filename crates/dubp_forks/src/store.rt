@@ -1,9 +1,10 @@
 ghost use Rattle.std.specs.Prelude.{◌≡◌, ◌<◌, ◌≤◌, [], None, Some, is_some, length, slice_get};
+ghost use Rattle.std.specs.List.{list_any};
 ghost use Rattle.dubp_block.specs.Text.{IsBlock, block_text, stamp_of as block_stamp};
 ghost use Rattle.dubp_block.specs.declared.block.Block.{Block as BlockValue};
 ghost use Rattle.dubp_validity.specs.Rules.{longest_block};
 ghost use Rattle.dubp_verdict.specs.Verdicts.{Verdicts as VerdictsValue};
-ghost use Rattle.dubp_replay.specs.Turns.{previous_stamp, stored, without};
+ghost use Rattle.dubp_replay.specs.Turns.{is_stamped, previous_stamp, stored, without};
 ghost use Rattle.dubp_forks.specs.Offering.{Added, Checked};
 ghost use Rattle.dubp_forks.specs.Offers.{Offered};
 ghost use Rattle.dubp_forks.specs.Switches.{Switched};
@@ -69,6 +70,13 @@ impl Store {
         ensures { result ≡ length self.now }
     {
         self.blocks.len()
+    }
+
+    /// Whether a stored block has this stamp. It takes no memory.
+    pub fn has(&self, stamp: &Stamp) -> bool
+        ensures { result ≡ list_any (is_stamped stamp.now) self.now }
+    {
+        self.blocks.contains_key(stamp)
     }
 
     /// Does nothing. Its clause says what holds of the stored blocks at any time.

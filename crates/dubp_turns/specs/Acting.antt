@@ -1,16 +1,14 @@
 -- The turn of a command as the node takes it: by what it is handed of the frame. Protocol: the input; commands and answers.
-use Rattle.std.specs.Prelude.{◌≡◌, ℕ, ◌≤◌, List, [], length, Some}
-use Rattle.std.specs.Option.{MatchOption}
-use Rattle.dubp_validity.specs.Rules.{longest_block}
+use Rattle.std.specs.Prelude.{◌≡◌, ◌⊎◌, ℕ, List, Some}
+use Rattle.dubp_branches.specs.Acting.{IsHanded}
+use Rattle.dubp_replay.specs.Answers.{no_memory_answer}
 use Rattle.dubp_replay.specs.declared.command.Command.{Command}
-use Rattle.dubp_replay.specs.Turns.{State, IsServed, frame_of}
-
--- Behind the line of this command these raw bytes may stand, of which the node is handed those: all of them, or none where they are
--- more than a block has.
-abbrev pub IsHanded : Command → List ℕ → List ℕ → Type 0
-IsHanded command bytes frame =
-    MatchOption (frame_of command) ((bytes ≡ []) × (frame ≡ [])) (λ len. (length bytes ≡ len) × (len ≤ longest_block → frame ≡ bytes))
+use Rattle.dubp_replay.specs.Turns.{State, IsServed, OfferGoesOn, Only}
 
 -- the node takes one turn: whatever the bytes are of which it was handed these
 abbrev pub Acts : State → Command → List ℕ → List ℕ → State → Type 0
 Acts old command frame answer new = (bytes : List ℕ) → IsHanded command bytes frame → IsServed old (Some (command, bytes)) answer new
+
+-- OFFER with these raw bytes, which are not too many, or memory ran out
+abbrev pub OfferActs : State → List ℕ → List ℕ → State → Type 0
+OfferActs old frame answer new = OfferGoesOn old frame answer new ⊎ Only no_memory_answer old answer new

@@ -1,4 +1,5 @@
 pub mod Acting
-pub mod Deciding
+pub mod Choosing
 pub mod Given
 pub mod OfQuery
+pub mod Texts

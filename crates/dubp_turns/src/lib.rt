@@ -1,7 +1,8 @@
 //! A node of a currency: the state that commands change, and the turn of each command.
 //!
-//! Contracts see a node as its verdicts, the chain of accepted blocks, how many of them can be reversed, and the stored blocks of
-//! branches. Its chapters are commands and answers, and the generator, of `docs/protocol`.
+//! Contracts see a node as its verdicts, the chain of accepted blocks, how many of them can be reversed, the stored blocks of branches, whether
+//! it chooses among these by itself, and the branches that it chose and that failed. Its chapters are commands and answers, choice, and the
+//! generator, of `docs/protocol`.
 //!
 //! ```text
 //! let mut node = Node::<Books>::new(alloc);
@@ -9,9 +10,10 @@
 //! ```
 #![tactic(auto)]
 
+mod choosing;
 mod node;
+mod seeing;
 mod texts;
 
-pub use dubp_query::{Answer, head_line, money_line};
-pub use node::{LONGEST_BLOCK, Node};
-pub use texts::{numbered, one, refused};
+pub use dubp_branches::{Answer, LONGEST_BLOCK, head_line, money_line, numbered, one, refused};
+pub use node::Node;

@@ -1,45 +1,40 @@
 ghost use Rattle.std.specs.Prelude.{◌≡◌, length, ◌≤◌, ℕ, List, [], ◌∷◌, None, OnOk, OnErr};
-ghost use Rattle.dubp_turns.specs.Acting.{Acts};
-ghost use Rattle.dubp_query.specs.AnswerBytes.{answer_bytes};
-ghost use Rattle.dubp_block.specs.Text.{IsBlock, block_text};
+ghost use Rattle.dubp_turns.specs.Acting.{Acts, OfferActs};
+ghost use Rattle.dubp_turns.specs.OfQuery.{answer_bytes};
+ghost use Rattle.dubp_block.specs.Text.{IsBlock, block_text, stamp_of as block_stamp};
 ghost use Rattle.dubp_validity.specs.Rules.{longest_block};
-ghost use Rattle.dubp_turns.specs.Deciding.{ShortBlockActs, ShortOfferActs, Decided, IsDecided};
 ghost use Rattle.dubp_turns.specs.Given.{IsGivenAll, block_given, verdict_given};
-ghost use Rattle.dubp_replay.specs.Turns.{start};
-ghost use Rattle.dubp_replay.specs.declared.command.Command.TheVariants.{Ask as AskCommand, Block as BlockCommand, Forget as ForgetCommand, Offer as OfferCommand, Revert as RevertCommand, Statement as StatementCommand, Switch as SwitchCommand, Verdict as VerdictCommand};
+ghost use Rattle.dubp_replay.specs.Turns.{left_over, start};
+ghost use Rattle.dubp_replay.specs.declared.command.Command.TheVariants.{Ask as AskCommand, Auto as AutoCommand, Block as BlockCommand, Failures as FailuresCommand, Forget as ForgetCommand, Offer as OfferCommand, Revert as RevertCommand, Switch as SwitchCommand, Verdict as VerdictCommand};
 
-use crate::texts::{
-    accepted, forgotten, no_memory, noted, offer_answer, refusal_answer, refused, reverted,
-    switch_answer, too_deep, unknown, unread,
-};
+use crate::choosing::{choose_behind, let_go, resolve};
+use crate::texts::failures_text;
 use dubp_atoms::{Hash, Key, NoMemory, Secret, Sig, Stamp, Steps};
-use dubp_block::laws::blocks_have_one_text;
-use dubp_block::{Block, ReadRefusal, read_block};
-use dubp_forks::{Ledger, PeopleAndMoney, Store, SubmitRefusal, TooDeep};
-use dubp_query::{Answer, CondText, Query, answer, statement_answer};
-use dubp_replay::Command;
-use dubp_verdict::Verdicts;
+use dubp_block::Block;
+use dubp_branches::{
+    Answer, Branches, LONGEST_BLOCK, Ledger, PeopleAndMoney, Query, no_memory, offer_answer, one,
+    refused,
+};
+use dubp_replay::{Command, Failure};
 use std::alloc::Global;
 use std::marker::Model;
 use std::sync::ledger::Ledger as StepBook;
 
-/// The raw bytes that a block has at most: rule `X01`.
-pub const LONGEST_BLOCK: usize = 1_048_576;
-
 /// The node: it answers commands, one after another.
 ///
-/// Contracts see the state that its answers depend on: the verdicts, the chain of accepted blocks, how many of them can be reversed, and
-/// the stored blocks of branches, none of which is in the chain.
+/// Contracts see the state that its answers depend on: the verdicts, the chain of accepted blocks, how many of them can be reversed, the
+/// stored blocks of branches, none of which is in the chain, whether it chooses among these by itself, and the branches that it chose and that
+/// failed. A failure is kept as long as the block at which it came is stored.
 #[derive(Drop)]
 pub struct Node<T: PeopleAndMoney> {
     alloc: Global,
-    verdicts: Verdicts,
-    ledger: Ledger<T>,
-    store: Store,
+    branches: Branches<T>,
+    auto: bool,
+    failures: Vec<Failure>,
 }
 
 impl<T: PeopleAndMoney> Model for Node<T> {
-    ghost use Rattle.dubp_replay.specs.Turns.{State};
+    ghost use Rattle.dubp_replay.specs.Turns.{State, left_over};
 
     ghost Value = { State };
 
@@ -48,13 +43,13 @@ impl<T: PeopleAndMoney> Model for Node<T> {
 
     ghost coded = { Prim.hlevel (codes, block.the_row.coded) };
 
-    ghost use Rattle.dubp_forks.specs.Stores.{AreOutside, state_of};
+    ghost use Rattle.dubp_turns.specs.States.{state_with};
 
-    ghost view = { λ n. state_of n.verdicts n.ledger n.store };
+    ghost view = { λ n. state_with n.branches n.auto n.failures.items };
 
-    ghost use Rattle.std.specs.Prelude.{◌≡◌, None};
+    ghost use Rattle.std.specs.Prelude.{◌≡◌};
 
-    ghost invariant = { λ n. (n.ledger.out ≡ None) × AreOutside n.store n.ledger.chain };
+    ghost invariant = { λ n. left_over n.branches.store n.failures.items ≡ n.failures.items };
 }
 
 impl<T: PeopleAndMoney> Node<T> {
@@ -72,9 +67,9 @@ impl<T: PeopleAndMoney> Node<T> {
     {
         Node {
             alloc,
-            verdicts: Verdicts::with_secret(alloc, secret),
-            ledger: Ledger::new(alloc),
-            store: Store::new(alloc),
+            branches: Branches::with_secret(alloc, secret),
+            auto: false,
+            failures: Vec::new(alloc),
         }
     }
 
@@ -94,10 +89,12 @@ impl<T: PeopleAndMoney> Node<T> {
             Command::Verdict { key, hash, sig } => self.note(*key, *hash, *sig),
             Command::Block { len } => self.act_block(*len, frame, steps),
             Command::Revert { count } => self.revert(*count, steps),
-            Command::Offer { len } => self.act_offer(*len, frame),
+            Command::Offer { len } => self.act_offer(*len, frame, steps),
             Command::Switch { stamp } => self.switch(*stamp, steps),
             Command::Forget { stamp } => self.forget(*stamp),
-            Command::Statement { cond } => self.statement(cond),
+            Command::Statement { cond: _ } => no_memory(),
+            Command::Auto { on } => self.set_auto(*on, steps),
+            Command::Failures => self.failed(),
             Command::Ask(query) => self.ask(query),
         }
     }
@@ -108,104 +105,61 @@ impl<T: PeopleAndMoney> Node<T> {
         ensures kept { result.now.kept ≡ self.now.kept }
         ensures out { result.now.out ≡ None }
     {
-        &self.ledger
+        self.branches.ledger()
+    }
+
+    /// Does nothing. Its clause says what holds of the failures at any time: the block at which each came is stored.
+    pub fn laws(&self)
+        ensures { left_over self.now.store self.now.failures ≡ self.now.failures }
+    {
+        let _ = &self.failures;
     }
 
     // The query is answered, and nothing changes.
     fn ask(&self, query: &Query) -> Answer
         ensures { (frame : List ℕ) → Acts self.now (AskCommand query.now) frame (answer_bytes result) self.now }
     {
-        match answer(self.alloc, &self.ledger, query) {
-            Ok(answer) => answer,
-            Err(_) => no_memory(),
-        }
+        self.branches.ask(query)
     }
 
-    // The moves of the condition are told, and nothing changes.
-    fn statement(&self, cond: &CondText) -> Answer
-        ensures { (frame : List ℕ) → Acts self.now (StatementCommand cond.now) frame (answer_bytes result) self.now }
-    {
-        match statement_answer(self.alloc, &self.ledger, cond) {
-            Ok(answer) => answer,
-            Err(_) => no_memory(),
-        }
-    }
-
-    // The verdict joins those that were given; a repeat changes nothing.
+    // The verdict joins those that were given.
     fn note(&mut self, key: Key, hash: Hash, sig: Sig) -> Answer
         ensures { (frame : List ℕ) → Acts self.old (VerdictCommand key hash sig) frame (answer_bytes result) self.new }
     {
-        match self.verdicts.add(key, hash, sig) {
-            Ok(()) => noted(),
-            Err(_) => no_memory(),
-        }
+        self.branches.note(key, hash, sig)
     }
 
     // The last blocks leave the chain, where so many can be reversed.
     fn revert<L: StepBook>(&mut self, count: u64, steps: &mut Steps<L>) -> Answer
         ensures { (frame : List ℕ) → Acts self.old (RevertCommand count) frame (answer_bytes result) self.new }
     {
-        match self.ledger.revert(count, steps) {
-            Ok(()) => reverted(count),
-            Err(TooDeep { kept }) => too_deep(kept),
-        }
+        self.branches.revert(count, steps)
     }
 
     fn act_block<L: StepBook>(&mut self, len: u64, frame: &[u8], steps: &mut Steps<L>) -> Answer
         ensures { Acts self.old (BlockCommand len) frame.now (answer_bytes result) self.new }
     {
-        if len > LONGEST_BLOCK as u64 {
-            return refused(b"X01");
-        }
-        self.act_short_block(frame, steps)
+        let answer = self.branches.act_block(len, frame, steps);
+        let_go(&self.branches, &mut self.failures);
+        answer
     }
 
-    fn act_short_block<L: StepBook>(&mut self, frame: &[u8], steps: &mut Steps<L>) -> Answer
-        ensures { length frame.now ≤ longest_block → ShortBlockActs self.old frame.now (answer_bytes result) self.new }
+    // The branch that ends at this stored block takes the place of the chain's last blocks, or the first reason against it is named.
+    fn switch<L: StepBook>(&mut self, stamp: Stamp, steps: &mut Steps<L>) -> Answer
+        ensures { (frame : List ℕ) → Acts self.old (SwitchCommand stamp) frame (answer_bytes result) self.new }
     {
-        if frame.len() > LONGEST_BLOCK {
-            return refused(b"X01");
-        }
-        match read_block(self.alloc, frame) {
-            Ok(block) => self.submit(block, steps),
-            Err(ReadRefusal::NotABlock { line }) => unread(line),
-            Err(ReadRefusal::NoMemory) => no_memory(),
-        }
+        let answer = self.branches.switch(stamp, steps);
+        let_go(&self.branches, &mut self.failures);
+        answer
     }
 
-    // The block joins the chain and leaves the store, or the first rule that it breaks is named.
-    fn submit<L: StepBook>(&mut self, block: Block, steps: &mut Steps<L>) -> Answer
-        requires text { IsBlock block }
-        requires short { length (block_text block) ≤ longest_block }
-        ensures { Decided self.old block (answer_bytes result) self.new }
+    // The stored block of this stamp leaves the store.
+    fn forget(&mut self, stamp: Stamp) -> Answer
+        ensures { (frame : List ℕ) → Acts self.old (ForgetCommand stamp) frame (answer_bytes result) self.new }
     {
-        match self.decide(block, steps) {
-            Ok(stamp) => accepted(&stamp),
-            Err(refusal) => refusal_answer(refusal),
-        }
-    }
-
-    // The same, by what the ledger says.
-    fn decide<L: StepBook>(
-        &mut self,
-        block: Block,
-        steps: &mut Steps<L>,
-    ) -> Result<Stamp, SubmitRefusal>
-        requires text { IsBlock block }
-        requires short { length (block_text block) ≤ longest_block }
-        ensures { IsDecided self.old block result self.new }
-    {
-        match self.ledger.submit(block, &self.verdicts, steps) {
-            Ok(stamp) => {
-                let of_block = Stamp {
-                    number: stamp.number,
-                    hash: stamp.hash,
-                };
-                self.store.forget(stamp);
-                Ok(of_block)
-            }
-            Err(refusal) => Err(refusal),
-        }
+        let answer = self.branches.forget(stamp);
+        let_go(&self.branches, &mut self.failures);
+        answer
     }
 
     /// Takes the turn of a block of a chain that was generated. `NoMemory` leaves the node as before.
@@ -219,12 +173,9 @@ impl<T: PeopleAndMoney> Node<T> {
         ensures given { OnOk result (IsGivenAll (block_given block ∷ []) self.old self.new) }
         ensures refused { OnErr result (self.new ≡ self.old) }
     {
-        blocks_have_one_text();
-        match self.decide(block, steps) {
-            Ok(_) => Ok(()),
-            Err(SubmitRefusal::Refused { .. }) => Ok(()),
-            Err(SubmitRefusal::NoMemory { .. }) => Err(NoMemory),
-        }
+        self.branches.give_block(block, steps)?;
+        let_go(&self.branches, &mut self.failures);
+        Ok(())
     }
 
     /// Takes the turn of a verdict of a chain that was generated. `NoMemory` leaves the node as before.
@@ -232,48 +183,80 @@ impl<T: PeopleAndMoney> Node<T> {
         ensures given { OnOk result (IsGivenAll (verdict_given given ∷ []) self.old self.new) }
         ensures refused { OnErr result (self.new ≡ self.old) }
     {
-        let (key, hash, sig) = given;
-        self.verdicts.add(key, hash, sig)?;
-        Ok(())
+        self.branches.give_verdict(given)
     }
 
-    fn act_offer(&mut self, len: u64, frame: &[u8]) -> Answer
+    // The node chooses from now on, and at once; or no longer.
+    fn set_auto<L: StepBook>(&mut self, on: bool, steps: &mut Steps<L>) -> Answer
+        ensures { (frame : List ℕ) → Acts self.old (AutoCommand on) frame (answer_bytes result) self.new }
+    {
+        if on {
+            self.start_choosing(steps)
+        } else {
+            self.auto = false;
+            one(b"AUTO OFF")
+        }
+    }
+
+    fn start_choosing<L: StepBook>(&mut self, steps: &mut Steps<L>) -> Answer
+        ensures { (frame : List ℕ) → Acts self.old (AutoCommand true) frame (answer_bytes result) self.new }
+    {
+        let first = one(b"AUTO ON");
+        match resolve(
+            self.alloc,
+            first.as_bytes(),
+            &mut self.branches,
+            &mut self.failures,
+            steps,
+        ) {
+            Ok(answer) => {
+                self.auto = true;
+                answer
+            }
+            Err(NoMemory) => no_memory(),
+        }
+    }
+
+    // The branches that failed, as long as they are kept.
+    fn failed(&self) -> Answer
+        ensures { (frame : List ℕ) → Acts self.now FailuresCommand frame (answer_bytes result) self.now }
+    {
+        match failures_text(self.alloc, self.failures.as_slice()) {
+            Ok(text) => Answer::Many(text),
+            Err(NoMemory) => no_memory(),
+        }
+    }
+
+    fn act_offer<L: StepBook>(&mut self, len: u64, frame: &[u8], steps: &mut Steps<L>) -> Answer
         ensures { Acts self.old (OfferCommand len) frame.now (answer_bytes result) self.new }
     {
         if len > LONGEST_BLOCK as u64 {
             return refused(b"X01");
         }
-        self.offer(frame)
+        self.offer(frame, steps)
     }
 
-    // The block goes to the end of the store, or the first reason against it is named.
-    fn offer(&mut self, frame: &[u8]) -> Answer
-        ensures { length frame.now ≤ longest_block → ShortOfferActs self.old frame.now (answer_bytes result) self.new }
+    // The block goes to the end of the store, and the node chooses, if it does so by itself; or the first reason against the block is named.
+    fn offer<L: StepBook>(&mut self, frame: &[u8], steps: &mut Steps<L>) -> Answer
+        ensures { length frame.now ≤ longest_block → OfferActs self.old frame.now (answer_bytes result) self.new }
     {
         if frame.len() > LONGEST_BLOCK {
             return refused(b"X01");
         }
-        offer_answer(self.store.offer(frame, &self.ledger, &self.verdicts))
-    }
-
-    // The branch that ends at this stored block takes the place of the chain's last blocks, or the first reason against it is named.
-    fn switch<L: StepBook>(&mut self, stamp: Stamp, steps: &mut Steps<L>) -> Answer
-        ensures { (frame : List ℕ) → Acts self.old (SwitchCommand stamp) frame (answer_bytes result) self.new }
-    {
-        let outcome = self
-            .store
-            .switch(stamp, &mut self.ledger, &self.verdicts, steps);
-        switch_answer(&stamp, outcome)
-    }
-
-    // The stored block of this stamp leaves the store.
-    fn forget(&mut self, stamp: Stamp) -> Answer
-        ensures { (frame : List ℕ) → Acts self.old (ForgetCommand stamp) frame (answer_bytes result) self.new }
-    {
-        if self.store.forget(stamp) {
-            forgotten()
-        } else {
-            unknown()
+        match self.branches.store_block(frame) {
+            Ok(stamp) => {
+                if !self.auto {
+                    return offer_answer(Ok(stamp));
+                }
+                choose_behind(
+                    self.alloc,
+                    stamp,
+                    &mut self.branches,
+                    &mut self.failures,
+                    steps,
+                )
+            }
+            Err(refusal) => offer_answer(Err(refusal)),
         }
     }
 }

@@ -1,0 +1,4 @@
+pub mod Stored
+pub mod Decisions
+pub mod Long
+pub mod Outside

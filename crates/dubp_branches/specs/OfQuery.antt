@@ -1,0 +1,2 @@
+-- What those above take from here of the definitions of dubp_query.
+pub use Rattle.dubp_query.specs.AnswerBytes.{answer_bytes}

@@ -1,0 +1,23 @@
+-- The state that branches make together with what was chosen among them. Protocol: choice.
+use Rattle.std.specs.Prelude.{◌≡◌, ◌+◌, Bool, true, List, map, reverse, take, Option}
+use Rattle.std.specs.Option.{option_map}
+use Rattle.dubp_atoms.specs.declared.stamp.Stamp.{Stamp}
+use Rattle.dubp_block.specs.Text.{stamp_of}
+use Rattle.dubp_resolve.specs.Choice.{Choices, choice}
+use Rattle.dubp_replay.specs.declared.failure.Failure.{Failure}
+use Rattle.dubp_replay.specs.Turns.{Branches, State, choices_of}
+
+abbrev pub state_with : Branches → Bool → List Failure → State
+state_with b auto failures = record { verdicts = b.verdicts; chain = b.chain; kept = b.kept; store = b.store; auto = auto; failures = failures }
+
+-- while the node chooses by itself
+abbrev pub choosing : Branches → List Failure → State
+choosing b failures = state_with b true failures
+
+-- this is the block to switch to
+abbrev pub IsTipOf : Branches → List Failure → Option Stamp → Type 0
+IsTipOf b failures tip = tip ≡ option_map (λ o. o.stamp) (choice (choices_of (choosing b failures)))
+
+-- what a choice depends on, with the stamps of the last blocks alone, one more than can be reversed, in ascending number
+abbrev pub seen_of : Branches → List Failure → Choices
+seen_of b failures = record (choices_of (choosing b failures)) { recent = reverse (take (b.kept + 1) (map stamp_of b.chain)) }
