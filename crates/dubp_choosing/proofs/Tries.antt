@@ -1,7 +1,7 @@
 -- What is known of a choice before it is tried, and what a failure of it changes.
 use Rattle.std.proofs.Common.{◌≡◌, ℕ, suc, ◌+◌, ◌-◌, ◌<◌, ◌≤◌, ◌||◌, Bool, true, false, not, cond, List, [], ◌∷◌, ◌++◌, map, length, drop, position, Option, Some, None, is_some, refl, sym, ap, subst, ◌∙◌, true≢false, arith, lt-ltb}
 use Rattle.std.specs.List.{AllByRecursion, list_any, position_or_len}
-use Rattle.std.specs.Option.{option_map, option_map_or}
+use Rattle.std.specs.Option.{option_map}
 use Rattle.std.proofs.lemmas.List.{length-map, map-append}
 use Rattle.dubp_atoms.specs.declared.stamp.Stamp.{Stamp}
 use Rattle.dubp_block.specs.declared.block.Block.{Block}
@@ -83,14 +83,22 @@ ready_on : (b : Branches) (fs : List Failure) → IsSound b.chain → (path : Li
 ready_on b fs sound path None joins deep fits = record {
   count = length b.chain;
   behind = refl;
-  deep = deep;
-  fits = let l = length-map b.store offered in let m = length-map path offered in omega arith;
+  deep = let d : length b.chain - 0 ≤ b.kept = deep in omega arith;
+  fits =
+      let l = length-map b.store offered in
+      let m = length-map path offered in
+      let f : (length (map offered b.store) - length (map offered path)) + (length b.chain - 0) ≤ most_stored = fits in
+      omega arith;
 }
 ready_on b fs sound path (Some s) joins deep fits = record {
   count = length b.chain - (s.number + 1);
   behind = stands_at s b.chain sound (not_false (is_among (map stamp_of b.chain) s) joins);
   deep = deep;
-  fits = let l = length-map b.store offered in let m = length-map path offered in omega arith;
+  fits =
+      let l = length-map b.store offered in
+      let m = length-map path offered in
+      let f : (length (map offered b.store) - length (map offered path)) + (length b.chain - (s.number + 1)) ≤ most_stored = fits in
+      omega arith;
 }
 
 pub ready : (b : Branches) (fs : List Failure) (tip : Stamp) → AreOffers (map offered b.store) → IsSound b.chain → IsTipOf b fs (Some tip) → IsReady b tip

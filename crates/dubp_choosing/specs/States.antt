@@ -1,5 +1,5 @@
 -- The state that branches make together with what was chosen among them. Protocol: choice.
-use Rattle.std.specs.Prelude.{◌≡◌, ◌+◌, Bool, true, List, map, reverse, take, Option}
+use Rattle.std.specs.Prelude.{◌≡◌, ◌+◌, Bool, true, List, [], ◌∷◌, map, reverse, take, Option, Some, None}
 use Rattle.std.specs.Option.{option_map}
 use Rattle.dubp_atoms.specs.declared.stamp.Stamp.{Stamp}
 use Rattle.dubp_block.specs.Text.{stamp_of}
@@ -21,3 +21,8 @@ IsTipOf b failures tip = tip ≡ option_map (λ o. o.stamp) (choice (choices_of 
 -- what a choice depends on, with the stamps of the last blocks alone, one more than can be reversed, in ascending number
 abbrev pub seen_of : Branches → List Failure → Choices
 seen_of b failures = record (choices_of (choosing b failures)) { recent = reverse (take (b.kept + 1) (map stamp_of b.chain)) }
+
+-- none or one
+abbrev pub list_of : Option Stamp → List Stamp
+list_of None = []
+list_of (Some s) = s ∷ []
