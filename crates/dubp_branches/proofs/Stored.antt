@@ -11,7 +11,7 @@ use Rattle.dubp_rules.specs.declared.rule.Rule.TheVariants.{P01}
 use Rattle.dubp_rules.specs.Table.{code_text}
 use Rattle.dubp_validity.specs.Rules.{IsTextOf}
 use Rattle.dubp_replay.specs.Answers.{branch_refused_answer, forgotten_answer, full_answer, known_answer, no_memory_answer, refused_answer, stored_answer, too_deep_answer, unknown_answer}
-use Rattle.dubp_replay.specs.Turns.{Branches, Only, RefusedBy, Stores, SwitchTurn, SwitchesBy, TriesPath, BranchesTurnOrLack, ForgetTurn, without, is_known, stored, blocks_behind, most_stored}
+use Rattle.dubp_replay.specs.Turns.{Branches, OfferTurn, Only, RefusedBy, Stores, SwitchTurn, SwitchesBy, TriesPath, ForgetTurn, without, is_known, stored, blocks_behind, most_stored}
 use Rattle.dubp_forks.specs.declared.refusals.OfferRefusal.{OfferRefusal}
 use Rattle.dubp_forks.specs.declared.refusals.OfferRefusal.TheVariants as offer
 use Rattle.dubp_forks.specs.declared.refusals.SwitchRefusal.{SwitchRefusal}
@@ -20,12 +20,13 @@ use Rattle.dubp_forks.specs.Offers.{FirstOffered, IsOffered, Offered}
 use Rattle.dubp_forks.specs.Switches.{BranchesOff, MayTry, Switched, stored_then}
 use Rattle.dubp_replay.specs.declared.command.Command.TheVariants as command
 use Rattle.dubp_branches.proofs.Outside.{without_none}
+use Rattle.dubp_branches.specs.Acting.{BranchesTurnOrLack}
 use Rattle.dubp_branches.specs.Deciding.{ShortOfferActs, offer_text, switch_text}
 
 -- ---- OFFER
 
--- the state with another store
-abbrev with_store : Branches → List Block → Branches
+-- these branches with another store
+abbrev pub with_store : Branches → List Block → Branches
 with_store old store = record { verdicts = old.verdicts; chain = old.chain; kept = old.kept; store = store }
 
 -- no block breaks the rule that its bytes are a block
@@ -72,13 +73,24 @@ full_turn old new bytes answer b o known full e same = (b, o.text, in_false _ _ 
 stored_turn : (old new : Branches) (bytes answer : List ℕ) (b : Block) → IsOffered old bytes b → is_known old (stamp_of b) ≡ false → length old.store < most_stored → answer ≡ stored_answer (stamp_of b) → new ≡ with_store old (old.store ++ b ∷ []) → Stores bytes old answer new
 stored_turn old new bytes answer b o known few e grows = (b, o.text, in_false _ _ _ known (in_false _ _ _ (is_more most_stored (length old.store) few) (e, grows)))
 
+-- a block that was stored
+pub stored_offer : (old : Branches) (bytes answer : List ℕ) (stamp : Stamp) (after : List Block) → Offered old bytes (Ok stamp) after → answer ≡ stored_answer stamp → OfferTurn old bytes answer (with_store old after)
+stored_offer old bytes answer stamp after (b, o, is, known, few, grows) e = record {
+  broken = None;
+  first = o.keeps;
+  decides = stored_turn old (with_store old after) bytes answer b o (subst (λ s. is_known old s ≡ false) is known) few (e ∙ ap stored_answer is) (ap (with_store old) grows);
+}
+
+-- where none was, the store is as before
+pub offered_none : (old : Branches) (bytes : List ℕ) (refusal : OfferRefusal) (after : List Block) → Offered old bytes (Err refusal) after → after ≡ old.store
+offered_none old bytes (offer.Unread line) after o = o.2
+offered_none old bytes (offer.Local rule) after o = o.3
+offered_none old bytes (offer.Known stamp) after o = o.4
+offered_none old bytes (offer.Full held) after o = o.5
+offered_none old bytes offer.NoMemory after o = o
+
 pub offered_acts : (old : Branches) (bytes answer : List ℕ) (r : Result Stamp OfferRefusal) (after : List Block) → Offered old bytes r after → answer ≡ offer_text r → ShortOfferActs old bytes answer (with_store old after)
-offered_acts old bytes answer (Ok stamp) after (b, o, is, known, few, grows) e =
-    inl (record {
-      broken = None;
-      first = o.keeps;
-      decides = stored_turn old (with_store old after) bytes answer b o (subst (λ s. is_known old s ≡ false) is known) few (e ∙ ap stored_answer is) (ap (with_store old) grows);
-    })
+offered_acts old bytes answer (Ok stamp) after o e = inl (stored_offer old bytes answer stamp after o e)
 offered_acts old bytes answer (Err (offer.Unread line)) after (first, refused, same) e =
     inl (record { broken = Some P01; first = first; decides = (line, refused, (e, ap (with_store old) same)) })
 offered_acts old bytes answer (Err (offer.Local rule)) after (b, text, first, same) e =

@@ -1,3 +1,4 @@
 pub mod Acting
 pub mod Deciding
+pub mod OfForks
 pub mod OfQuery

@@ -1,5 +1,5 @@
 -- One choice after another, as far as they were tried.
-use Rattle.std.proofs.Common.{◌≡◌, ℕ, List, [], ◌∷◌, ◌++◌, map, drop, Option, Some, None, refl, sym, ap, subst, ◌∙◌, append_assoc, append-nil}
+use Rattle.std.proofs.Common.{◌≡◌, ◌<◌, ℕ, List, [], ◌∷◌, ◌++◌, map, drop, Option, Some, None, refl, sym, ap, subst, ◌∙◌, append_assoc, append-nil}
 use Rattle.std.specs.List.{flat_map}
 use Rattle.std.specs.Option.{option_map}
 use Rattle.std.proofs.lemmas.List.{flat_map_more}
@@ -13,6 +13,7 @@ use Rattle.dubp_replay.specs.Answers.{failed_line, switched_answer}
 use Rattle.dubp_replay.specs.declared.failure.Failure.{Failure}
 use Rattle.dubp_replay.specs.Turns.{Branches, Chooses, Fails, IsAcceptedOn, LeadsOff, ResolvesBy, State, Succeeds, choice_line, choices_of, left_over, offered, onward, switched}
 use Rattle.dubp_choosing.specs.States.{IsTipOf, choosing}
+use Rattle.dubp_resolve.proofs.Ending.{candidates}
 use Rattle.dubp_choosing.proofs.Tries.{noted}
 
 -- these choices failed so far; whatever is tried from here on comes behind them
@@ -74,3 +75,8 @@ resolved_switched first text old b olds fs tip new r is succeeds = record {
 pub succeeds_by : (b : Branches) (fs : List Failure) (tip : Stamp) (new : Branches) (left : List Failure) (path : List Block) (count : ℕ) → LeadsOff b tip path count → IsAcceptedOn b.verdicts (drop count b.chain) path
     → new ≡ switched b path count → left ≡ left_over new.store fs → Succeeds (choosing b fs) tip (choosing new left)
 succeeds_by b fs tip new left path count leads accepted is kept = (path, count, leads, accepted, ap (choosing new) kept ∙ ap (onward (choosing b fs)) is)
+
+-- a failure takes a block out of the candidates
+pub fewer : (b : Branches) (fs : List Failure) (f : Failure) → AreOffers (map offered b.store) → left_over b.store fs ≡ fs → IsTipOf b fs (Some f.tip) → Fails (choosing b fs) f (choosing b (fs ++ f ∷ []))
+    → candidates (choices_of (choosing b (fs ++ f ∷ []))) < candidates (choices_of (choosing b fs))
+fewer b fs f offers held tip fails = (noted b fs f offers held tip fails.0 fails.1 fails.2 fails.3.0 fails.3.1 fails.3.2).fewer

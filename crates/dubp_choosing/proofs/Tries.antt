@@ -115,7 +115,7 @@ ready b fs tip offers sound e =
     })
 
 -- ---- a failure
-any_offered : (s : Stamp) (bs : List Block) → list_any (has_stamp s) (map offered bs) ≡ list_any (is_stamped s) bs
+pub any_offered : (s : Stamp) (bs : List Block) → list_any (has_stamp s) (map offered bs) ≡ list_any (is_stamped s) bs
 any_offered s [] = refl
 any_offered s (b ∷ bs) = ap (λ r. is_stamped s b || r) (any_offered s bs)
 

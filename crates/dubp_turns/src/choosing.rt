@@ -1,6 +1,6 @@
 ghost use Rattle.std.specs.Prelude.{◌≡◌, ◌++◌, ◌∷◌, [], IfOk, OnErr, OnOk, Some};
 ghost use Rattle.dubp_choosing.specs.States.{IsTipOf, choosing};
-ghost use Rattle.dubp_replay.specs.Answers.{failed_line};
+ghost use Rattle.dubp_replay.specs.Answers.{failed_line, stored_answer};
 ghost use Rattle.dubp_replay.specs.Turns.{Chooses, left_over};
 ghost use Rattle.dubp_turns.specs.Choosing.{AreTried, ChoosesBehind, TriedOne};
 ghost use Rattle.dubp_turns.specs.OfQuery.{answer_bytes};
@@ -26,14 +26,30 @@ pub(crate) fn choose_behind<T: PeopleAndMoney, L: StepBook>(
     requires { left_over branches.old.store failures.old.items ≡ failures.old.items }
     ensures { ChoosesBehind stamp branches.old failures.old.items (answer_bytes result) branches.new failures.new.items }
 {
-    let first = offer_answer(Ok(stamp));
-    match resolve(alloc, first.as_bytes(), branches, failures, steps) {
+    match resolve_behind(alloc, &stamp, branches, failures, steps) {
         Ok(answer) => answer,
         Err(NoMemory) => {
             branches.take_out(stamp);
             no_memory()
         }
     }
+}
+
+/// The same, where the answer begins with `STORED` and this stamp. `NoMemory` leaves all as before.
+fn resolve_behind<T: PeopleAndMoney, L: StepBook>(
+    alloc: Global,
+    stamp: &Stamp,
+    branches: &mut Branches<T>,
+    failures: &mut Vec<Failure>,
+    steps: &mut Steps<L>,
+) -> Result<Answer, NoMemory>
+    requires { left_over branches.old.store failures.old.items ≡ failures.old.items }
+    ensures chosen { IfOk result (λ answer. Chooses (stored_answer stamp.now) (choosing branches.old failures.old.items) (answer_bytes answer) (choosing branches.new failures.new.items)) }
+    ensures held { OnOk result (left_over branches.new.store failures.new.items ≡ failures.new.items) }
+    ensures refused { OnErr result ((branches.new ≡ branches.old) × (failures.new.items ≡ failures.old.items)) }
+{
+    let first = offer_answer(Ok(*stamp));
+    resolve(alloc, first.as_bytes(), branches, failures, steps)
 }
 
 /// Tries one choice after another, until one is switched to or none is left. The answer has the line that comes first, and one for each
@@ -116,7 +132,10 @@ fn try_one<T: PeopleAndMoney, L: StepBook>(
             Ok(false)
         }
         Err(SwitchRefusal::NoMemory) => Err(NoMemory),
-        Err(_) => unreachable!(),
+        Err(SwitchRefusal::Unknown) => unreachable!(),
+        Err(SwitchRefusal::Detached { .. }) => unreachable!(),
+        Err(SwitchRefusal::TooDeep { .. }) => unreachable!(),
+        Err(SwitchRefusal::Full { .. }) => unreachable!(),
     }
 }
 

@@ -1,4 +1,4 @@
-ghost use Rattle.std.specs.Prelude.{◌≡◌, length, ◌≤◌, ℕ, List, [], ◌∷◌, None, OnOk, OnErr};
+ghost use Rattle.std.specs.Prelude.{◌≡◌, length, ◌≤◌, ℕ, List, [], ◌∷◌, None, OnOk, OnErr, true};
 ghost use Rattle.dubp_turns.specs.Acting.{Acts, OfferActs};
 ghost use Rattle.dubp_turns.specs.OfQuery.{answer_bytes};
 ghost use Rattle.dubp_block.specs.Text.{IsBlock, block_text, stamp_of as block_stamp};
@@ -43,7 +43,7 @@ impl<T: PeopleAndMoney> Model for Node<T> {
 
     ghost coded = { Prim.hlevel (codes, block.the_row.coded) };
 
-    ghost use Rattle.dubp_turns.specs.States.{state_with};
+    ghost use Rattle.dubp_choosing.specs.States.{state_with};
 
     ghost view = { λ n. state_with n.branches n.auto n.failures.items };
 
@@ -231,6 +231,7 @@ impl<T: PeopleAndMoney> Node<T> {
         ensures { Acts self.old (OfferCommand len) frame.now (answer_bytes result) self.new }
     {
         if len > LONGEST_BLOCK as u64 {
+            self.laws();
             return refused(b"X01");
         }
         self.offer(frame, steps)

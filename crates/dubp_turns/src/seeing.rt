@@ -8,7 +8,6 @@ ghost use Rattle.dubp_turns.specs.Choosing.{list_of};
 use dubp_atoms::{NoMemory, Stamp};
 use dubp_branches::{Branches, Ledger, PeopleAndMoney};
 use dubp_replay::Failure;
-use dubp_resolve::laws::{each_is_found, last_are_enough};
 use dubp_resolve::{Offered, View, choose};
 use std::alloc::Global;
 
@@ -23,8 +22,6 @@ pub(crate) fn find_tip<T: PeopleAndMoney>(
     ensures { IfOk result (λ tip. IsTipOf branches.now failures.now tip) }
 {
     branches.laws();
-    each_is_found();
-    last_are_enough();
     let view = see(alloc, branches, failures)?;
     choose(alloc, &view)
 }
@@ -37,14 +34,15 @@ fn see<T: PeopleAndMoney>(
 ) -> Result<View, NoMemory>
     ensures { IfOk result (λ view. seen view ≡ seen_of branches.now failures.now) }
 {
+    let ledger = branches.ledger();
     let offers = offers_of(alloc, branches)?;
-    let recent = recent_of(alloc, branches.ledger())?;
+    let recent = recent_of(alloc, ledger)?;
     let failed = places_of(alloc, failures)?;
     Ok(View {
         offers,
         recent,
-        length: branches.ledger().len() as u64,
-        kept: branches.ledger().kept(),
+        length: ledger.len() as u64,
+        kept: ledger.kept(),
         failed,
     })
 }
@@ -59,15 +57,22 @@ fn offers_of<T: PeopleAndMoney>(
     let mut offers = Vec::new(alloc);
     for place in 0..branches.held() {
         let (stamp, previous) = branches.entry(place);
-        add_offer(&mut offers, Offered { stamp, previous })?;
+        add_offer(&mut offers, stamp, previous)?;
     }
     Ok(offers)
 }
 
-fn add_offer(offers: &mut Vec<Offered>, offer: Offered) -> Result<(), NoMemory>
-    ensures { OnOk result (offers.new.items ≡ offers.old.items ++ offer ∷ []) }
+fn add_offer(
+    offers: &mut Vec<Offered>,
+    stamp: Stamp,
+    previous: Option<Stamp>,
+) -> Result<(), NoMemory>
+    ensures { OnOk result (offers.new.items ≡ offers.old.items ++ record { stamp = stamp; previous = previous } ∷ []) }
 {
-    offers.push(offer).map_err(|_| NoMemory)
+    if offers.push(Offered { stamp, previous }).is_err() {
+        return Err(NoMemory);
+    }
+    Ok(())
 }
 
 /// The stamps of the last blocks of the chain, one more than can be reversed, in ascending number.

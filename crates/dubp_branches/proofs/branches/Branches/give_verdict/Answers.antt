@@ -1,15 +1,11 @@
-use Rattle.std.proofs.Common.{refl, ap, ◌∙◌}
+use Rattle.std.proofs.Common.{ap, ◌∙◌}
 use Rattle.dubp_verdict.specs.Verdicts.{verdict_of, with_verdict}
 use Rattle.dubp_forks.specs.Stores.{state_of}
-use Rattle.dubp_replay.specs.Answers.{noted_answer}
 use Rattle.dubp_replay.specs.Turns.{Branches}
-use Rattle.dubp_branches.specs.Given.{verdict_given}
-use Rattle.dubp_branches.proofs.Given.{given_one}
 use Rattle.dubp_branches.proofs.branches.Branches.give_verdict.Goals as goal
 
 pub returns-clause-given : goal.returns-clause-given
 returns-clause-given g c =
     let s = c.self.inside in
     let x = verdict_of c.args.given.0 c.args.given.1 c.args.given.2 in
-    given_one (verdict_given c.args.given) noted_answer _ _
-    (refl, ap (λ v. state_of v s.ledger s.store) c.in_ok-add.ensures.added ∙ ap (λ (old : Branches). record old { verdicts = with_verdict x old.verdicts }) c.self.view_is)
+    ap (λ v. state_of v s.ledger s.store) c.in_ok-add.ensures.added ∙ ap (λ (old : Branches). record old { verdicts = with_verdict x old.verdicts }) c.self.view_is

@@ -1,0 +1,6 @@
+pub mod Choices
+pub mod Given
+pub mod Long
+pub mod Offers
+pub mod Switches
+pub mod Turns
