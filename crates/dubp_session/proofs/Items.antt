@@ -1,12 +1,12 @@
 -- The turn of an entry is that of the command that its item has.
-use Rattle.std.proofs.Common.{◌≡◌, inl, ℕ, ◌<◌, ◌≤◌, List, [], length, Option, Some, None, refl}
+use Rattle.std.proofs.Common.{◌≡◌, ℕ, ◌<◌, ◌≤◌, List, [], length, Option, Some, None, refl}
 use Rattle.std.specs.Prelude.{codes}
 use Rattle.std.specs.Option.{MatchOption}
 use Rattle.dubp_atoms.specs.Letters.{LF}
 use Rattle.dubp_validity.specs.Rules.{longest_block}
 use Rattle.dubp_replay.specs.Answers.{bad_answer, refused_answer}
 use Rattle.dubp_replay.specs.declared.command.Command.{Command}
-use Rattle.dubp_replay.specs.Turns.{State, IsServed, frame_of}
+use Rattle.dubp_replay.specs.Turns.{State, IsServed, frame_of, left_over}
 use Rattle.dubp_script.specs.Spelling.{Says}
 use Rattle.dubp_script.specs.Framed.{framed_command}
 use Rattle.dubp_script.specs.declared.framed.Framed.{Framed}
@@ -54,17 +54,17 @@ frame_turn old new head frame answer last c ends says of acts = record {
 }
 
 -- a frame that is too long is refused, whichever command heads it
-long_by : (old : State) (bytes answer : List ℕ) (f : Framed) → longest_block < length bytes → answer ≡ refused_answer (codes "X01") → IsServed old (Some (framed_command f, bytes)) answer old
-long_by old bytes answer (framed.Block len) long is = inl (long_block_turn old bytes answer long is)
-long_by old bytes answer (framed.Offer len) long is = inl (long_offer_turn old bytes answer long is)
+long_by : (old : State) → left_over old.store old.failures ≡ old.failures → (bytes answer : List ℕ) (f : Framed) → longest_block < length bytes → answer ≡ refused_answer (codes "X01") → IsServed old (Some (framed_command f, bytes)) answer old
+long_by old held bytes answer (framed.Block len) long is = long_block_turn old held len bytes answer long is
+long_by old held bytes answer (framed.Offer len) long is = long_offer_turn old held len bytes answer long is
 
-pub long_frame_turn : (old : State) (head frame answer : List ℕ) (last : ℕ) → last ≡ LF → HeadsFrame head (length frame) → longest_block < length frame → answer ≡ refused_answer (codes "X01") → EntryServed old (Frame head frame last) answer old
-long_frame_turn old head frame answer last ends h long is =
+pub long_frame_turn : (old : State) → left_over old.store old.failures ≡ old.failures → (head frame answer : List ℕ) (last : ℕ) → last ≡ LF → HeadsFrame head (length frame) → longest_block < length frame → answer ≡ refused_answer (codes "X01") → EntryServed old (Frame head frame last) answer old
+long_frame_turn old held head frame answer last ends h long is =
     let f = heads_framed head (length frame) h in
     record {
       asked = Some (framed_command f.0, frame);
       means = (ends, f.1, refl);
-      served = long_by old frame answer f.0 long is;
+      served = long_by old held frame answer f.0 long is;
     }
 
 pub bad_turn : (old : State) (text answer : List ℕ) → IsBad text → answer ≡ bad_answer → EntryServed old (Line text) answer old

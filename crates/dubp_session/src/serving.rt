@@ -64,7 +64,7 @@ fn answer_of<T: PeopleAndMoney, L: StepBook>(
         Item::LongLine => bad(),
         Item::Line(line) => answer_line(node, line, steps),
         Item::Frame(framed, frame, last) => answer_frame(node, framed, frame, last, steps),
-        Item::LongFrame(last) => answer_long_frame(last),
+        Item::LongFrame(last) => answer_long_frame(node, last),
     }
 }
 
@@ -100,9 +100,10 @@ fn answer_frame<T: PeopleAndMoney, L: StepBook>(
 }
 
 // The frame was read past, and the node is left as it is.
-fn answer_long_frame(last: u8) -> Answer
-    ensures { (old : State) (head payload : List ℕ) → HeadsFrame head (length payload) → longest_block < length payload → EntryServed old (frame_entry head payload last) (answer_bytes result) old }
+fn answer_long_frame<T: PeopleAndMoney>(node: &Node<T>, last: u8) -> Answer
+    ensures { (head payload : List ℕ) → HeadsFrame head (length payload) → longest_block < length payload → EntryServed node.now (frame_entry head payload last) (answer_bytes result) node.now }
 {
+    node.laws();
     if last == b'\n' {
         refused(b"X01")
     } else {

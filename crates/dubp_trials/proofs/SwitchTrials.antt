@@ -8,7 +8,7 @@ use Rattle.dubp_chain.specs.Chains.{Chain}
 use Rattle.dubp_validity.specs.Rules.{IsTextOf}
 use Rattle.dubp_replay.specs.declared.command.Command.TheVariants.{Switch, Forget}
 use Rattle.dubp_replay.specs.Answers.{stored_answer, known_answer, full_answer, switched_answer, too_deep_answer, detached_answer, forgotten_answer}
-use Rattle.dubp_replay.specs.Turns.{State, Turn, Stores, IsPath, SwitchesBy, IsAcceptedOn, blocks_behind, switched, accepted, is_known}
+use Rattle.dubp_replay.specs.Turns.{Branches, BranchesTurn, Stores, IsPath, SwitchesBy, IsAcceptedOn, blocks_behind, switched, accepted, is_known}
 use Rattle.dubp_trials.specs.Samples.{key0, key1, key2, unread, empty_block, block0, block1, block2, one_block, two_blocks, three_blocks}
 use Rattle.dubp_trials.proofs.Apart.{is_itself}
 
@@ -22,7 +22,7 @@ branch2 = record (empty_block 2 key1 1150 1150) { previous = Some (block_hash_of
 abbrev stray : Block
 stray = empty_block 7 key0 1150 1150
 
-abbrev keeping : Chain → ℕ → List Block → State
+abbrev keeping : Chain → ℕ → List Block → Branches
 keeping c kept store = record { verdicts = []; chain = c; kept = kept; store = store }
 
 abbrev stored_branch : List Block
@@ -51,7 +51,7 @@ all_behind : blocks_behind three_blocks None ≡ Some 3
 all_behind = refl
 
 -- the path is the chain then and has left the store; the blocks that were reversed stand there behind the others, oldest first
-abbrev switched_state : ℕ → State
+abbrev switched_state : ℕ → Branches
 switched_state kept = keeping (branch2 ∷ branch1 ∷ one_block) kept (stray ∷ block1 ∷ block2 ∷ [])
 
 store_after : switched (keeping three_blocks 3 stored_branch) path 2 ≡ switched_state 3
@@ -61,7 +61,7 @@ store_after = rw (itself branch2, itself branch1)
 kept_after : ((switched (keeping three_blocks 2 []) path 2).kept ≡ 2) × ((switched (keeping three_blocks 100 []) path 1).kept ≡ 100)
 kept_after = (refl, refl)
 
-switches : IsAcceptedOn [] one_block path → Turn (keeping three_blocks 3 stored_branch) (Switch (stamp_of branch2)) [] (switched_answer (stamp_of branch2)) (switched_state 3)
+switches : IsAcceptedOn [] one_block path → BranchesTurn (keeping three_blocks 3 stored_branch) (Switch (stamp_of branch2)) [] (switched_answer (stamp_of branch2)) (switched_state 3)
 switches each =
     record {
       path = path;
@@ -78,7 +78,7 @@ too_deep : SwitchesBy (keeping three_blocks 1 []) (stamp_of branch2) path 2 (too
 too_deep = (refl, refl)
 
 -- the path ends at a stamp that is in neither store nor chain
-detached : Turn (keeping three_blocks 3 (stray ∷ [])) (Switch (stamp_of stray)) [] (detached_answer (record { number = 6; hash = unread })) (keeping three_blocks 3 (stray ∷ []))
+detached : BranchesTurn (keeping three_blocks 3 (stray ∷ [])) (Switch (stamp_of stray)) [] (detached_answer (record { number = 6; hash = unread })) (keeping three_blocks 3 (stray ∷ []))
 detached =
     record {
       path = stray ∷ [];
@@ -117,7 +117,7 @@ none_is_stored bytes store full unknown text = (stray, text, rw (unknown, full) 
 
 -- ---- FORGET, and a stored block that is accepted
 
-forgets : Turn (keeping three_blocks 3 stored_branch) (Forget (stamp_of branch2)) [] forgotten_answer (keeping three_blocks 3 (branch1 ∷ stray ∷ []))
+forgets : BranchesTurn (keeping three_blocks 3 stored_branch) (Forget (stamp_of branch2)) [] forgotten_answer (keeping three_blocks 3 (branch1 ∷ stray ∷ []))
 forgets = rw (itself branch2) (refl, refl)
 
 accepted_leaves_store : accepted (keeping one_block 1 stored_branch) branch1 ≡ keeping (branch1 ∷ one_block) 2 (stray ∷ branch2 ∷ [])

@@ -11,20 +11,20 @@ use Rattle.dubp_replay.specs.declared.query.Query.TheVariants as query
 use Rattle.dubp_chain.specs.Chains.{Chain}
 use Rattle.dubp_verdict.specs.Verdicts.{Verdict, Verdicts, same_verdict, with_verdict}
 use Rattle.dubp_replay.specs.declared.command.Command.{Command}
-use Rattle.dubp_replay.specs.declared.command.Command.TheVariants.{Verdict as Note, Block, Offer, Revert, Switch, Forget, Statement, Ask}
-use Rattle.dubp_replay.specs.Turns.{State, start, IsServed, Turn, TakesMemory}
+use Rattle.dubp_replay.specs.declared.command.Command.TheVariants.{Verdict as Note, Auto, Block, Failures, Offer, Revert, Switch, Forget, Statement, Ask}
+use Rattle.dubp_replay.specs.Turns.{Branches, BranchesTurn, IsServed, State, TakesMemory, Turn, no_branches, start}
 use Rattle.dubp_block.specs.declared.block.Block.{Block as Written}
 use Rattle.dubp_trials.specs.Samples.{key0, key3, unread, two_blocks, three_blocks, output_to, spending, spending_block}
 use Rattle.dubp_trials.proofs.Checks.{condition_of}
 use Rattle.dubp_trials.proofs.MoreSamples.{key9}
 
 -- the command is answered by this line and leads there, and in no other way
-record Gives (old : State) (command : Command) (line : List ℕ) (after : State) : Type 0 where
-  is : Turn old command [] (unlines (line ∷ [])) after
-  only : (answer : List ℕ) (new : State) → Turn old command [] answer new → (answer ≡ unlines (line ∷ [])) × (new ≡ after)
+record Gives (old : Branches) (command : Command) (line : List ℕ) (after : Branches) : Type 0 where
+  is : BranchesTurn old command [] (unlines (line ∷ [])) after
+  only : (answer : List ℕ) (new : Branches) → BranchesTurn old command [] answer new → (answer ≡ unlines (line ∷ [])) × (new ≡ after)
 
 -- all blocks of the chain can be reversed
-abbrev keeping : Chain → ℕ → State
+abbrev keeping : Chain → ℕ → Branches
 keeping c kept = record { verdicts = []; chain = c; kept = kept; store = [] }
 
 -- ---- REVERT
@@ -37,7 +37,7 @@ reverts_one : Gives (keeping three_blocks 3) (Revert 1) (codes "REVERTED 1") (ke
 unfolding digits
 reverts_one = record { is = (refl, refl); only = λ answer new turn. turn }
 
-reverts_none : Gives start (Revert 0) (codes "REVERTED 0") start
+reverts_none : Gives no_branches (Revert 0) (codes "REVERTED 0") no_branches
 unfolding digits
 reverts_none = record { is = (refl, refl); only = λ answer new turn. turn }
 
@@ -46,10 +46,10 @@ reverts_none = record { is = (refl, refl); only = λ answer new turn. turn }
 abbrev a_verdict : Verdict
 a_verdict = record { key = key0; hash = unread; sig = unread }
 
-abbrev noted : State
-noted = record start { verdicts = a_verdict ∷ [] }
+abbrev noted : Branches
+noted = record no_branches { verdicts = a_verdict ∷ [] }
 
-notes_once : Gives start (Note key0 unread unread) (codes "NOTED") noted
+notes_once : Gives no_branches (Note key0 unread unread) (codes "NOTED") noted
 notes_once = record { is = (refl, refl); only = λ answer new turn. turn }
 
 notes_again : Gives noted (Note key0 unread unread) (codes "NOTED") noted
@@ -74,10 +74,10 @@ noted_twice t v =
 abbrev a_stamp : Stamp
 a_stamp = record { number = 1; hash = unread }
 
-forgets_unknown : Gives start (Forget a_stamp) (codes "UNKNOWN") start
+forgets_unknown : Gives no_branches (Forget a_stamp) (codes "UNKNOWN") no_branches
 forgets_unknown = record { is = (refl, refl); only = λ answer new turn. turn }
 
-switches_to_unknown : Gives start (Switch a_stamp) (codes "UNKNOWN") start
+switches_to_unknown : Gives no_branches (Switch a_stamp) (codes "UNKNOWN") no_branches
 switches_to_unknown = record {
   is = record { path = []; end = Some a_stamp; is = (refl, refl); goes = (refl, refl) };
   only = λ answer new turn. turn.goes;
@@ -113,7 +113,24 @@ tells_a_payment = record { is = (refl, refl); only = λ answer new turn. turn }
 what_is_no_command_is_bad : IsServed start None (codes "BAD" ++ 10 ∷ []) start
 what_is_no_command_is_bad = (refl, refl)
 
+-- ---- AUTO and FAILED, where nothing is stored
+
+chooses_none : Turn start (Auto true) [] (unlines (codes "AUTO ON" ∷ [])) (record start { auto = true })
+chooses_none = record { lines = []; resolves = (refl, refl); text = refl }
+
+chooses_no_more : (answer : List ℕ) (new : State) → Turn (record start { auto = true }) (Auto false) [] answer new → (answer ≡ unlines (codes "AUTO OFF" ∷ [])) × (new ≡ start)
+chooses_no_more answer new turn = turn
+
+shows_no_failure : (answer : List ℕ) (new : State) → Turn start Failures [] answer new → (answer ≡ unlines (codes "END" ∷ [])) × (new ≡ start)
+shows_no_failure answer new turn = turn
+
 -- ---- memory
+
+stops_in_place : ¬ TakesMemory (Auto false)
+stops_in_place takes = absurd cc
+
+chooses_with_room : TakesMemory (Auto true)
+chooses_with_room = refl
 
 reverts_in_place : (count : ℕ) → ¬ TakesMemory (Revert count)
 reverts_in_place count takes = takes

@@ -13,8 +13,8 @@ module _ (old : State) (held : left_over old.store old.failures ≡ old.failures
   same : old ≡ onward old (branches_of old)
   same = sym (onward_same old (branches_of old) held refl)
 
-  pub long_block_turn : (bytes answer : List ℕ) → longest_block < length bytes → answer ≡ refused_answer (codes "X01") → IsServed old (Some (command.Block (length bytes), bytes)) answer old
-  long_block_turn bytes answer long is = inl (branches_of old, branches.long_block_turn (branches_of old) bytes answer long is, same)
+  pub long_block_turn : (len : ℕ) (bytes answer : List ℕ) → longest_block < length bytes → answer ≡ refused_answer (codes "X01") → IsServed old (Some (command.Block len, bytes)) answer old
+  long_block_turn len bytes answer long is = inl (branches_of old, branches.long_block_turn (branches_of old) bytes answer long is, same)
 
-  pub long_offer_turn : (bytes answer : List ℕ) → longest_block < length bytes → answer ≡ refused_answer (codes "X01") → IsServed old (Some (command.Offer (length bytes), bytes)) answer old
-  long_offer_turn bytes answer long is = inl (goes_aside old old bytes answer (branches_of old) (branches.long_offer_turn (branches_of old) bytes answer long is) refl same)
+  pub long_offer_turn : (len : ℕ) (bytes answer : List ℕ) → longest_block < length bytes → answer ≡ refused_answer (codes "X01") → IsServed old (Some (command.Offer len, bytes)) answer old
+  long_offer_turn len bytes answer long is = inl (goes_aside old old bytes answer (branches_of old) (branches.long_offer_turn (branches_of old) bytes answer long is) refl same)

@@ -1,5 +1,5 @@
 -- Turns of the branches, as turns of the node.
-use Rattle.std.proofs.Common.{◌≡◌, ◌∙◌, ◌⊎◌, inl, inr, ◌<◌, ◌+◌, ℕ, Bool, true, false, List, [], ◌∷◌, ◌++◌, length, Result, Ok, Err, refl, sym, ap, subst, arith, length-append, ◌||◌, true≢false, not, codes}
+use Rattle.std.proofs.Common.{◌≡◌, ◌∙◌, ◌⊎◌, inl, inr, ◌<◌, ◌+◌, ℕ, Bool, true, false, List, [], ◌∷◌, ◌++◌, length, Result, Ok, Err, refl, sym, ap, subst, arith, length-append, ◌||◌, true≢false, codes}
 use Rattle.std.specs.List.{list_any}
 use Rattle.std.proofs.lemmas.List.Folds.{list_any-append}
 use Rattle.dubp_atoms.specs.declared.stamp.Stamp.{Stamp}
@@ -99,14 +99,6 @@ module _ (old : State) (held : left_over old.store old.failures ≡ old.failures
 
 pub held_left : (store : List Block) (fs left : List Failure) → left ≡ left_over store fs → left_over store left ≡ left
 held_left store fs left is = subst (λ (l : List Failure). left_over store l ≡ l) (sym is) (left_twice store fs)
-
-pub is_off : (auto : Bool) → not auto ≡ true → auto ≡ false
-is_off true e = absurd (true≢false (sym e))
-is_off false e = refl
-
-pub is_on : (auto : Bool) → not auto ≡ false → auto ≡ true
-is_on true e = refl
-is_on false e = absurd (true≢false e)
 
 -- a frame that is too long
 pub long_offer_acts : (old : State) → left_over old.store old.failures ≡ old.failures → (len : ℕ) (frame answer : List ℕ) → longest_block < len → answer ≡ refused_answer (codes "X01") → Acts old (command.Offer len) frame answer old

@@ -183,7 +183,8 @@ impl<T: PeopleAndMoney> Node<T> {
         ensures given { OnOk result (IsGivenAll (verdict_given given ∷ []) self.old self.new) }
         ensures refused { OnErr result (self.new ≡ self.old) }
     {
-        self.branches.give_verdict(given)
+        self.branches.give_verdict(given)?;
+        Ok(())
     }
 
     // The node chooses from now on, and at once; or no longer.

@@ -3,7 +3,7 @@ use Rattle.dubp_replay.specs.Turns.{State}
 use Rattle.dubp_choosing.specs.States.{state_with}
 use Rattle.dubp_turns.specs.Acting.{OfferActs}
 use Rattle.dubp_turns.specs.OfQuery.{answer_bytes}
-use Rattle.dubp_turns.proofs.Turns.{held_behind, is_off, is_on, kept_behind, offer_chooses, offer_quietly, offer_refused}
+use Rattle.dubp_turns.proofs.Turns.{held_behind, kept_behind, offer_chooses, offer_quietly, offer_refused}
 use Rattle.dubp_turns.proofs.node.Node.offer.Goals as goal
 
 pub invariant_of-self : goal.invariant_of-self
@@ -16,7 +16,7 @@ returns-then-not-self g c = λ short.
     let s = c.self.inside in
     subst (λ (x : State). OfferActs x c.args.frame.now (answer_bytes c.offer_answer.result) (state_with c.store_block.new.self s.auto s.failures.items)) c.self.view_is
     (offer_quietly (state_with s.branches s.auto s.failures.items) c.self.invariant c.args.frame.now c.in-Ok.stamp c.store_block.new.self c.in-Ok.ensures.offered c.store_block.ensures.same
-    (answer_bytes c.offer_answer.result) c.offer_answer.ensures (is_off s.auto c.if-not-self.true))
+    (answer_bytes c.offer_answer.result) c.offer_answer.ensures c.if-not-self.true)
 
 pub choose_behind-requires : goal.choose_behind-requires
 choose_behind-requires g c =
@@ -34,11 +34,11 @@ returns-else-not-self g c = λ short.
     let s = c.self.inside in
     subst (λ (x : State). OfferActs x c.args.frame.now (answer_bytes c.choose_behind.result) (state_with c.choose_behind.new.branches s.auto c.choose_behind.new.failures.items)) c.self.view_is
     (offer_chooses (state_with s.branches s.auto s.failures.items) c.self.invariant c.args.frame.now c.in-Ok.stamp c.store_block.new.self c.in-Ok.ensures.offered c.store_block.ensures.same
-    (answer_bytes c.choose_behind.result) c.choose_behind.new.branches c.choose_behind.new.failures.items c.choose_behind.ensures (is_on s.auto c.if-not-self.false))
+    (answer_bytes c.choose_behind.result) c.choose_behind.new.branches c.choose_behind.new.failures.items c.choose_behind.ensures c.if-not-self.false)
 
 pub returns-in-Err : goal.returns-in-Err
 returns-in-Err g c = λ short.
     let s = c.self.inside in
-    subst (λ (x : State). OfferActs x c.args.frame.now (answer_bytes c.offer_answer.result) (state_with c.store_block.new.self s.auto s.failures.items)) c.self.view_is
-    (offer_refused (state_with s.branches s.auto s.failures.items) c.self.invariant c.args.frame.now (answer_bytes c.offer_answer.result) c.in-Err.refusal c.store_block.new.self c.in-Err.ensures.offered c.store_block.ensures.same
-    c.offer_answer.ensures)
+    subst (λ (x : State). OfferActs x c.args.frame.now (answer_bytes c.offer_answer-in-Err.result) (state_with c.store_block.new.self s.auto s.failures.items)) c.self.view_is
+    (offer_refused (state_with s.branches s.auto s.failures.items) c.self.invariant c.args.frame.now (answer_bytes c.offer_answer-in-Err.result) c.in-Err.refusal c.store_block.new.self c.in-Err.ensures.offered c.store_block.ensures.same
+    c.offer_answer-in-Err.ensures)
