@@ -293,7 +293,8 @@ impl<T: PeopleAndMoney> Branches<T> {
     pub fn switch<L: StepBook>(&mut self, stamp: Stamp, steps: &mut Steps<L>) -> Answer
         ensures { (frame : List ℕ) → BranchesActs self.old (SwitchCommand stamp) frame (answer_bytes result) self.new }
     {
-        switch_answer(&stamp, self.switch_to(stamp, steps))
+        let outcome = self.switch_to(stamp, steps);
+        switch_answer(&stamp, outcome)
     }
 
     /// The turn of FORGET: the stored block of this stamp leaves the store. It takes no memory.
