@@ -1,0 +1,35 @@
+-- Laws of turns in which the node chooses, each of which a public function without a body promises. Protocol: choice.
+use Rattle.std.specs.Prelude.{◌≡◌, true, List, map, Option, Some, ⊤}
+use Rattle.std.specs.List.{AllByRecursion, list_any}
+use Rattle.std.specs.Option.{option_map}
+use Rattle.dubp_atoms.specs.declared.stamp.Stamp.{Stamp}
+use Rattle.dubp_block.specs.declared.block.Block.{Block}
+use Rattle.dubp_block.specs.Text.{stamp_of}
+use Rattle.dubp_resolve.specs.Choice.{choice, is_among}
+use Rattle.dubp_resolve.specs.Known.{AreOffers}
+use Rattle.dubp_resolve.specs.Resolve.{HasOneResult, IsDetermined, Line, Switched, Failed}
+use Rattle.dubp_replay.specs.declared.failure.Failure.{Failure}
+use Rattle.dubp_replay.specs.Turns.{Fails, IsPath, ResolvesBy, State, Succeeds, branches_of, choices_of}
+
+-- a switch has one result
+abbrev pub SwitchesOneWay : Type 0
+SwitchesOneWay = HasOneResult (λ (f : Failure). f.tip) (λ f. f.at) choices_of Succeeds Fails
+
+-- one list of lines, one state
+abbrev pub ResolvesOneWay : Type 0
+ResolvesOneWay = IsDetermined (λ (f : Failure). f.tip) (λ f. f.at) choices_of Succeeds Fails
+
+abbrev pub IsFailure : Line Failure → Type 0
+IsFailure (Switched tip) = ⊥
+IsFailure (Failed f) = ⊤
+
+-- failures alone change nothing but the failures that are noted
+abbrev pub FailingKeepsAll : Type 0
+FailingKeepsAll =
+    (old : State) (lines : List (Line Failure)) (new : State) → ResolvesBy old lines new → AllByRecursion IsFailure lines → (branches_of new ≡ branches_of old) × (new.auto ≡ old.auto)
+
+-- where a branch failed at one of these blocks, none that goes on from them is the choice
+abbrev pub FailedIsNotTried : Type 0
+FailedIsNotTried =
+    (s : State) → AreOffers (choices_of s).offers → (tip : Stamp) (path : List Block) (end : Option Stamp) → IsPath s.store tip path end
+    → list_any (λ b. is_among (map (λ (f : Failure). f.at) s.failures) (stamp_of b)) path ≡ true → option_map (λ o. o.stamp) (choice (choices_of s)) ≡ Some tip → ⊥

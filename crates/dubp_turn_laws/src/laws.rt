@@ -1,0 +1,21 @@
+ghost use Rattle.dubp_turn_laws.specs.Laws.{FailedIsNotTried, FailingKeepsAll, ResolvesOneWay, SwitchesOneWay};
+
+/// A switch to a branch has one result: it leads to one state, or it fails at one block, by one rule, and not both.
+pub fn switches_one_way()
+    ensures { SwitchesOneWay }
+{}
+
+/// What is tried from a state on, one choice after another, has one list of lines and leads to one state.
+pub fn resolves_one_way()
+    ensures { ResolvesOneWay }
+{}
+
+/// Where each choice that was tried failed, the verdicts, the chain, what of it can be reversed and the stored blocks are as before.
+pub fn failing_keeps_all()
+    ensures { FailingKeepsAll }
+{}
+
+/// A branch that has a block at which one failed before is not chosen.
+pub fn failed_is_not_tried()
+    ensures { FailedIsNotTried }
+{}
