@@ -11,7 +11,7 @@ ghost use Rattle.dubp_forks.specs.Offers.{Offered};
 ghost use Rattle.dubp_forks.specs.Stores.{AreStored};
 ghost use Rattle.dubp_forks.specs.Switches.{Switched};
 ghost use Rattle.dubp_replay.specs.Turns.{is_stamped, no_branches, previous_stamp, without};
-ghost use Rattle.dubp_replay.specs.declared.command.Command.TheVariants.{Ask as AskCommand, Block as BlockCommand, Forget as ForgetCommand, Offer as OfferCommand, Revert as RevertCommand, Switch as SwitchCommand, Verdict as VerdictCommand};
+ghost use Rattle.dubp_replay.specs.declared.command.Command.TheVariants.{Ask as AskCommand, Block as BlockCommand, Forget as ForgetCommand, Offer as OfferCommand, Revert as RevertCommand, Statement as StatementCommand, Switch as SwitchCommand, Verdict as VerdictCommand};
 
 use crate::texts::{
     accepted, forgotten, no_memory, noted, offer_answer, refusal_answer, refused, reverted,
@@ -23,7 +23,7 @@ use dubp_block::{Block, ReadRefusal, read_block};
 use dubp_forks::{
     Ledger, OfferRefusal, PeopleAndMoney, Store, SubmitRefusal, SwitchRefusal, TooDeep,
 };
-use dubp_query::{Answer, Query, answer};
+use dubp_query::{Answer, CondText, Query, answer, statement_answer};
 use dubp_verdict::Verdicts;
 use std::alloc::Global;
 use std::marker::Model;
@@ -124,6 +124,16 @@ impl<T: PeopleAndMoney> Branches<T> {
         ensures { (frame : List ℕ) → BranchesActs self.now (AskCommand query.now) frame (answer_bytes result) self.now }
     {
         match answer(self.alloc, &self.ledger, query) {
+            Ok(answer) => answer,
+            Err(_) => no_memory(),
+        }
+    }
+
+    /// The answer to STATEMENT: the moves of the condition of this text; nothing changes.
+    pub fn statement(&self, cond: &CondText) -> Answer
+        ensures { (frame : List ℕ) → BranchesActs self.now (StatementCommand cond.now) frame (answer_bytes result) self.now }
+    {
+        match statement_answer(self.alloc, &self.ledger, cond) {
             Ok(answer) => answer,
             Err(_) => no_memory(),
         }

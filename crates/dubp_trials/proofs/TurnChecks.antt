@@ -87,8 +87,8 @@ switches_to_unknown = record {
 
 -- the moves of the condition are told in these lines, and nothing else happens
 record Tells (c : Chain) (cond : Text) (lines : List (List ℕ)) : Type 0 where
-  is : Turn (keeping c 0) (Statement (record { items = cond })) [] (unlines lines) (keeping c 0)
-  only : (answer : List ℕ) (new : State) → Turn (keeping c 0) (Statement (record { items = cond })) [] answer new → (answer ≡ unlines lines) × (new ≡ keeping c 0)
+  is : BranchesTurn (keeping c 0) (Statement (record { items = cond })) [] (unlines lines) (keeping c 0)
+  only : (answer : List ℕ) (new : Branches) → BranchesTurn (keeping c 0) (Statement (record { items = cond })) [] answer new → (answer ≡ unlines lines) × (new ≡ keeping c 0)
 
 abbrev dividend_told : List ℕ
 dividend_told = codes "MOVE 2 MADE 1000:0:D:" ++ (key0 ++ codes ":2 1000")

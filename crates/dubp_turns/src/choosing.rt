@@ -8,9 +8,7 @@ ghost use Rattle.dubp_turns.specs.OfQuery.{answer_bytes};
 use crate::seeing::find_tip;
 use crate::texts::{add, failed_text, switched_text};
 use dubp_atoms::{NoMemory, Stamp, Steps};
-use dubp_branches::{
-    Answer, Branches, PeopleAndMoney, SwitchRefusal, no_memory, offer_answer,
-};
+use dubp_branches::{Answer, Branches, PeopleAndMoney, SwitchRefusal, no_memory, offer_answer};
 use dubp_replay::Failure;
 use std::alloc::Global;
 use std::sync::ledger::Ledger as StepBook;
@@ -140,11 +138,7 @@ fn try_one<T: PeopleAndMoney, L: StepBook>(
 }
 
 /// The failure is noted, and its line written. `NoMemory` leaves the failures as they were.
-fn note(
-    failure: Failure,
-    failures: &mut Vec<Failure>,
-    lines: &mut Vec<u8>,
-) -> Result<(), NoMemory>
+fn note(failure: Failure, failures: &mut Vec<Failure>, lines: &mut Vec<u8>) -> Result<(), NoMemory>
     ensures failures { OnOk result (failures.new.items ≡ failures.old.items ++ failure ∷ []) }
     ensures lines { OnOk result (lines.new.items ≡ lines.old.items ++ failed_line failure) }
     ensures refused { OnErr result (failures.new.items ≡ failures.old.items) }

@@ -5,15 +5,15 @@ ghost use Rattle.dubp_block.specs.Text.{IsBlock, block_text, stamp_of as block_s
 ghost use Rattle.dubp_validity.specs.Rules.{longest_block};
 ghost use Rattle.dubp_turns.specs.Given.{IsGivenAll, block_given, verdict_given};
 ghost use Rattle.dubp_replay.specs.Turns.{left_over, start};
-ghost use Rattle.dubp_replay.specs.declared.command.Command.TheVariants.{Ask as AskCommand, Auto as AutoCommand, Block as BlockCommand, Failures as FailuresCommand, Forget as ForgetCommand, Offer as OfferCommand, Revert as RevertCommand, Switch as SwitchCommand, Verdict as VerdictCommand};
+ghost use Rattle.dubp_replay.specs.declared.command.Command.TheVariants.{Ask as AskCommand, Auto as AutoCommand, Block as BlockCommand, Failures as FailuresCommand, Forget as ForgetCommand, Offer as OfferCommand, Revert as RevertCommand, Statement as StatementCommand, Switch as SwitchCommand, Verdict as VerdictCommand};
 
 use crate::choosing::{choose_behind, let_go, resolve};
 use crate::texts::failures_text;
 use dubp_atoms::{Hash, Key, NoMemory, Secret, Sig, Stamp, Steps};
 use dubp_block::Block;
 use dubp_branches::{
-    Answer, Branches, LONGEST_BLOCK, Ledger, PeopleAndMoney, Query, no_memory, offer_answer, one,
-    refused,
+    Answer, Branches, CondText, LONGEST_BLOCK, Ledger, PeopleAndMoney, Query, no_memory,
+    offer_answer, one, refused,
 };
 use dubp_replay::{Command, Failure};
 use std::alloc::Global;
@@ -92,7 +92,7 @@ impl<T: PeopleAndMoney> Node<T> {
             Command::Offer { len } => self.act_offer(*len, frame, steps),
             Command::Switch { stamp } => self.switch(*stamp, steps),
             Command::Forget { stamp } => self.forget(*stamp),
-            Command::Statement { cond: _ } => no_memory(),
+            Command::Statement { cond } => self.statement(cond),
             Command::Auto { on } => self.set_auto(*on, steps),
             Command::Failures => self.failed(),
             Command::Ask(query) => self.ask(query),
@@ -120,6 +120,13 @@ impl<T: PeopleAndMoney> Node<T> {
         ensures { (frame : List ℕ) → Acts self.now (AskCommand query.now) frame (answer_bytes result) self.now }
     {
         self.branches.ask(query)
+    }
+
+    // The moves of the condition are told, and nothing changes.
+    fn statement(&self, cond: &CondText) -> Answer
+        ensures { (frame : List ℕ) → Acts self.now (StatementCommand cond.now) frame (answer_bytes result) self.now }
+    {
+        self.branches.statement(cond)
     }
 
     // The verdict joins those that were given.

@@ -76,10 +76,7 @@ fn add_offer(
 }
 
 /// The stamps of the last blocks of the chain, one more than can be reversed, in ascending number.
-fn recent_of<T: PeopleAndMoney>(
-    alloc: Global,
-    ledger: &Ledger<T>,
-) -> Result<Vec<Stamp>, NoMemory>
+fn recent_of<T: PeopleAndMoney>(alloc: Global, ledger: &Ledger<T>) -> Result<Vec<Stamp>, NoMemory>
     ensures { IfOk result (λ recent. recent.items ≡ reverse (take (ledger.now.kept + 1) (map block_stamp ledger.now.chain))) }
 {
     let mut recent = Vec::new(alloc);

@@ -36,8 +36,7 @@ unreachable-requires-in-Err-Full g c =
 pub returns-in-Ok-clause-tried : goal.returns-in-Ok-clause-tried
 returns-in-Ok-clause-tried g c =
     let b = c.args.branches.now in
-    let fs = c.args.failures.now.items in
-    (
+    let fs = c.args.failures.now.items in (
       succeeded b fs c.args.tip c.switch_to.new.self c.let_go.new.failures.items c.in-Ok.ensures c.let_go.ensures,
       held_left c.switch_to.new.self.store fs c.let_go.new.failures.items c.let_go.ensures,
       c.in_ok-add.ensures ∙ ap (λ l. c.args.lines.now.items ++ l) (c.as_slice.ensures.value ∙ c.switched_text.ensures),

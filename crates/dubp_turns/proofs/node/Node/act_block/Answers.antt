@@ -11,7 +11,7 @@ pub invariant_of-self : goal.invariant_of-self
 invariant_of-self g c = held_left c.act_block-answer.new.self.store c.self.inside.failures.items c.let_go.new.failures.items c.let_go.ensures
 
 pub returns : goal.returns
-returns g c = 
+returns g c =
     let s = c.self.inside in
     let old = state_with s.branches s.auto s.failures.items in
     subst (λ (x : State). Acts x (Block c.args.len) c.args.frame.now (answer_bytes c.act_block-answer.result) (state_with c.act_block-answer.new.self s.auto c.let_go.new.failures.items)) c.self.view_is
