@@ -291,9 +291,9 @@ pub record OfferGoesOn (old : State) (bytes answer : List ℕ) (new : State) : T
   pub branches : Branches
   pub offers : OfferTurn (branches_of old) bytes first branches
   pub goes_on :
-    MatchBool (old.auto && nat_lt (length old.store) (length branches.store))
-    (Chooses first (onward old branches) answer new)
-    (Only first (onward old branches) answer new)
+      MatchBool (old.auto && nat_lt (length old.store) (length branches.store))
+      (Chooses first (onward old branches) answer new)
+      (Only first (onward old branches) answer new)
 
 -- ---- turns and runs
 
