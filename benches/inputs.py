@@ -1,4 +1,5 @@
 """Makes the inputs that are measured, as pieces of bytes."""
+import copy
 import pathlib
 import subprocess
 import sys
@@ -12,9 +13,9 @@ import asking
 import blocks
 
 MEGABYTE = 1_000_000
-REVERSIBLE = 100
+REVERSIBLE, STORED = 100, 1024
 QUERIES = ["HEAD", "MONEY", "IDENTITY", "UID", "CERTS", "BALANCE", "SOURCES", "DISTANCE", "DIFF", "RECORDS", "SHOW"]
-QUERY_COUNT, SWITCH_COUNT = 100_000, 200
+QUERY_COUNT, STATEMENT_COUNT, SWITCH_COUNT = 100_000, 10_000, 200
 GENERATED_BLOCKS, GENERATED_ISSUERS = 5_000, 40
 
 
@@ -61,13 +62,40 @@ def asked(chain: bytes, word: str, count: int = QUERY_COUNT) -> bytes:
     lines = texts[0].split(b"\nIdentities:\n")[1].split(b"Joiners:\n")[0].decode().splitlines()[:40]
     keys, uids = [line.split(":")[0] for line in lines], [line.split(":")[-1] for line in lines]
     words = {"UID": uids, "BALANCE": [f"SIG({key})" for key in keys]}
-    words["SOURCES"] = words["BALANCE"]
+    words["SOURCES"] = words["STATEMENT"] = words["BALANCE"]
     if word in ("HEAD", "MONEY"):
         return f"{word}\n".encode() * count
     if word in ("RECORDS", "SHOW"):
         return "".join(f"{word} {place * 7919 % len(texts)}\n" for place in range(count)).encode()
     named = words.get(word, keys)
     return "".join(f"{word} {named[place % len(named)]}\n" for place in range(count)).encode()
+
+
+def offered(given: str) -> bytes:
+    """The block of a BLOCK command as one of OFFER."""
+    return b"OFFER" + given.encode().removeprefix(b"BLOCK")
+
+
+def path_chosen(stored: int = STORED) -> Iterator[bytes]:
+    """A path of so many blocks on a first one, offered from its end to its beginning while the node chooses by itself: with the last offer it is a candidate."""
+    first, *path = [asking.commands_of(piece) for piece in generated(stored + 1, GENERATED_ISSUERS)]
+    yield from [*first, b"AUTO ON\n"]
+    for *verdicts, block in reversed(path):
+        yield from [*verdicts, offered(block.decode())]
+
+
+def rivals_fail(stored: int = STORED) -> Iterator[bytes]:
+    """Two blocks on a first one, and on them so many rivals that the store is full, offered while the node chooses by itself: each is tried, and fails by its
+    median time."""
+    chain, members = blocks.Chain(), [blocks.Member(number) for number in range(GENERATED_ISSUERS)]
+    first = blocks.next_block(chain, blocks.key(0), len(members), blocks.sections_of_members(members))
+    yield "".join([*blocks.verdicts_of(members), first.verdict, first.command(), "AUTO ON\n"]).encode()
+    for number in (1, 2):
+        block = blocks.next_block(chain, blocks.key(number), len(members), blocks.sections())
+        yield block.verdict.encode() + offered(block.command())
+    for nonce in range(stored - 2):
+        rival = blocks.next_block(copy.deepcopy(chain), blocks.key(3), len(members), blocks.sections(), early=1, nonce=nonce)
+        yield rival.verdict.encode() + offered(rival.command())
 
 
 def first_blocks() -> Iterator[bytes]:
@@ -121,6 +149,11 @@ def lines_and_frames() -> list[Workload]:
     ]
 
 
+def choices() -> list[Workload]:
+    """What the node chooses among by itself."""
+    return [Workload("path_chosen", path_chosen), Workload("rivals_fail", rivals_fail)]
+
+
 def chains() -> list[Workload]:
     """Chains of blocks without lines."""
     sizes = [(1_000, 40), (10_000, 40), (100_000, 40), (1_000, 2_000), (10_000, 2_000)]
@@ -135,7 +168,8 @@ def behind_a_chain(file: pathlib.Path | None) -> list[Workload]:
         return file.read_bytes() if file else b"".join(generated(GENERATED_BLOCKS, GENERATED_ISSUERS))
 
     found = [Workload(name, lambda: [chain()]), Workload("switches", lambda: [given := chain(), switched(given)], name)]
-    return found + [Workload(word.lower(), lambda word=word: [given := chain(), asked(given, word)], name) for word in QUERIES]
+    found += [Workload(word.lower(), lambda word=word: [given := chain(), asked(given, word)], name) for word in QUERIES]
+    return [*found, Workload("statement", lambda: [given := chain(), asked(given, "STATEMENT", STATEMENT_COUNT)], name)]
 
 
 def made_from_a_number() -> list[Workload]:
