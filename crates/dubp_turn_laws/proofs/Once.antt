@@ -33,14 +33,14 @@ one_path store s (b ∷ path) (d ∷ path') end end' p q =
     ((λ i. back i ∷ l i), rest.1)
 
 record IsOneWay (path path' : List Block) (count count' : ℕ) : Type 0 where
-  path : path ≡ path'
-  count : count ≡ count'
+  same_path : path ≡ path'
+  same_count : count ≡ count'
 
 one_way : (s : Branches) (stamp : Stamp) (path path' : List Block) (count count' : ℕ) → LeadsOff s stamp path count → LeadsOff s stamp path' count' → IsOneWay path path' count count'
 one_way s stamp path path' count count' p q =
     let same = one_path s.store stamp path path' p.end q.end p.is q.is in
     let e : Some count ≡ Some count' = sym p.behind ∙ ap (blocks_behind s.chain) same.1 ∙ q.behind in
-    record { path = same.0; count = cc }
+    record { same_path = same.0; same_count = cc }
 
 -- ---- the block that breaks a rule
 module _ (v : Verdicts) where
@@ -78,16 +78,16 @@ module _ (v : Verdicts) where
 one_success : (old : State) (stamp : Stamp) (new new' : State) → Succeeds old stamp new → Succeeds old stamp new' → new ≡ new'
 one_success old stamp new new' a b =
     let same = one_way (branches_of old) stamp a.0 b.0 a.1 b.1 a.2 b.2 in
-    let p = same.path in
-    let n = same.count in
+    let p = same.same_path in
+    let n = same.same_count in
     a.4 ∙ (λ i. onward old (switched (branches_of old) (p i) (n i))) ∙ sym b.4
 
 one_failure : (old : State) (f g : Failure) (new new' : State) → Fails old f new → Fails old g new' → f.tip ≡ g.tip → (f ≡ g) × (new ≡ new')
 one_failure old f g new new' a b tip =
     let same = one_way (branches_of old) g.tip a.0 b.0 a.1 b.1 (subst (λ s. LeadsOff (branches_of old) s a.0 a.1) tip a.2) b.2 in
     let there : BreaksAt old.verdicts (drop b.1 old.chain) b.0 a.3.0 f.rule =
-    subst (λ (n : ℕ). BreaksAt old.verdicts (drop n old.chain) b.0 a.3.0 f.rule) same.count
-    (subst (λ (p : List Block). BreaksAt old.verdicts (drop a.1 old.chain) p a.3.0 f.rule) same.path a.3.2) in
+    subst (λ (n : ℕ). BreaksAt old.verdicts (drop n old.chain) b.0 a.3.0 f.rule) same.same_count
+    (subst (λ (p : List Block). BreaksAt old.verdicts (drop a.1 old.chain) p a.3.0 f.rule) same.same_path a.3.2) in
     let breaks = one_break old.verdicts (drop b.1 old.chain) b.0 a.3.0 b.3.0 f.rule g.rule (down old.verdicts (drop b.1 old.chain) b.0 a.3.0 f.rule there) (down old.verdicts (drop b.1 old.chain) b.0 b.3.0 g.rule b.3.2) in
     let at : f.at ≡ g.at = a.3.1 ∙ ap stamp_of breaks.0 ∙ sym b.3.1 in
     let rule = breaks.1 in
@@ -98,8 +98,8 @@ not_both : (old : State) (f : Failure) (middle new : State) → Fails old f midd
 not_both old f middle new a b =
     let same = one_way (branches_of old) f.tip a.0 b.0 a.1 b.1 a.2 b.2 in
     let there : BreaksAt old.verdicts (drop b.1 old.chain) b.0 a.3.0 f.rule =
-    subst (λ (n : ℕ). BreaksAt old.verdicts (drop n old.chain) b.0 a.3.0 f.rule) same.count
-    (subst (λ (p : List Block). BreaksAt old.verdicts (drop a.1 old.chain) p a.3.0 f.rule) same.path a.3.2) in
+    subst (λ (n : ℕ). BreaksAt old.verdicts (drop n old.chain) b.0 a.3.0 f.rule) same.same_count
+    (subst (λ (p : List Block). BreaksAt old.verdicts (drop a.1 old.chain) p a.3.0 f.rule) same.same_path a.3.2) in
     not_accepted old.verdicts (drop b.1 old.chain) b.0 a.3.0 f.rule (down old.verdicts (drop b.1 old.chain) b.0 a.3.0 f.rule there) b.3
 
 pub switches_once : SwitchesOneWay
