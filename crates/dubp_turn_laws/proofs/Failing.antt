@@ -23,7 +23,7 @@ failing_keeps old (Failed f ∷ lines) new r all =
     let noted = r.2.4 in
     (rest.0 ∙ ap branches_of noted, rest.1 ∙ ap (λ (s : State). s.auto) noted)
 
-any_failed : (failed : List Stamp) (path : List Block) → list_any (λ (o : Offered). is_among failed o.stamp) (map offered path) ≡ list_any (λ b. is_among failed (stamp_of b)) path
+pub any_failed : (failed : List Stamp) (path : List Block) → list_any (λ (o : Offered). is_among failed o.stamp) (map offered path) ≡ list_any (λ b. is_among failed (stamp_of b)) path
 any_failed failed [] = refl
 any_failed failed (b ∷ path) = ap (λ r. is_among failed (stamp_of b) || r) (any_failed failed path)
 

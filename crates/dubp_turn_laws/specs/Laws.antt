@@ -1,5 +1,5 @@
 -- Laws of turns in which the node chooses, each of which a public function without a body promises. Protocol: choice.
-use Rattle.std.specs.Prelude.{◌≡◌, true, List, map, Option, Some, ⊤}
+use Rattle.std.specs.Prelude.{◌≡◌, true, false, List, [], ◌∷◌, map, Option, Some, ⊤}
 use Rattle.std.specs.List.{AllByRecursion, list_any}
 use Rattle.std.specs.Option.{option_map}
 use Rattle.dubp_atoms.specs.declared.stamp.Stamp.{Stamp}
@@ -33,3 +33,13 @@ abbrev pub FailedIsNotTried : Type 0
 FailedIsNotTried =
     (s : State) → AreOffers (choices_of s).offers → (tip : Stamp) (path : List Block) (end : Option Stamp) → IsPath s.store tip path end
     → list_any (λ b. is_among (map (λ (f : Failure). f.at) s.failures) (stamp_of b)) path ≡ true → option_map (λ o. o.stamp) (choice (choices_of s)) ≡ Some tip → ⊥
+
+-- no two of these failures have one block
+abbrev pub AreApartAt : List Failure → Type 0
+AreApartAt [] = ⊤
+AreApartAt (f ∷ failures) = (is_among (map (λ (g : Failure). g.at) failures) f.at ≡ false) × AreApartAt failures
+
+-- and none comes to have one
+abbrev pub FailuresStayApart : Type 0
+FailuresStayApart =
+    (old : State) (lines : List (Line Failure)) (new : State) → AreOffers (choices_of old).offers → ResolvesBy old lines new → AreApartAt old.failures → AreApartAt new.failures

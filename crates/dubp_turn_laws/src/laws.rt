@@ -1,4 +1,4 @@
-ghost use Rattle.dubp_turn_laws.specs.Laws.{FailedIsNotTried, FailingKeepsAll, ResolvesOneWay, SwitchesOneWay};
+ghost use Rattle.dubp_turn_laws.specs.Laws.{FailedIsNotTried, FailingKeepsAll, FailuresStayApart, ResolvesOneWay, SwitchesOneWay};
 
 /// A switch to a branch has one result: it leads to one state, or it fails at one block, by one rule, and not both.
 pub fn switches_one_way()
@@ -18,4 +18,9 @@ pub fn failing_keeps_all()
 /// A branch that has a block at which one failed before is not chosen.
 pub fn failed_is_not_tried()
     ensures { FailedIsNotTried }
+{}
+
+/// Where no two failures have one block, none come to have one.
+pub fn failures_stay_apart()
+    ensures { FailuresStayApart }
 {}
