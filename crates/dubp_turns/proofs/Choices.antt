@@ -1,5 +1,5 @@
 -- One choice after another, as the node tries them.
-use Rattle.std.proofs.Common.{◌≡◌, ◌<◌, ◌++◌, ◌∷◌, [], ℕ, List, Some, true, false, map, sym, subst}
+use Rattle.std.proofs.Common.{◌<◌, ◌++◌, ◌∷◌, [], ℕ, List, Some, true, false, map, sym, subst}
 use Rattle.dubp_atoms.specs.declared.stamp.Stamp.{Stamp}
 use Rattle.dubp_resolve.specs.Known.{AreOffers}
 use Rattle.dubp_resolve.proofs.Ending.{candidates}

@@ -1,5 +1,5 @@
 -- A frame that is too long is refused.
-use Rattle.std.proofs.Common.{◌≡◌, ℕ, ◌<◌, List, length, inl, refl, sym, ap}
+use Rattle.std.proofs.Common.{◌≡◌, ℕ, ◌<◌, List, length, inl, refl, sym}
 use Rattle.std.specs.Prelude.{codes, Some}
 use Rattle.dubp_branches.proofs.Long as branches
 use Rattle.dubp_validity.specs.Rules.{longest_block}

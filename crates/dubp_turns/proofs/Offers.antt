@@ -1,5 +1,5 @@
 -- What a store holds, as a choice looks at it.
-use Rattle.std.proofs.Common.{◌≡◌, ◌∙◌, false, List, [], ◌∷◌, map}
+use Rattle.std.proofs.Common.{◌∙◌, List, [], ◌∷◌, map}
 use Rattle.std.specs.List.{AllByRecursion}
 use Rattle.dubp_block.specs.declared.block.Block.{Block}
 use Rattle.dubp_block.specs.Text.{IsBlock, stamp_of}

@@ -1,14 +1,12 @@
 -- What the switch to a choice said.
-use Rattle.std.proofs.Common.{◌≡◌, ◌∙◌, ◌≤◌, ◌<◌, ◌++◌, ◌∷◌, [], List, Option, Some, None, is_some, Result, Ok, Err, true, refl, sym, ap, subst, arith, true≢false}
+use Rattle.std.proofs.Common.{◌≡◌, ◌∙◌, ◌++◌, ◌∷◌, [], List, Some, is_some, Ok, Err, refl, sym, ap, arith, true≢false}
 use Rattle.dubp_atoms.specs.declared.stamp.Stamp.{Stamp}
-use Rattle.dubp_block.specs.declared.block.Block.{Block}
 use Rattle.dubp_rules.specs.declared.rule.Rule.{Rule}
 use Rattle.dubp_branches.specs.OfForks.{SwitchRefusal, Switched}
 use Rattle.dubp_branches.specs.OfForks.switch_refusal_variants as switch
 use Rattle.dubp_replay.specs.declared.failure.Failure.{Failure}
-use Rattle.dubp_replay.specs.Turns.{Branches, Fails, Succeeds, left_over, stored}
-use Rattle.dubp_choosing.specs.States.{IsTipOf, choosing}
-use Rattle.dubp_choosing.proofs.Failures.{left_twice}
+use Rattle.dubp_replay.specs.Turns.{Branches, Fails, Succeeds, left_over}
+use Rattle.dubp_choosing.specs.States.{choosing}
 use Rattle.dubp_choosing.proofs.Resolving.{succeeds_by}
 use Rattle.dubp_choosing.proofs.Tries.{IsReady}
 

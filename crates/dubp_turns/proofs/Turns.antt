@@ -1,22 +1,21 @@
 -- Turns of the branches, as turns of the node.
-use Rattle.std.proofs.Common.{◌≡◌, ◌∙◌, ◌⊎◌, inl, inr, ◌<◌, ◌+◌, ℕ, Bool, true, false, List, [], ◌∷◌, ◌++◌, length, Result, Ok, Err, refl, sym, ap, subst, arith, length-append, ◌||◌, true≢false, codes}
+use Rattle.std.proofs.Common.{◌≡◌, ◌∙◌, inl, inr, ◌<◌, ℕ, Bool, true, false, List, [], ◌∷◌, ◌++◌, length, Ok, Err, refl, sym, ap, subst, arith, length-append, ◌||◌, true≢false, codes}
 use Rattle.std.specs.List.{list_any}
 use Rattle.std.proofs.lemmas.List.Folds.{list_any-append}
 use Rattle.dubp_atoms.specs.declared.stamp.Stamp.{Stamp}
 use Rattle.dubp_block.specs.declared.block.Block.{Block}
-use Rattle.dubp_block.specs.Text.{stamp_of}
 use Rattle.dubp_branches.specs.Acting.{BranchesActs}
 use Rattle.dubp_branches.specs.Deciding.{offer_text}
 use Rattle.dubp_branches.proofs.Long.{long_offer_turn}
 use Rattle.dubp_branches.proofs.Stored.{offered_acts, offered_none, stored_offer, with_store}
 use Rattle.dubp_branches.specs.OfForks.{OfferRefusal, Offered}
-use Rattle.dubp_replay.specs.Answers.{no_memory_answer, refused_answer, stored_answer}
+use Rattle.dubp_replay.specs.Answers.{refused_answer, stored_answer}
 use Rattle.dubp_replay.specs.declared.command.Command.{Command}
 use Rattle.dubp_replay.specs.declared.command.Command.TheVariants as command
 use Rattle.dubp_validity.specs.Rules.{longest_block}
 use Rattle.dubp_replay.specs.declared.failure.Failure.{Failure}
-use Rattle.dubp_replay.specs.Turns.{Branches, Chooses, OfferTurn, State, branches_of, is_known, is_stamped, left_over, onward, without}
-use Rattle.dubp_choosing.specs.States.{choosing, state_with}
+use Rattle.dubp_replay.specs.Turns.{Branches, Chooses, OfferTurn, State, branches_of, is_stamped, left_over, onward, without}
+use Rattle.dubp_choosing.specs.States.{state_with}
 use Rattle.dubp_choosing.proofs.Failures.{left_more, left_twice, onward_same}
 use Rattle.dubp_choosing.proofs.Offering.{goes_aside, goes_choosing, goes_quietly, without_last}
 use Rattle.dubp_choosing.proofs.Turns.{IsPlain, held_same, plain_acts}

@@ -1,5 +1,5 @@
 -- The turn of a command as the node takes it: by what it is handed of the frame. Protocol: the input; commands and answers.
-use Rattle.std.specs.Prelude.{◌≡◌, ◌⊎◌, ℕ, List, Some}
+use Rattle.std.specs.Prelude.{◌⊎◌, ℕ, List, Some}
 pub use Rattle.dubp_branches.specs.Acting.{IsHanded}
 use Rattle.dubp_replay.specs.Answers.{no_memory_answer}
 use Rattle.dubp_replay.specs.declared.command.Command.{Command}

@@ -1,15 +1,10 @@
 -- What the parts of a choice ensure.
-use Rattle.std.specs.Prelude.{◌≡◌, ◌⊎◌, ℕ, Bool, true, false, List, [], ◌∷◌, ◌++◌, Option, Some, None}
+use Rattle.std.specs.Prelude.{◌≡◌, ◌⊎◌, ℕ, Bool, true, false, List, [], ◌∷◌, ◌++◌}
 use Rattle.dubp_atoms.specs.declared.stamp.Stamp.{Stamp}
 use Rattle.dubp_choosing.specs.States.{choosing}
 use Rattle.dubp_replay.specs.Answers.{failed_line, no_memory_answer, stored_answer, switched_answer}
 use Rattle.dubp_replay.specs.declared.failure.Failure.{Failure}
 use Rattle.dubp_replay.specs.Turns.{Branches, Chooses, Fails, Succeeds, left_over, without}
-
--- none or one
-abbrev pub list_of : Option Stamp → List Stamp
-list_of None = []
-list_of (Some s) = s ∷ []
 
 -- a switch to this choice came to an end: it took place, and nothing is left to choose; or it failed, and its failure is noted. The line that
 -- says so stands behind the text.

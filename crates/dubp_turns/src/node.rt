@@ -1,7 +1,7 @@
 ghost use Rattle.std.specs.Prelude.{◌≡◌, length, ◌≤◌, ℕ, List, [], ◌∷◌, None, OnOk, OnErr, true};
 ghost use Rattle.dubp_turns.specs.Acting.{Acts, OfferActs};
 ghost use Rattle.dubp_turns.specs.OfQuery.{answer_bytes};
-ghost use Rattle.dubp_block.specs.Text.{IsBlock, block_text, stamp_of as block_stamp};
+ghost use Rattle.dubp_block.specs.Text.{IsBlock, block_text};
 ghost use Rattle.dubp_validity.specs.Rules.{longest_block};
 ghost use Rattle.dubp_turns.specs.Given.{IsGivenAll, block_given, verdict_given};
 ghost use Rattle.dubp_replay.specs.Turns.{left_over, start};

@@ -1,9 +1,8 @@
 ghost use Rattle.std.specs.Prelude.{◌≡◌, ◌++◌, ◌+◌, ◌∷◌, [], drop, map, reverse, take, IfOk, OnOk};
 ghost use Rattle.dubp_block.specs.Text.{stamp_of as block_stamp};
 ghost use Rattle.dubp_replay.specs.Turns.{offered};
-ghost use Rattle.dubp_choosing.specs.States.{IsTipOf, seen_of};
+ghost use Rattle.dubp_choosing.specs.States.{IsTipOf, list_of, seen_of};
 ghost use Rattle.dubp_resolve.specs.Known.{seen};
-ghost use Rattle.dubp_turns.specs.Choosing.{list_of};
 
 use dubp_atoms::{NoMemory, Stamp};
 use dubp_branches::{Branches, Ledger, PeopleAndMoney};

@@ -1,5 +1,4 @@
-use Rattle.std.proofs.Common.{List, None, Option, Some, subst}
-use Rattle.dubp_atoms.specs.declared.stamp.Stamp.{Stamp}
+use Rattle.std.proofs.Common.{List, subst}
 use Rattle.dubp_choosing.specs.States.{IsTipOf}
 use Rattle.dubp_choosing.proofs.Resolving.{resolved_none, resolving_start}
 use Rattle.dubp_replay.specs.declared.failure.Failure.{Failure}

@@ -1,5 +1,4 @@
 use Rattle.std.proofs.Common.{◌∷◌, [], ap, subst}
-use Rattle.dubp_block.specs.Text.{block_text}
 use Rattle.dubp_replay.specs.Turns.{State}
 use Rattle.dubp_choosing.specs.States.{state_with}
 use Rattle.dubp_turns.specs.Given.{IsGivenAll, block_given}

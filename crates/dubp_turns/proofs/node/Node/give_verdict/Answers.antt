@@ -1,4 +1,4 @@
-use Rattle.std.proofs.Common.{◌≡◌, ◌∷◌, [], ap, refl, subst, sym}
+use Rattle.std.proofs.Common.{◌∷◌, [], ap, refl, subst, sym}
 use Rattle.dubp_replay.specs.Answers.{noted_answer}
 use Rattle.dubp_replay.specs.Turns.{Branches, State}
 use Rattle.dubp_choosing.specs.States.{state_with}

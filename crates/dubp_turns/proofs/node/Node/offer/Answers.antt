@@ -1,4 +1,4 @@
-use Rattle.std.proofs.Common.{Bool, not, refl, subst}
+use Rattle.std.proofs.Common.{subst}
 use Rattle.dubp_replay.specs.Turns.{State}
 use Rattle.dubp_choosing.specs.States.{state_with}
 use Rattle.dubp_turns.specs.Acting.{OfferActs}
