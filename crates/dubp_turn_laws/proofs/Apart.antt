@@ -6,9 +6,9 @@ use Rattle.dubp_atoms.specs.Same.{same_stamp}
 use Rattle.dubp_atoms.specs.declared.stamp.Stamp.{Stamp}
 use Rattle.dubp_block.specs.declared.block.Block.{Block}
 use Rattle.dubp_block.specs.Text.{stamp_of}
-use Rattle.dubp_resolve.specs.Choice.{Path, choice, has_failed, is_among, path_of}
+use Rattle.dubp_resolve.specs.Choice.{Path, choice, has_failed, is_among}
 use Rattle.dubp_resolve.specs.Known.{AreOffers}
-use Rattle.dubp_resolve.specs.Resolve.{Line, Switched, Failed}
+use Rattle.dubp_resolve.specs.Resolve.{Switched, Failed}
 use Rattle.dubp_resolve.proofs.Candidates.{chosen_is}
 use Rattle.dubp_resolve.proofs.Stamps.{stamps}
 use Rattle.dubp_choosing.proofs.Offers.{any_at}

@@ -1,18 +1,17 @@
 -- What failures keep, and what they take out of the choice.
-use Rattle.std.proofs.Common.{◌≡◌, ◌||◌, true, false, List, [], ◌∷◌, map, Option, Some, refl, sym, ap, subst, ◌∙◌, true≢false}
-use Rattle.std.specs.List.{AllByRecursion, list_any}
-use Rattle.std.specs.Option.{option_map}
+use Rattle.std.proofs.Common.{◌≡◌, ◌||◌, true, List, [], ◌∷◌, map, refl, sym, ap, subst, ◌∙◌, true≢false}
+use Rattle.std.specs.List.{list_any}
 use Rattle.dubp_atoms.specs.declared.stamp.Stamp.{Stamp}
 use Rattle.dubp_block.specs.declared.block.Block.{Block}
 use Rattle.dubp_block.specs.Text.{stamp_of}
 use Rattle.dubp_resolve.specs.declared.view.Offered.{Offered}
 use Rattle.dubp_resolve.specs.Choice.{Path, choice, has_failed, is_among, path_of}
-use Rattle.dubp_resolve.specs.Resolve.{Line, Switched, Failed}
+use Rattle.dubp_resolve.specs.Resolve.{Switched, Failed}
 use Rattle.dubp_resolve.proofs.Candidates.{chosen_is}
 use Rattle.dubp_choosing.proofs.Tries.{chosen_of, path_chosen}
 use Rattle.dubp_replay.specs.declared.failure.Failure.{Failure}
-use Rattle.dubp_replay.specs.Turns.{IsPath, ResolvesBy, State, branches_of, choices_of, offered}
-use Rattle.dubp_turn_laws.specs.Laws.{FailedIsNotTried, FailingKeepsAll, IsFailure}
+use Rattle.dubp_replay.specs.Turns.{IsPath, State, branches_of, choices_of, offered}
+use Rattle.dubp_turn_laws.specs.Laws.{FailedIsNotTried, FailingKeepsAll}
 
 pub failing_keeps : FailingKeepsAll
 failing_keeps old [] new r all = (ap branches_of r.1, ap (λ (s : State). s.auto) r.1)

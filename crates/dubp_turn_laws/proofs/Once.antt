@@ -11,7 +11,7 @@ use Rattle.dubp_verdict.specs.Verdicts.{Verdicts}
 use Rattle.dubp_chain.specs.Chains.{Chain}
 use Rattle.dubp_validity.specs.Rules.{FirstBroken, Holds}
 use Rattle.dubp_replay.specs.declared.failure.Failure.{Failure}
-use Rattle.dubp_replay.specs.Turns.{Branches, BreaksAt, Fails, IsAcceptedOn, IsPath, LeadsOff, State, Succeeds, blocks_behind, branches_of, onward, previous_stamp, stored, switched}
+use Rattle.dubp_replay.specs.Turns.{Branches, BreaksAt, Fails, IsAcceptedOn, IsPath, LeadsOff, State, Succeeds, blocks_behind, branches_of, onward, previous_stamp, switched}
 use Rattle.dubp_turn_laws.specs.Laws.{SwitchesOneWay}
 
 -- ---- the path
