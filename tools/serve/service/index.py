@@ -126,7 +126,9 @@ class Index:
     @staticmethod
     def _indexes() -> str:
         tables = "".join(f"CREATE INDEX IF NOT EXISTS {table}_block ON {table} (block);" for table in _BY_BLOCK if table != "payment")
-        return tables + "CREATE INDEX IF NOT EXISTS certification_receiver ON certification (receiver, issuer, block);"
+        others = "CREATE INDEX IF NOT EXISTS payment_hash ON payment (hash);"
+        others += "CREATE INDEX IF NOT EXISTS move_cleared ON move (block) WHERE kind = 'CLEARED';"
+        return tables + others + "CREATE INDEX IF NOT EXISTS certification_receiver ON certification (receiver, issuer, block);"
 
     def clear(self) -> None:
         """Empties all tables, before the log is gone through anew."""
@@ -149,6 +151,12 @@ class Index:
         if rows:
             places = ", ".join("?" * len(rows[0]))
             self._connection.executemany(f"INSERT {'OR IGNORE ' * unless_there}INTO {table} VALUES ({places})", rows)
+
+    def count(self, table: str) -> int:
+        """How many rows a table has."""
+        assert table in _TABLES
+        row = self._row(f"SELECT count(*) FROM {table}")
+        return 0 if row is None else int(row[0])
 
     # the chain
 
@@ -195,6 +203,34 @@ class Index:
         """Blocks of the chain from a number on."""
         rows = self._rows("SELECT text, mass FROM block WHERE number >= ? ORDER BY number LIMIT ?", start, count)
         return [(BlockText.of(text), int(mass)) for text, mass in rows]
+
+    def heads(self, start: int) -> list[tuple[int, str, int, int, str, str]]:
+        """Number, hash, time, median time, mass and the lines above the sections of the chain's blocks from a number on."""
+        text = "SELECT number, hash, time, median_time, mass, substr(text, 1, instr(text, char(10) || 'Identities:')) FROM block WHERE number >= ? "
+        return [(row[0], row[1], row[2], row[3], row[4], row[5]) for row in self._rows(text + "ORDER BY number", start)]
+
+    def cleared(self, start: int) -> list[tuple[int, str]]:
+        """The sources that blocks from a number on cleared, each with its block."""
+        return [(row[0], row[1]) for row in self._rows("SELECT block, source FROM move WHERE block >= ? AND kind = 'CLEARED'", start)]
+
+    def condition_of(self, source: str) -> str | None:
+        """The condition of a source `AMOUNT:BASE:SOURCE` that a block of the chain made."""
+        row = self._row("SELECT condition FROM source WHERE identifier = ?", source.split(":", 2)[2])
+        return None if row is None else str(row[0])
+
+    def source(self, identifier: str) -> tuple[str, int, str, int] | None:
+        """Of a source that the chain made: its condition, its block, the kind of its last move (MADE where it is unspent) and the block of that."""
+        row = self._row("SELECT condition, block FROM source WHERE identifier = ?", identifier)
+        if row is None:
+            return None
+        text = "SELECT kind, block FROM move WHERE condition = ? AND block >= ? AND source LIKE ? ORDER BY block DESC, place DESC LIMIT 1"
+        last = self._row(text, row[0], row[1], f"%:{identifier}")
+        return str(row[0]), int(row[1]), str(last[0]) if last else MADE, int(last[1]) if last else int(row[1])
+
+    def transaction_block(self, text_hash: str) -> int | None:
+        """The block that has the transaction with this hash."""
+        row = self._row("SELECT block FROM payment WHERE hash = ?", text_hash)
+        return None if row is None else int(row[0])
 
     def with_section(self, name: str) -> list[int]:
         """The numbers of the blocks that have something in a section; `ud` and `tx` are names here too."""
@@ -299,6 +335,11 @@ class Index:
         text = "SELECT * FROM certification WHERE issuer = ? AND receiver = ? AND block = ?"
         row = self._row(text, issuer, receiver, block)
         return None if row is None else WrittenCertification(*row)
+
+    def last_certification_block(self, issuer: str) -> int | None:
+        """The last block with a certification by this key."""
+        row = self._row("SELECT max(block) FROM certification WHERE issuer = ?", issuer)
+        return None if row is None or row[0] is None else int(row[0])
 
     # money
 

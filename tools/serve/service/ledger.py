@@ -3,7 +3,7 @@ import asyncio
 import sqlite3
 import sys
 import time
-from collections.abc import Awaitable, Callable
+from collections.abc import Awaitable, Callable, Sequence
 from pathlib import Path
 from typing import TypeVar
 
@@ -56,6 +56,16 @@ class Turn:
         if answer == ["NOMEM"]:
             raise Unavailable("the program has no memory for this now")
         return answer
+
+    async def ask_all(self, batch: Sequence[Command]) -> list[list[str]]:
+        """The answers to several queries. Raises as `ask` does; none of them may be of a shape that is open."""
+        for command in batch:
+            if command.word in self._program.lacks:
+                raise Lacking(command.word)
+        answers = await self._program.ask_all(batch)
+        if ["NOMEM"] in answers:
+            raise Unavailable("the program has no memory for this now")
+        return answers
 
     async def change(self, command: Command) -> list[str]:
         """The answer to a command that may change the state; where it did, it is in the log and the index."""

@@ -127,11 +127,12 @@ class Log:
             self.connection.execute("ROLLBACK")
         self._find_last()
 
-    def entries(self) -> Iterator[Entry]:
-        """All entries in order. Raises LogRefused where one is missing or has another sum, with the number of the last that is whole."""
-        before, whole = "", 0
+    def entries(self, after: tuple[int, str] = (0, "")) -> Iterator[Entry]:
+        """The entries behind that of a number and sum, else all, in order. Raises LogRefused where one is missing or has another sum, with the
+        number of the last that is whole."""
+        whole, before = after
         try:
-            for row in self.connection.execute("SELECT number, line, frame, answer, head, sum FROM log ORDER BY number"):
+            for row in self.connection.execute("SELECT number, line, frame, answer, head, sum FROM log WHERE number > ? ORDER BY number", (whole,)):
                 entry = Entry(*row)
                 if entry.number != whole + 1 or entry.sum != _sum(before, entry.line, entry.frame, entry.answer, entry.head):
                     raise LogRefused(f"{self.path} is damaged: entry {whole + 1} is not as it was written; entries up to {whole} are whole")

@@ -92,6 +92,7 @@ async def _serve(given: argparse.Namespace, ledger: Ledger, issuer: Issuer | Non
                 await forging
         if forger is not None:
             await forger.stop()
+        await service.trial.close()
         await runner.cleanup()
 
 

@@ -1,20 +1,19 @@
 """What BMA lacks, as JSON under `/node`."""
-from pathlib import Path
 from typing import Any
 
-from . import commands, spelling
-from .branch import Branch
+from . import commands, people, spelling
+from .blocks import BlockText
+from .causes import causes
 from .commands import BadWord
 from .index import Move, units
-from .ledger import Ledger, Turn
-from .log import Log
-from .people import checked_key, checked_number, head_of
-from .program import Program
+from .ledger import Turn
+from .page.words import NoCondition, in_words, read
+from .people import checked_key, checked_number, checked_word, head_of, written_identity
 from .refusals import BLOCK_NOT_FOUND, NO_MEMBER_MATCHING, UNHANDLED, Refusal, sentence
-from .verdicts import Unreadable, digest, is_true, read_block
+from .series import series, thinned
+from .trust import shown, web_of
+from .why_values import met
 from .writes import left_out
-
-_BATCH = 500
 
 
 async def head(turn: Turn) -> dict[str, Any]:
@@ -56,14 +55,68 @@ async def _moves(turn: Turn, condition: str) -> list[Move]:
 
 
 async def block(turn: Turn, word: str) -> dict[str, Any]:
-    """Text and records of a block, and the sources that it made."""
+    """Text and records of a block, the line that caused each record, and the sources that it made."""
     number = checked_number(word)
     found = turn.index.block(number)
     if found is None:
         raise Refusal(BLOCK_NOT_FOUND, "There is no block of this number")
     records = await turn.ask(commands.records(number))
     made = [record.split(" ")[2] for record in records if record.startswith(("SIDX MAKE ", "SIDX DIVIDEND "))]
-    return {"number": number, "stamp": found[0].stamp, "text": found[0].text, "records": records, "sources": made}
+    return {
+        "number": number, "stamp": found[0].stamp, "text": found[0].text, "records": records, "sources": made,
+        "causes": causes(found[0], records, turn.index.condition_of), "meets": met(found[0].hash), "mass": found[1],
+    }
+
+
+async def points(turn: Turn) -> dict[str, Any]:
+    """Values over time: at most 240 blocks, evenly, with members, dividend, mass and unspent money."""
+    all_points = series(turn.index)
+    rows = [all_points[place] for place in thinned(len(all_points))]
+    names = ("number", "time", "median_time", "members", "pow_min", "dividend", "mass", "unspent")
+    return {"blocks": len(all_points), "points": [{name: getattr(each, name) for name in names} for each in rows]}
+
+
+async def everybody(turn: Turn) -> dict[str, Any]:
+    """Everybody who has an identity, by name: state, end of the membership, live certifications received and issued, and whether a sentry."""
+    web = await web_of(turn)
+    lines = [{**vars(each), "is_member": key in web.members, "is_sentry": key in web.sentries} for key, each in web.states.items()]
+    return {"members": len(web.members), "sentries": len(web.sentries), "people": sorted(lines, key=lambda each: str(each["uid"]))}
+
+
+async def person(turn: Turn, word: str) -> dict[str, Any]:
+    """A person by key or name: state, certifications received and issued, written memberships, distance and the walks of sentries."""
+    identity = written_identity(turn.index, checked_word(word))
+    if identity is None:
+        raise Refusal(NO_MEMBER_MATCHING, "No block has an identity of this key or name")
+    web, key = await web_of(turn), identity.key
+    level = await people.difficulty_of(turn, key)
+    lines = {"received": web.received[key], "issued": web.issued(key)}
+    certifications = {
+        name: [{**vars(each), "uid": web.states[each.issuer if name == "received" else each.receiver].uid} for each in found]
+        for name, found in lines.items()
+    }
+    revocation = turn.index.revocation(key)
+    return {
+        **vars(web.states[key]), "stamp": identity.stamp, "is_member": key in web.members, "is_sentry": key in web.sentries,
+        "difficulty": level, "certifications": certifications, "revoked_in": None if revocation is None else revocation[0],
+        "memberships": [{"block": block, "section": kind, "stamp": stamp} for block, kind, stamp in turn.index.memberships(key)],
+        "distance": await distance(turn, key), **shown(web, key),
+    }
+
+
+async def meaning(turn: Turn, condition: str) -> dict[str, Any]:
+    """What a condition means in words."""
+    try:
+        found = read(condition)
+    except NoCondition as error:
+        raise Refusal(UNHANDLED, f"This is no condition: {error}") from error
+    return {"condition": condition, "meaning": in_words(found, lambda key: name_of(turn, key), lambda second: f"second {second}")}
+
+
+def name_of(turn: Turn, key: str) -> str:
+    """The name of a person, or the key of somebody who has none."""
+    identity = turn.index.identity(key)
+    return key if identity is None else identity.uid
 
 
 async def distance(turn: Turn, word: str) -> dict[str, Any]:
@@ -75,10 +128,29 @@ async def distance(turn: Turn, word: str) -> dict[str, Any]:
 
 
 async def branches(turn: Turn) -> dict[str, Any]:
-    """The stored blocks of branches, each with the one before it."""
-    stored = turn.index.all_stored()
-    lines = [{"stamp": each.stamp, "previous": None if each.previous is None else f"{each.number - 1}-{each.previous}"} for each in stored]
-    return {"head": turn.index.head_stamp(), "stored": lines}
+    """The stored blocks of branches, each with the one before it, and of each branch what SWITCH would take off and put on."""
+    stored = {each.stamp: each for each in turn.index.all_stored()}
+    lines = [{"stamp": stamp, "previous": _before(each), "issuer": each.fields["Issuer"]} for stamp, each in stored.items()]
+    inner = {_before(each) for each in stored.values()}
+    tips = [_switch(turn, stored, stamp) for stamp in stored if stamp not in inner]
+    return {"head": turn.index.head_stamp(), "stored": lines, "tips": tips}
+
+
+def _before(block: BlockText) -> str | None:
+    return None if block.previous is None else f"{block.number - 1}-{block.previous}"
+
+
+def _switch(turn: Turn, stored: dict[str, BlockText], tip: str) -> dict[str, Any]:
+    """What a switch to a stored block would do: the blocks that it takes off and puts on, oldest first; `missing` is a stamp that is nowhere."""
+    put_on, at = [tip], _before(stored[tip])
+    while at is not None and at in stored:
+        put_on.append(at)
+        at = _before(stored[at])
+    number = -1 if at is None else int(at.split("-")[0])
+    missing = at if at is not None and turn.index.hash_of(number) != at.split("-")[1] else None
+    behind = range(number + 1, turn.index.length()) if missing is None else range(0)
+    taken_off = [f"{each}-{turn.index.hash_of(each)}" for each in behind]
+    return {"tip": tip, "stands_on": at, "missing": missing, "takes_off": taken_off, "puts_on": put_on[::-1]}
 
 
 async def failures(turn: Turn) -> dict[str, Any]:
@@ -92,63 +164,20 @@ async def pool(turn: Turn) -> dict[str, Any]:
     waiting = turn.index.pending()
     left = await left_out(turn) if waiting and not turn.lacks("FORGE") else {}
     lines = [
-        {"hash": each.hash, "kind": each.kind, "issuer": each.issuer, "subject": each.subject, "text": each.text, "left": left.get(each.hash)}
+        {
+            "hash": each.hash, "kind": each.kind, "issuer": each.issuer, "subject": each.subject, "text": each.text, "left": left.get(each.hash),
+            "sentence": sentence(left[each.hash]) if each.hash in left else None,
+        }
         for each in waiting
     ]
     return {"size": 1024, "documents": lines}
 
 
-async def why(ledger: Ledger, program_path: Path, raw: bytes) -> dict[str, Any]:
-    """What the chain would answer to a block, found out by a program of its own that is given the log."""
-    if not raw or len(raw) > commands.LONGEST_FRAME:
-        raise Refusal(UNHANDLED, f"A block of at most {commands.LONGEST_FRAME} bytes is wanted in the body")
-    claims, false = await ledger.turn(lambda turn: _claims_of(turn, raw))
-    scratch = await Program.start(program_path)
-    try:
-        await _replay(scratch, ledger.log)
-        for command in claims:
-            await scratch.ask(command)
-        answer = (await scratch.ask(commands.block(raw)))[0].split(" ")
-    finally:
-        await scratch.stop()
-    rule = answer[1] if answer[0] == "REFUSED" else None
-    return {
-        "accepted": answer[0] == "ACCEPTED", "rule": rule, "sentence": None if rule is None else sentence(rule),
-        "line": int(answer[2]) if rule == "P01" else None, "false_signatures_in_lines": false,
-    }
-
-
-async def _claims_of(turn: Turn, raw: bytes) -> tuple[list[commands.Command], list[int]]:
-    """The verdicts on a block's signatures, and the lines of those that are false."""
-    try:
-        read = read_block(raw)
-    except Unreadable:
-        return [], []
-    found, false = [], []
-    for claim in read.claims(Branch(turn.index, read.block.number, read.block.prev_hash)):
-        if is_true(claim):
-            assert claim.text is not None
-            found.append(commands.verdict(claim.key, digest(claim.text), claim.signature))
-        else:
-            false.append(claim.line)
-    return found, false
-
-
-async def _replay(program: Program, log: Log) -> None:
-    batch: list[tuple[commands.Command, int]] = []
-    for entry in log.entries():
-        batch.append((commands.read_changing(entry.line, entry.frame), entry.answer.count("\n") + 1))
-        if len(batch) == _BATCH:
-            await program.again(batch)
-            batch.clear()
-    await program.again(batch)
-
-
-async def newest(turn: Turn) -> tuple[dict[str, Any] | None, int]:
-    """What an event tells of the last block, and how many documents wait."""
+async def newest(turn: Turn) -> tuple[dict[str, Any] | None, int, int]:
+    """What an event tells of the last block, how many documents wait, and how many blocks are stored."""
     found = turn.index.block(turn.index.length() - 1)
-    waiting = len(turn.index.pending())
+    waiting, stored = turn.index.count("pending"), turn.index.count("stored")
     if found is None:
-        return None, waiting
+        return None, waiting, stored
     last = found[0]
-    return {"number": last.number, "stamp": last.stamp, "issuer": last.fields["Issuer"], "median_time": last.median_time}, waiting
+    return {"number": last.number, "stamp": last.stamp, "issuer": last.fields["Issuer"], "median_time": last.median_time}, waiting, stored

@@ -9,6 +9,7 @@ from .commands import Command, Shape
 _LONGEST_LINE = 1 << 20
 _ALONE = ("NONE", "BAD", "NOMEM", "REFUSED")
 _SECONDS_TO_END = 5.0
+_AT_ONCE = 100
 _SOME_HASH = "0" * 64
 _SOME_KEY = "1" * 44
 
@@ -74,6 +75,23 @@ class Program:
             except (ConnectionError, RuntimeError) as error:
                 raise ProgramEnded("the program ended") from error
             return await self._read(command.shape)
+
+    async def ask_all(self, batch: Sequence[Command]) -> list[list[str]]:
+        """The answers to several queries, of which some are written at once. Raises ProgramEnded."""
+        return await asyncio.shield(asyncio.ensure_future(self._ask_all(batch)))
+
+    async def _ask_all(self, batch: Sequence[Command]) -> list[list[str]]:
+        answers = []
+        async with self._turn:
+            for start in range(0, len(batch), _AT_ONCE):
+                piece = batch[start : start + _AT_ONCE]
+                try:
+                    self._input.write(b"".join(command.encoded() for command in piece))
+                    await self._input.drain()
+                except (ConnectionError, RuntimeError) as error:
+                    raise ProgramEnded("the program ended") from error
+                answers += [await self._read(command.shape) for command in piece]
+        return answers
 
     async def again(self, batch: Sequence[tuple[Command, int]]) -> list[list[str]]:
         """The answers to several commands that are written at once, each with the number of its lines. Raises ProgramEnded."""

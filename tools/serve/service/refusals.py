@@ -54,7 +54,25 @@ def sentences() -> dict[str, str]:
 
 def sentence(rule: str) -> str:
     """The sentence of a rule; its code where it has none."""
-    return sentences().get(rule, f"rule {rule}")
+    return {**_NO_RULES, **sentences()}.get(rule, f"rule {rule}")
+
+
+_CHAPTERS = {
+    "the-input": ("X01",), "block-text": ("P01", "L01", "X07", "L02", "L06", "G50"), "parameters": ("X02",), "documents": ("D01",),
+    "verdicts": ("L05", "L07", "L11", "L24", "G72", "G84"), "the-time-of-a-stamp": ("L03", "L04", "G63", "G64", "G65", "G103"),
+    "chains": ("G51", "G52", "G53", "G49"), "head-values": ("X03", "X04", "X08", *(f"G{code}" for code in range(54, 63))),
+    "people": ("L08", "L09", "L10", "L12", "L13", "G101", "X06", "G73", "G74", "G75", "G108", "G82", "G78", "G81", "G80", "G77", "G83"),
+    "certifications": ("L14", "L15", "L16", "L17", "G66", "G67", "G68", "G69", "G70", "G71", "G79", "G85", "G86"), "distance": ("G76",),
+    "transactions": ("L18", "L19", "L22", "L23", "X05", "G89"), "unlocks": ("L20",), "sources": ("L21", "G87"), "conditions": ("G88",),
+    "outputs": ("G90",), "commands-and-answers": ("W01",),
+}
+_CHAPTER_OF_RULE = {rule: name for name, rules in _CHAPTERS.items() for rule in rules}
+_NO_RULES = {"D01": "The bytes are the text of a document.", "W01": "No more blocks are taken off than can be."}
+
+
+def chapter(rule: str) -> str:
+    """The chapter of the protocol that has what a rule speaks of; that on rules where none other has."""
+    return _CHAPTER_OF_RULE.get(rule, "rules")
 
 
 def by_rule(rule: str, before: str = "") -> Refusal:

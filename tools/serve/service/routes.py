@@ -62,6 +62,10 @@ READS = [
     Read("/node/accounts/{condition}", node_pages.account),
     Read("/node/blocks/{number}", node_pages.block),
     Read("/node/distance/{key}", node_pages.distance),
+    Read("/node/points", node_pages.points),
+    Read("/node/people", node_pages.everybody),
+    Read("/node/people/{word}", node_pages.person),
+    Read("/node/meaning/{condition}", node_pages.meaning),
     Read("/node/branches", node_pages.branches),
     Read("/node/failures", node_pages.failures),
     Read("/node/pool", node_pages.pool),
@@ -77,7 +81,7 @@ POSTS = [
 
 _OTHERS = {
     "/blockchain/block": ("post", "A block in the form's fields block and signature: to the chain where it stands on the last one, else stored."),
-    "/node/why": ("post", "What the chain would answer to the raw block in the body; nothing changes."),
+    "/node/why": ("post", "What the chain would answer to the raw block or document in the body, and why; nothing changes."),
     "/node/forge": ("post", "Forges a block now, where the service was started with --forge-on-request."),
     "/node/events": ("get", "Server-sent events: block and pool."),
     "/ws/block": ("get", "A websocket with each new block, the last one first."),

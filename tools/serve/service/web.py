@@ -15,9 +15,11 @@ from . import bma_chain, node_pages
 from .commands import BadWord
 from .forging import Forger
 from .ledger import Lacking, Ledger, Turn, Unavailable
+from .page.pages import Page, is_of_page
 from .program import ProgramEnded
 from .refusals import BLOCK_REQUIRED, LIMITATION, UNHANDLED, UNKNOWN, WRONG_DOCUMENT, Refusal
 from .routes import POSTS, READS, Post, Read, openapi
+from .why import Trial, why
 from .writes import submit_block, submit_document
 
 LONGEST_BODY = 3_000_000
@@ -63,11 +65,12 @@ class Service:
     """A ledger behind HTTP."""
 
     def __init__(self, ledger: Ledger, program: Path, forger: Forger | None = None, *, forge_on_request: bool = False) -> None:
-        self._ledger, self._program, self._forger = ledger, program, forger
+        self._ledger, self._forger = ledger, forger
         self._forge_on_request = forge_on_request
         self._kept, self._streams = _Kept(), dict[str, int]()
         self._waiters: set[asyncio.Event] = set()
-        self._why = asyncio.Lock()
+        self.trial = Trial(ledger, program)
+        self._page = Page(ledger, self.trial)
         ledger.listen(self._tell)
 
     def application(self) -> web.Application:
@@ -84,11 +87,13 @@ class Service:
         router.add_get("/node/events", self._events)
         router.add_get("/ws/block", self._websocket)
         router.add_get("/node/openapi.json", self._openapi)
-        router.add_get("/node", self._page)
+        router.add_get("/node", self._paths)
+        self._page.add_to(router)
         return application
 
     def _tell(self) -> None:
         self._kept.drop()
+        self._page.drop()
         for waiter in self._waiters:
             waiter.set()
 
@@ -113,7 +118,7 @@ class Service:
     async def _openapi(self, _: web.Request) -> web.Response:
         return _json(openapi())
 
-    async def _page(self, _: web.Request) -> web.Response:
+    async def _paths(self, _: web.Request) -> web.Response:
         rows = [
             f"<tr><td>{method.upper()}</td><td><code>{html.escape(path)}</code></td><td>{html.escape(what['summary'])}</td></tr>"
             for path, methods in openapi()["paths"].items()
@@ -149,11 +154,7 @@ class Service:
         return _json({"answer": answer.split("\n")})
 
     async def _post_why(self, request: web.Request) -> web.StreamResponse:
-        raw = await _body(request)
-        if self._why.locked():
-            raise Unavailable("another block is being looked at")
-        async with self._why:
-            return _json(await node_pages.why(self._ledger, self._program, raw))
+        return _json(await why(self._ledger, self.trial, await _body(request)))
 
     async def _post_forge(self, _: web.Request) -> web.StreamResponse:
         if self._forger is None or not self._forge_on_request:
@@ -171,15 +172,18 @@ class Service:
             return response
 
     async def _write_events(self, response: web.StreamResponse, changed: asyncio.Event) -> None:
-        head, pool = "", -1
+        head, pool, branches = "", -1, -1
         while True:
-            last, waiting = await self._ledger.turn(node_pages.newest)
+            last, waiting, stored = await self._ledger.turn(node_pages.newest)
             if last is not None and last["stamp"] != head:
                 head = last["stamp"]
                 await response.write(_event("block", last))
             if waiting != pool:
                 pool = waiting
                 await response.write(_event("pool", {"waiting": waiting}))
+            if stored != branches:
+                branches = stored
+                await response.write(_event("branches", {"stored": stored}))
             if not await _wait(changed, _SECONDS_BETWEEN_PINGS):
                 await response.write(b": still here\n\n")
 
@@ -191,7 +195,7 @@ class Service:
             head = ""
             try:
                 while not socket.closed and not reader.done():
-                    last, _ = await self._ledger.turn(node_pages.newest)
+                    last, *_ = await self._ledger.turn(node_pages.newest)
                     if last is not None and last["stamp"] != head:
                         head = last["stamp"]
                         await socket.send_json(await self._ledger.turn(bma_chain.current))
@@ -214,24 +218,27 @@ class Service:
         try:
             return await handler(request)
         except Refusal as refusal:
-            return _refused(refusal)
+            return self._refuse(request, refusal)
         except BadWord as error:
-            return _refused(Refusal(UNHANDLED, str(error)))
+            return self._refuse(request, Refusal(UNHANDLED, str(error)))
         except Lacking as error:
-            return _refused(Refusal(UNHANDLED, f"The program that runs here has no command {error} yet", 501))
+            return self._refuse(request, Refusal(UNHANDLED, f"The program that runs here has no command {error} yet", 501))
         except (Unavailable, ProgramEnded) as error:
-            return _refused(Refusal(LIMITATION, str(error)))
+            return self._refuse(request, Refusal(LIMITATION, str(error)))
         except asyncio.TimeoutError:
-            return _refused(Refusal(UNHANDLED, "The body did not come in time", 408))
+            return self._refuse(request, Refusal(UNHANDLED, "The body did not come in time", 408))
         except web.HTTPNotFound:
-            return _refused(Refusal(UNKNOWN, "There is no such path"))
+            return self._refuse(request, Refusal(UNKNOWN, "There is no such path"))
         except web.HTTPException as error:
-            return _refused(Refusal(UNHANDLED, f"{error.reason}", error.status))
+            return self._refuse(request, Refusal(UNHANDLED, f"{error.reason}", error.status))
         except ConnectionError:
             raise
         except Exception:
             traceback.print_exc()
-            return _refused(Refusal(UNKNOWN, "The service failed at this; its log has more", 500))
+            return self._refuse(request, Refusal(UNKNOWN, "The service failed at this; its log has more", 500))
+
+    def _refuse(self, request: web.Request, refusal: Refusal) -> web.Response:
+        return self._page.refused(refusal) if is_of_page(request.path) else _refused(refusal)
 
 
 class _Stream:

@@ -1,0 +1,177 @@
+"""Why a block or a document is refused: a program of its own that is given the log says the rule, and the values of the case stand beside it."""
+import asyncio
+import time
+from pathlib import Path
+from typing import Any
+
+from . import commands, people
+from .branch import Branch
+from .ledger import Lacking, Ledger, Turn
+from .log import Log
+from .program import Program, ProgramEnded
+from .refusals import UNHANDLED, Refusal, chapter, sentence
+from .verdicts import Claim, Unreadable, digest, document_claims, is_true, read_block
+from .why_values import values_of
+from .writes import forging_time
+
+_BATCH = 500
+_SECONDS_KEPT = 120.0
+
+
+class Trial:
+    """A second program with the same log, in which what is asked about is tried and taken back. It is ended when nobody asked for a while."""
+
+    def __init__(self, ledger: Ledger, path: Path) -> None:
+        self._ledger, self._path = ledger, path
+        self._program: Program | None = None
+        self._at = (0, "")
+        self._lock = asyncio.Lock()
+        self._end: asyncio.TimerHandle | None = None
+
+    async def block(self, claims: list[commands.Command], raw: bytes) -> list[str]:
+        """The words of the answer to a block."""
+        async with self._lock:
+            program = await self._ready()
+            try:
+                await program.ask_all(claims)
+                answer = (await program.ask(commands.block(raw)))[0].split(" ")
+                if answer[0] == "ACCEPTED" and await program.ask(commands.revert(1)) != ["REVERTED 1"]:
+                    await self._stop()
+                return answer
+            except BaseException:
+                await self._stop()
+                raise
+
+    async def document(self, claims: list[commands.Command], raw: bytes, key: str, second: int) -> tuple[str | None, bool]:
+        """The rule that refuses a document, or by which the block that the key would forge leaves it out; and whether that block has it."""
+        async with self._lock:
+            program = await self._ready()
+            if program.lacks & {"PEND", "FORGE"}:
+                raise Lacking("PEND" if "PEND" in program.lacks else "FORGE")
+            try:
+                return await self._tried(program, claims, raw, key, second)
+            except BaseException:
+                await self._stop()
+                raise
+
+    async def _tried(
+        self, program: Program, claims: list[commands.Command], raw: bytes, key: str, second: int
+    ) -> tuple[str | None, bool]:
+        await program.ask_all(claims)
+        answer = (await program.ask(commands.pend(raw)))[0].split(" ")
+        if answer[0] == "REFUSED":
+            return answer[1], False
+        text_hash = digest(raw.decode("latin-1"))
+        lines = await program.ask(commands.forge(key, second))
+        if answer[0] == "PENDING":
+            await program.ask(commands.unpend(text_hash))
+        if lines[0].startswith("REFUSED "):
+            return lines[0].split(" ")[1], False
+        left = dict(line.split(" ")[1:3] for line in lines if line.startswith("LEFT "))
+        return left.get(text_hash), text_hash not in left
+
+    async def warm(self) -> None:
+        """Has the program ready for a question."""
+        async with self._lock:
+            await self._ready()
+
+    async def close(self) -> None:
+        """Ends the program."""
+        async with self._lock:
+            await self._stop()
+
+    async def _ready(self) -> Program:
+        """The program, given what the log has by now."""
+        if self._program is None:
+            self._program, self._at = await Program.start(self._path), (0, "")
+        try:
+            self._at = await _replay(self._program, self._ledger.log, self._at)
+        except (ProgramEnded, commands.BadWord):
+            await self._stop()
+            raise
+        self._wait_for_end()
+        return self._program
+
+    def _wait_for_end(self) -> None:
+        if self._end is not None:
+            self._end.cancel()
+        self._end = asyncio.get_running_loop().call_later(_SECONDS_KEPT, lambda: asyncio.ensure_future(self.close()))
+
+    async def _stop(self) -> None:
+        program, self._program = self._program, None
+        if program is not None:
+            await program.stop()
+
+
+async def _replay(program: Program, log: Log, after: tuple[int, str]) -> tuple[int, str]:
+    batch: list[tuple[commands.Command, int]] = []
+    for entry in list(log.entries(after)):
+        batch.append((commands.read_changing(entry.line, entry.frame), entry.answer.count("\n") + 1))
+        after = (entry.number, entry.sum)
+        if len(batch) == _BATCH:
+            await program.again(batch)
+            batch.clear()
+    await program.again(batch)
+    return after
+
+
+async def why(ledger: Ledger, trial: Trial, raw: bytes) -> dict[str, Any]:
+    """What the chain would answer to a block or a document, with the rule, its chapter, and the values that broke it. Raises a refusal."""
+    if not raw or len(raw) > commands.LONGEST_FRAME:
+        raise Refusal(UNHANDLED, f"A block or document of at most {commands.LONGEST_FRAME} bytes is wanted in the body")
+    is_document = raw.split(b"\n", 2)[1:2] not in ([], [b"Type: Block"]) and raw.split(b"\n", 2)[1].startswith(b"Type: ")
+    return await (_why_document if is_document else _why_block)(ledger, trial, raw)
+
+
+async def _why_block(ledger: Ledger, trial: Trial, raw: bytes) -> dict[str, Any]:
+    claims, false = await ledger.turn(lambda turn: _claims_of(turn, raw))
+    answer = await trial.block(claims, raw)
+    rule = answer[1] if answer[0] == "REFUSED" else None
+    line = int(answer[2]) if rule == "P01" else None
+    values = await ledger.turn(lambda turn: values_of(turn, raw, rule, false, line))
+    return {"kind": "block", "accepted": answer[0] == "ACCEPTED", **_said(rule), "line": line, "false_signatures_in_lines": false, "values": values}
+
+
+async def _why_document(ledger: Ledger, trial: Trial, raw: bytes) -> dict[str, Any]:
+    try:
+        found = document_claims(raw)
+    except Unreadable as error:
+        values = [{"what": "what a library says of it", "value": str(error), "line": None}]
+        return {"kind": "document", "accepted": False, **_said("D01"), "line": None, "false_signatures_in_lines": [], "values": values}
+    claims, false = _split(found)
+    key, second = await ledger.turn(_forger)
+    rule, is_in = await trial.document(claims, raw, key, second)
+    values = await ledger.turn(lambda turn: values_of(turn, raw, rule, false, None))
+    return {"kind": found[0].kind, "accepted": is_in, **_said(rule), "line": None, "false_signatures_in_lines": false, "values": values}
+
+
+def _said(rule: str | None) -> dict[str, Any]:
+    return {"rule": rule, "sentence": None if rule is None else sentence(rule), "chapter": None if rule is None else chapter(rule)}
+
+
+async def _forger(turn: Turn) -> tuple[str, int]:
+    """Some member's key, and when the next block may be. Raises a refusal where nobody is a member."""
+    for identity in turn.index.identities():
+        if await people.is_member(turn, identity.key):
+            return identity.key, forging_time(turn.index, int(time.time()))
+    raise Refusal(UNHANDLED, "No block can be forged, since nobody is a member")
+
+
+async def _claims_of(turn: Turn, raw: bytes) -> tuple[list[commands.Command], list[int]]:
+    """The verdicts on a block's signatures, and the lines of those that are false."""
+    try:
+        read = read_block(raw)
+    except Unreadable:
+        return [], []
+    return _split(list(read.claims(Branch(turn.index, read.block.number, read.block.prev_hash))))
+
+
+def _split(claims: list[Claim]) -> tuple[list[commands.Command], list[int]]:
+    true, false = [], []
+    for claim in claims:
+        if is_true(claim):
+            assert claim.text is not None
+            true.append(commands.verdict(claim.key, digest(claim.text), claim.signature))
+        else:
+            false.append(claim.line)
+    return true, false
