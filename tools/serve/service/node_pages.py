@@ -38,11 +38,11 @@ async def account(turn: Turn, word: str) -> dict[str, Any]:
     if answer == ["BAD"]:
         raise Refusal(UNHANDLED, "This is neither a key nor a condition")
     sources = [line.removeprefix("SOURCE ") for line in await turn.ask(commands.of_condition("SOURCES", condition))]
-    moves = await _moves(turn, condition)
+    moves, points = await _moves(turn, condition), series(turn.index)
     return {
         "condition": condition, "balance": int(answer[0].split(" ")[1]),
         "sources": [{"source": each, "units": units(each)} for each in sources],
-        "moves": [{**vars(each), "units": units(each.source), "time": turn.index.median_time(each.block)} for each in moves],
+        "moves": [{**vars(each), "units": units(each.source), "time": points[each.block].median_time} for each in moves],
     }
 
 

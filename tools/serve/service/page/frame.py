@@ -23,11 +23,12 @@ class View:
 
 def framed(view: View, *, currency: str, head: str, lacks: list[str], versions: dict[str, str]) -> Element:
     """The whole document. `head` is the stamp of the last block, `lacks` sentences on what cannot be reached."""
-    style, script = [path("page", "static", name) + f"?v={versions[name]}" for name in ("page.css", "page.js")]
+    style, script, icon = [path("page", "static", name) + f"?v={versions[name]}" for name in ("page.css", "page.js", "icon.svg")]
     relations = [e("link", rel=relation, href=to) for relation, to in view.links.items()]
     top = e(
         "head", e("meta", charset="utf-8"), e("meta", name="viewport", content="width=device-width, initial-scale=1"),
-        e("title", f"{view.title} - {currency}"), e("link", rel="stylesheet", href=style), *relations, e("script", src=script, defer=True),
+        e("title", f"{view.title} - {currency}"), e("link", rel="stylesheet", href=style),
+        e("link", rel="icon", href=icon), *relations, e("script", src=script, defer=True),
     )
     main = e(
         "main", e("h1", view.title), *view.content, id="main", tabindex="-1", data_head=head, data_live="yes" if view.is_live else "no",

@@ -17,7 +17,7 @@ from .markup import written
 from .views import Query
 
 _FOLDER = Path(__file__).resolve().parent / "static"
-_TYPES = {"page.css": "text/css", "page.js": "text/javascript"}
+_TYPES = {"page.css": "text/css", "page.js": "text/javascript", "icon.svg": "image/svg+xml"}
 _POLICY = (
     "default-src 'none'; script-src 'self'; style-src 'self'; img-src 'self'; connect-src 'self'; form-action 'self'; base-uri 'none'; "
     "frame-ancestors 'none'"
@@ -126,6 +126,8 @@ class Page:
         text = await _asked(request)
         raw = (text if text.endswith("\n") else text + "\n").encode("latin-1", "replace")
         try:
+            if not text.strip():
+                raise Refusal(UNHANDLED, "Nothing was put in")
             shown = await why(self._ledger, self._trial, raw)
             head = self._ledger.index.head_stamp()
             view = waiting.answered(head, shown, raw.decode("latin-1"))

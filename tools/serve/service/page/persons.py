@@ -184,7 +184,8 @@ def _plot(moves: list[dict[str, Any]]) -> Element:
     cells = [[number(each["block"]), moment(each["time"]), number(each["balance"])] for each in rows]
     inner = table("Numbers of the plot", ["block", "time", "balance"], cells, class_="numbers")
     numbers = e("details", e("summary", "The numbers of the plot"), inner, id="balances")
-    return e("div", e("div", plot("Balance over time", times, [line], identifier="plot-balance"), class_="plots", data_reads="balances"), numbers)
+    picture = plot("Balance over time", times, [line], identifier="plot-balance", blocks=(rows[0]["block"], rows[-1]["block"]))
+    return e("div", e("div", picture, class_="plots", data_reads="balances"), numbers)
 
 
 def _sources(shown: dict[str, Any]) -> Element:

@@ -7,7 +7,7 @@ from .markup import Element, e, number, path
 
 WIDTH, HEIGHT = 640, 220
 _TOP, _BOTTOM, _SIDE = 12, 30, 6
-_NODE, _RING, _GAP = 9, 95, 40
+_NODE, _RING, _GAP = 9, 95, 54
 MOST_DRAWN = 120
 """People in a drawing of a web; of more the nearest are drawn."""
 
@@ -21,17 +21,23 @@ class Line:
     values: list[int]
 
 
-def plot(name: str, times: list[int], lines: list[Line], *, identifier: str) -> Element:
-    """A plot of values that stay until the next time. The names of the lines and their last values stand below it."""
+def plot(name: str, times: list[int], lines: list[Line], *, identifier: str, blocks: tuple[int, int]) -> Element:
+    """A plot of values that stay until the next time, between two blocks. The names of the lines and their last values stand below it."""
     top = max([1, *(value for line in lines for value in line.values)])
     first, last = (times[0], times[-1]) if times else (0, 0)
     places = [_SIDE + (WIDTH - 2 * _SIDE) * (time - first) / max(1, last - first) for time in times]
-    parts = [_grid(top), *[_steps(line, places, top) for line in lines]]
+    parts = [_grid(top), *_ends(blocks), *[_steps(line, places, top) for line in lines]]
     marker = e("line", class_="marker", x1=0, x2=0, y1=_TOP, y2=HEIGHT - _BOTTOM, visibility="hidden")
     said = "; ".join(f"{line.name} from {number(line.values[0])} to {number(line.values[-1])}" for line in lines if line.values)
     drawing = e("svg", *parts, marker, viewBox=f"0 0 {WIDTH} {HEIGHT}", role="img", aria_label=f"{name}: {said}", class_="plot")
     legend = e("ul", *[_legend(line) for line in lines], class_="legend")
     return e("figure", e("figcaption", name), drawing, legend, id=identifier, data_places=" ".join(f"{place:.1f}" for place in places))
+
+
+def _ends(blocks: tuple[int, int]) -> list[Element]:
+    height = HEIGHT - 6
+    last = e("text", f"block {number(blocks[1])}", x=WIDTH - 2, y=height, class_="end")
+    return [e("text", f"block {number(blocks[0])}", x=2, y=height), *([last] if blocks[1] != blocks[0] else [])]
 
 
 def _legend(line: Line) -> Element:
@@ -74,26 +80,28 @@ class Node:
 def web(middle: dict[str, Any], near: list[list[tuple[str, str]]], edges: set[tuple[str, str]], lit: set[tuple[str, str]]) -> Element:
     """The web around a person: rings of keys and names, certifications as arrows, and those of the walks of sentries lit up."""
     nodes = _placed(middle, near)
-    size = max(abs(part) for node in nodes.values() for part in (node.x, node.y)) + 60
     shown = sorted(edges | lit, key=lambda pair: pair in lit)
     arrows = [_arrow(nodes[a], nodes[b], (a, b) in lit) for a, b in shown if a in nodes and b in nodes]
     sentries = {each["sentry"] for each in middle["sentries"]}
     people = [_person(node, node.key in sentries or (node.ring == 0 and middle["is_sentry"])) for node in nodes.values()]
-    box = f"{-size:.0f} {-size:.0f} {2 * size:.0f} {2 * size:.0f}"
+    left, top = min(node.x for node in nodes.values()) - 60, min(node.y for node in nodes.values()) - 30
+    width, height = max(node.x for node in nodes.values()) + 60 - left, max(node.y for node in nodes.values()) + 40 - top
+    box, size = f"{left:.0f} {top:.0f} {width:.0f} {height:.0f}", {"width": f"{width:.0f}", "height": f"{height:.0f}"}
     label = f"The web around {middle['uid']}: {len(nodes)} people, {len(arrows)} certifications"
     heads = e("defs", _head("arrow"), _head("arrow-lit"))
-    return e("svg", heads, *arrows, *people, viewBox=box, role="group", aria_label=label, class_="web")
+    return e("svg", heads, *arrows, *people, viewBox=box, **size, role="group", aria_label=label, class_="web")
 
 
 def _head(name: str) -> Element:
-    return e("marker", e("path", d="M0 0L8 4L0 8z", class_=name), id=name, markerWidth=8, markerHeight=8, refX=8, refY=4, orient="auto")
+    size = {"markerWidth": 9, "markerHeight": 8, "refX": 8, "refY": 4, "markerUnits": "userSpaceOnUse"}
+    return e("marker", e("path", d="M0 0L8 4L0 8z", class_=name), id=name, orient="auto", **size)
 
 
 def _placed(middle: dict[str, Any], near: list[list[tuple[str, str]]]) -> dict[str, Node]:
     nodes = {middle["key"]: Node(middle["key"], middle["uid"], 0, 0, 0)}
     radius = 0.0
     for ring, people in enumerate(near, 1):
-        radius = max(radius + _RING, len(people) * _GAP / (2 * math.pi))
+        radius = max(radius + _RING + 20 * (ring == 1), len(people) * _GAP / (2 * math.pi))
         for place, (key, uid) in enumerate(people):
             angle = 2 * math.pi * (place + 0.5 * (ring % 2)) / max(1, len(people)) - math.pi / 2
             nodes[key] = Node(key, uid, radius * math.cos(angle), radius * math.sin(angle), ring)

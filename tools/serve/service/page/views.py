@@ -56,14 +56,17 @@ def _money(values: dict[str, Any], money: dict[str, Any], points: list[Point]) -
 
 def _plots(points: list[Point]) -> list[Child]:
     rows = [points[place] for place in thinned(len(points))]
-    times = [each.median_time for each in rows]
+    times, ends = [each.median_time for each in rows], (rows[0].number, rows[-1].number)
     pictures = [
-        plot("Members", times, [Line("members", "first", [each.members for each in rows])], identifier="plot-members"),
-        plot("Dividend that was last paid", times, [Line("dividend", "second", [each.dividend for each in rows])], identifier="plot-dividend"),
+        plot("Members", times, [Line("members", "first", [each.members for each in rows])], identifier="plot-members", blocks=ends),
+        plot(
+            "Dividend that was last paid", times, [Line("dividend", "second", [each.dividend for each in rows])], identifier="plot-dividend",
+            blocks=ends,
+        ),
         plot(
             "Mass and unspent money", times,
             [Line("mass", "first", [each.mass for each in rows]), Line("unspent", "third", [each.unspent for each in rows])],
-            identifier="plot-mass",
+            identifier="plot-mass", blocks=ends,
         ),
     ]
     heads = ["block", "time", "members", "dividend", "mass", "unspent"]
@@ -71,8 +74,8 @@ def _plots(points: list[Point]) -> list[Child]:
     which = "every block" if len(rows) == len(points) else f"{len(rows)} of {len(points):,} blocks, evenly"
     inner = table("Numbers of the plots", heads, cells, class_="numbers")
     numbers = e("details", e("summary", f"The numbers of the plots ({which})"), inner, id="numbers")
-    ends = e("p", "From ", moment(times[0]), " to ", moment(times[-1]), f": {which}.")
-    return [e("section", e("h2", "Over time"), ends, e("div", *pictures, class_="plots", data_reads="numbers"), numbers, id="over-time")]
+    said = e("p", "From ", moment(times[0]), " to ", moment(times[-1]), f": {which}.")
+    return [e("section", e("h2", "Over time"), said, e("div", *pictures, class_="plots", data_reads="numbers"), numbers, id="over-time")]
 
 
 def _values(point: Point) -> tuple[int, int, int, int]:

@@ -20,36 +20,39 @@ function readPlots(plots) {
   const details = document.getElementById(plots.dataset.reads);
   const rows = details ? Array.from(details.querySelectorAll("tbody tr")) : [];
   if (rows.length < 2) { return; }
+  const reader = document.createElement("div");
+  reader.className = "reader";
   const label = document.createElement("label");
-  label.className = "reader";
   const said = document.createElement("output");
   const range = document.createElement("input");
   Object.assign(range, { type: "range", min: "0", max: String(rows.length - 1), value: String(rows.length - 1), id: "read-" + plots.dataset.reads });
-  label.append("Read the plot at: ", said, range);
-  plots.append(label);
+  label.append("Read the plot at: ");
+  label.htmlFor = range.id;
+  reader.append(label, said, range);
+  plots.append(reader);
   const figures = Array.from(plots.querySelectorAll("figure"));
-  const show = () => {
+  const show = (isAsked) => {
     const row = rows[Number(range.value)];
     const text = "block " + cellOf(row, "block").textContent + ", " + cellOf(row, "time").textContent;
     said.textContent = text;
-    range.setAttribute("aria-valuetext", text + ", " + figures.map((figure) => showFigure(figure, row, Number(range.value))).join(", "));
+    range.setAttribute("aria-valuetext", text + ", " + figures.map((figure) => showFigure(figure, row, Number(range.value), isAsked)).join(", "));
   };
-  range.addEventListener("input", show);
+  range.addEventListener("input", () => show(true));
   for (const figure of figures) {
     figure.querySelector("svg").addEventListener("pointermove", (event) => {
       range.value = String(nearest(figure, event));
-      show();
+      show(true);
     });
   }
-  show();
+  show(false);
 }
 
-function showFigure(figure, row, place) {
+function showFigure(figure, row, place, isAsked) {
   const at = figure.dataset.places.split(" ")[place];
   const marker = figure.querySelector(".marker");
   marker.setAttribute("x1", at);
   marker.setAttribute("x2", at);
-  marker.setAttribute("visibility", "visible");
+  marker.setAttribute("visibility", isAsked ? "visible" : "hidden");
   return Array.from(figure.querySelectorAll("output[data-line]")).map((output) => {
     output.textContent = cellOf(row, output.dataset.line).textContent;
     return output.dataset.line + " " + output.textContent;
@@ -116,7 +119,7 @@ async function renew() {
     const main = document.getElementById("main");
     if (answer.ok && from) {
       const places = placesOf(main);
-      main.replaceChildren(...Array.from(from.childNodes, (node) => document.adoptNode(node)));
+      main.replaceChildren(...Array.from(from.childNodes));
       main.dataset.head = from.dataset.head;
       prepare(main);
       putBack(main, places);
@@ -146,10 +149,24 @@ function reach(isThere) {
   if (place.textContent !== said) { place.textContent = said; }
 }
 
+let events = null;
+
+// A page that is not looked at keeps no connection: a browser opens few to one host.
+function listenWhileShown() {
+  const isShown = document.visibilityState === "visible";
+  if (isShown && !events) { listen(); }
+  if (!isShown) { leave(); }
+}
+
+function leave() {
+  if (events) { events.close(); }
+  events = null;
+}
+
 function listen() {
   const main = document.getElementById("main");
   const known = {};
-  const events = new EventSource("/node/events");
+  events = new EventSource("/node/events");
   events.addEventListener("open", () => reach(true));
   events.addEventListener("error", () => reach(false));
   events.addEventListener("block", (event) => {
@@ -168,4 +185,7 @@ function listen() {
 }
 
 prepare(document);
-listen();
+listenWhileShown();
+document.addEventListener("visibilitychange", listenWhileShown);
+window.addEventListener("pagehide", leave);
+window.addEventListener("pageshow", listenWhileShown);
