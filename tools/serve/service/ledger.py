@@ -1,8 +1,6 @@
 """The program, the log and the index as one: a turn asks the program, and what changed is on the disk before the turn ends."""
 import asyncio
 import sqlite3
-import sys
-import time
 from collections.abc import Awaitable, Callable, Sequence
 from pathlib import Path
 from typing import TypeVar
@@ -13,10 +11,10 @@ from .commands import BadWord, Command
 from .index import Index
 from .log import Log, LogRefused
 from .program import Program, ProgramEnded
+from .progress import Progress
 
 T = TypeVar("T")
 _BATCH = 500
-_SECONDS_BETWEEN_LINES = 1.0
 _CHAIN_WORDS = ("ACCEPTED", "REVERTED", "SWITCHED")
 
 
@@ -222,7 +220,7 @@ class Ledger:
 
     async def _replay(self, rebuild: bool) -> None:
         """Gives every entry to the program. Raises LogRefused where an answer is another than the one in the log."""
-        progress = _Progress(self.log.number)
+        progress = Progress("replayed")
         if rebuild:
             self.log.begin()
             self.index.clear()
@@ -238,7 +236,7 @@ class Ledger:
             if len(batch) == _BATCH or rebuild:
                 await self._replay_batch(batch, rebuild)
                 batch.clear()
-            progress.show(entry.number)
+            progress.show(entry.number, self.log.number)
         await self._replay_batch(batch, rebuild)
         progress.end()
         if rebuild:
@@ -284,23 +282,3 @@ class _Silent:
 
     def append(self, *_: object) -> None:
         """Adds nothing."""
-
-
-class _Progress:
-    """A line on standard error while a replay takes longer than a second."""
-
-    def __init__(self, total: int) -> None:
-        self._total, self._next, self._is_shown = total, time.monotonic() + _SECONDS_BETWEEN_LINES, False
-
-    def show(self, number: int) -> None:
-        """Says how many entries were given, once a second."""
-        if time.monotonic() < self._next:
-            return
-        self._next, self._is_shown = time.monotonic() + _SECONDS_BETWEEN_LINES, True
-        end = "\r" if sys.stderr.isatty() else "\n"
-        print(f"serve: replayed {number} of {self._total} entries", end=end, file=sys.stderr, flush=True)
-
-    def end(self) -> None:
-        """Goes to a line of its own."""
-        if self._is_shown and sys.stderr.isatty():
-            print(file=sys.stderr)

@@ -147,6 +147,7 @@ def test_every_view_on_a_narrow_screen_with_names(shown: Browser, chain: Server)
     for where in (*VIEWS, path("page", "person", key), path("page", "account", key), "/page/block/100", "/page/protocol/rules", "/page/nothing"):
         _open(shown, chain, where)
         assert shown.run("return document.documentElement.scrollWidth") <= 360, where
+        shown.complaints()
         names = list(shown.names())
         assert len(names) > 5 and all(name.strip() for _, name in names), (where, names)
     shown.width(1100)

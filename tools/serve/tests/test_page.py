@@ -395,3 +395,12 @@ def test_hostile_texts_of_requests(server: Server) -> None:
 
 def test_every_view_has_its_path() -> None:
     assert all(pages.is_of_page(at) for at, _ in pages.PATHS) and not pages.is_of_page("/node/head") and not pages.is_of_page("/pagex")
+
+
+def test_an_empty_chain(tmp_path: Path) -> None:
+    with Server(tmp_path / "log.sqlite") as server:
+        assert "There is no block yet" in _ok(server)
+        for at in ("/page/people", "/page/blocks", "/page/branches", "/page/pool", "/page/why"):
+            assert server.get(at).status == 200, at
+        for at in ("/page/block/0", "/page/person/x", "/page/parameters"):
+            assert server.get(at).status in (400, 404), at

@@ -191,7 +191,7 @@ def test_pages_of_the_node(example: Server) -> None:
     assert block["text"] == _texts()[2]
     assert [record.split(" ")[:2] for record in block["records"]] == [["SIDX", "DIVIDEND"]] * 3
     assert example.get(f"/node/distance/{_keys(example)[0]}").json["passes"] is True
-    assert example.get("/node/branches").json == {"head": example.get("/node/head").json["stamp"], "stored": []}
+    assert example.get("/node/branches").json == {"head": example.get("/node/head").json["stamp"], "stored": [], "tips": []}
     described = example.get("/node/openapi.json").json["paths"]
     for path in ("/tx/sources/{pubkey}", "/node/accounts/{condition}", "/wot/add", "/blockchain/block", "/node/why", "/node/events", "/ws/block"):
         assert path in described

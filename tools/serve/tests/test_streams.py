@@ -40,10 +40,11 @@ async def _events(server: Server, count: int, act: Callable[[], Any]) -> list[tu
 
 def test_events_tell_of_a_block(forging: Server) -> None:
     head = forging.get("/node/head").json["stamp"]
-    found = asyncio.run(asyncio.wait_for(_events(forging, 3, forging.forge), 60))
+    found = asyncio.run(asyncio.wait_for(_events(forging, 4, forging.forge), 60))
     assert found[0][0] == "block" and found[0][1]["stamp"] == head
     assert found[1] == ("pool", {"waiting": 0})
-    assert found[2][0] == "block" and found[2][1]["number"] == found[0][1]["number"] + 1
+    assert found[2] == ("branches", {"stored": 2})
+    assert found[3][0] == "block" and found[3][1]["number"] == found[0][1]["number"] + 1
 
 
 async def _sockets(server: Server) -> list[int]:

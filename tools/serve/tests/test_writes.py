@@ -184,7 +184,7 @@ def test_hostile_requests_change_nothing(forging: Server, people: dict[str, Wall
         answer = forging.ask("POST", "/tx/process", body, FORM)
         assert 400 <= answer.status < 500 and answer.json["message"], body[:40]
     assert forging.ask("POST", "/tx/process", b"x" * 3_000_001, FORM).status == 413
-    wrong = [("POST", "/wot/members", 405), ("DELETE", "/blockchain/current", 405), ("GET", "/blorg", 404), ("GET", "/", 404)]
+    wrong = [("POST", "/wot/members", 405), ("DELETE", "/blockchain/current", 405), ("GET", "/blorg", 404)]
     wrong.append(("POST", "/node/why", 400))
     for method, path, status in wrong:
         answer = forging.ask(method, path, b"" if method == "POST" else None)
