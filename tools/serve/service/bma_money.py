@@ -16,7 +16,7 @@ async def history(turn: Turn, key: str) -> dict[str, Any]:
 
 async def pending(turn: Turn, key: str) -> dict[str, Any]:
     """The payments of the key that wait."""
-    return _history(turn, checked_key(key), lambda _number, _time: False)
+    return _history(turn, checked_key(key), None)
 
 
 async def history_of_blocks(turn: Turn, key: str, first: str, last: str) -> dict[str, Any]:
@@ -31,13 +31,14 @@ async def history_of_times(turn: Turn, key: str, first: str, last: str) -> dict[
     return _history(turn, checked_key(key), lambda _number, time: start <= time <= end)
 
 
-def _history(turn: Turn, key: str, is_wanted: Callable[[int, int], bool]) -> dict[str, Any]:
+def _history(turn: Turn, key: str, is_wanted: Callable[[int, int], bool] | None) -> dict[str, Any]:
+    """The payments of a key that wait, and the written ones that are wanted by block and time; None stands for no written one."""
     parts: dict[str, list[dict[str, Any]]] = {"receiving": []}
     for role in ("sent", "received"):
         parts[role] = []
-        for number, transaction in turn.index.payments(key, role):
+        for number, transaction in turn.index.payments(key, role) if is_wanted is not None else []:
             time = turn.index.median_time(number) or 0
-            if is_wanted(number, time):
+            if is_wanted is not None and is_wanted(number, time):
                 parts[role].append({**transaction.json(), "block_number": number, "time": time})
     sending = turn.index.pending_payments(key, "sent")
     hashes = {each.hash for each in sending}

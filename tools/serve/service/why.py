@@ -1,6 +1,7 @@
 """Why a block or a document is refused: a program of its own that is given the log says the rule, and the values of the case stand beside it."""
 import asyncio
 import time
+from itertools import islice
 from pathlib import Path
 from typing import Any
 
@@ -14,7 +15,7 @@ from .verdicts import Claim, Unreadable, digest, document_claims, is_true, read_
 from .why_values import values_of
 from .writes import forging_time
 
-_BATCH = 500
+_BATCH = 200
 _SECONDS_KEPT = 120.0
 
 
@@ -104,14 +105,11 @@ class Trial:
 
 
 async def _replay(program: Program, log: Log, after: tuple[int, str]) -> tuple[int, str]:
-    batch: list[tuple[commands.Command, int]] = []
-    for entry in list(log.entries(after)):
-        batch.append((commands.read_changing(entry.line, entry.frame), entry.answer.count("\n") + 1))
-        after = (entry.number, entry.sum)
-        if len(batch) == _BATCH:
-            await program.again(batch)
-            batch.clear()
-    await program.again(batch)
+    # a piece at a time, so that others are answered meanwhile
+    while piece := list(islice(log.entries(after), _BATCH)):
+        batch = [(commands.read_changing(entry.line, entry.frame), entry.answer.count("\n") + 1) for entry in piece]
+        await program.again(batch)
+        after = (piece[-1].number, piece[-1].sum)
     return after
 
 

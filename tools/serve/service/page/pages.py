@@ -10,6 +10,7 @@ from aiohttp import web
 from .. import bma_chain
 from ..ledger import Lacking, Ledger, Turn, Unavailable
 from ..refusals import UNHANDLED, Refusal
+from ..series import series
 from ..why import Trial, why
 from . import persons, protocol, views, waiting
 from .frame import View, framed
@@ -55,6 +56,8 @@ class Page:
     def __init__(self, ledger: Ledger, trial: Trial) -> None:
         self._ledger, self._trial = ledger, trial
         self._kept: dict[str, tuple[int, bytes]] = {}
+        # read from the index before somebody waits for it
+        series(ledger.index)
         self._static = {name: (_FOLDER / name).read_bytes() for name in _TYPES}
         self._versions = {name: hashlib.sha256(body).hexdigest()[:12] for name, body in self._static.items()}
 
