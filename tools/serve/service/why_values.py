@@ -15,6 +15,7 @@ from .spelling import EMPTY_STAMP
 
 Values = list[dict[str, Any]]
 _MOST = 40
+_OF_BLOCK = "Type: Block"
 _CLEARED_BELOW = {"SPENT": "spent", "CLEARED": "cleared", "MADE": "unspent"}
 
 
@@ -77,16 +78,24 @@ async def values_of(turn: Turn, raw: bytes, rule: str | None, false: list[int], 
     try:
         case = Case(turn, _as_block(turn, text), false)
         await _TELLERS.get(rule, _tell_nothing)(case)
-        return case.found
+        return case.found if text.startswith(_OF_BLOCK, text.find("\n") + 1) else [_in_document(each, case.block, text) for each in case.found]
     except (Refusal, Lacking, Unavailable, BadWord, ValueError, IndexError, KeyError):
         # a block that is refused may have any values in it
         return []
 
 
+def _in_document(value: dict[str, Any], block: BlockText, text: str) -> dict[str, Any]:
+    """The value with the document's own line: that with the same text, where there is one."""
+    if value["line"] is None:
+        return value
+    lines, wanted = text.split("\n"), block.lines[value["line"] - 1]
+    return {**value, "line": lines.index(wanted) + 1 if wanted in lines else None}
+
+
 def _as_block(turn: Turn, text: str) -> BlockText:
     """The block; of a document one with its line alone, at the time of the last block."""
     lines = text.split("\n")[:-1]
-    if lines[1] == "Type: Block":
+    if lines[1] == _OF_BLOCK:
         return BlockText(lines)
     last = turn.index.block(turn.index.length() - 1)
     assert last is not None

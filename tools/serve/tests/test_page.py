@@ -259,7 +259,7 @@ def test_refused_documents_with_their_values(forging: Server, people: dict[str, 
     first = foreign["values"][0]
     assert foreign["rule"] == "G88" and (first["what"], first["value"]) == ("condition of the source", f"SIG({alice.key})")
     unknown = _why(forging, alice.payment([f"1000:0:D:{alice.key}:0"], [f"1000:0:SIG({bob.key})"], stamp))
-    assert unknown["rule"] == "G87" and unknown["values"][0]["what"] == "this source was never made"
+    assert unknown["rule"] == "G87" and unknown["values"][0]["what"] == "this source was never made" and unknown["values"][0]["line"] == 9
     assert _why(forging, "Version: 10\nType: Identity\nx\n")["rule"] == "D01"
     own = _why(forging, alice.certification(bob, forging.get("/wot/identity-of/bob").json["sigDate"], stamp))
     assert own["rule"] == "G71" and "lives until" in own["values"][0]["what"]

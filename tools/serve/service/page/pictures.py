@@ -101,7 +101,7 @@ def _placed(middle: dict[str, Any], near: list[list[tuple[str, str]]]) -> dict[s
     nodes = {middle["key"]: Node(middle["key"], middle["uid"], 0, 0, 0)}
     radius = 0.0
     for ring, people in enumerate(near, 1):
-        radius = max(radius + _RING + 20 * (ring == 1), len(people) * _GAP / (2 * math.pi))
+        radius = max(radius + _RING + 50 * (ring == 1), len(people) * _GAP / (2 * math.pi))
         for place, (key, uid) in enumerate(people):
             angle = 2 * math.pi * (place + 0.5 * (ring % 2)) / max(1, len(people)) - math.pi / 2
             nodes[key] = Node(key, uid, radius * math.cos(angle), radius * math.sin(angle), ring)

@@ -22,10 +22,11 @@ async def head(turn: Turn, _: Query) -> View:
     if not points:
         return View("Head", [e("p", "There is no block yet. The first one comes by a POST to /blockchain/block.")])
     values, money = await node_pages.head(turn), await node_pages.money(turn)
-    return View("Head", [*_last_block(turn, values), *_money(values, money, points), *_plots(points), _last_blocks(points[-10:])])
+    now = e("div", _last_block(turn, values), _money(values, money, points), class_="columns")
+    return View("Head", [now, *_plots(points), _last_blocks(points[-10:])])
 
 
-def _last_block(turn: Turn, values: dict[str, Any]) -> list[Child]:
+def _last_block(turn: Turn, values: dict[str, Any]) -> Element:
     issuer = series(turn.index)[-1].issuer
     rows: list[tuple[str, Child]] = [
         ("Last block", a(number(values["number"]), "page", "block", values["number"])), ("Hash", short(values["hash"])),
@@ -33,10 +34,10 @@ def _last_block(turn: Turn, values: dict[str, Any]) -> list[Child]:
         ("Least difficulty", number(values["pow_min"])),
         ("Issuers", f"{number(values['issuers'])} in a frame of {number(values['frame'])} blocks (variation {values['variation']})"),
     ]
-    return [e("section", e("h2", "The last block"), facts(*rows), id="last-block")]
+    return e("section", e("h2", "The last block"), facts(*rows), id="last-block")
 
 
-def _money(values: dict[str, Any], money: dict[str, Any], points: list[Point]) -> list[Child]:
+def _money(values: dict[str, Any], money: dict[str, Any], points: list[Point]) -> Element:
     base = values["unit_base"]
     rows: list[tuple[str, Child]] = [
         ("Dividend", f"{number(values['dividend'])}{f' × 10^{base}' * (base > 0)} units for each member"),
@@ -51,7 +52,7 @@ def _money(values: dict[str, Any], money: dict[str, Any], points: list[Point]) -
             change = [f"{getattr(now, name) - getattr(then, name):+,}" for name in ("mass", "unspent", "members")]
             changes.append([f"{then.number} ({count} before)", *change])
     shown = table("Change", changes[0], changes[1:]) if len(changes) > 1 else None
-    return [e("section", e("h2", "Money"), facts(*rows), shown, id="money")]
+    return e("section", e("h2", "Money"), facts(*rows), shown, id="money")
 
 
 def _plots(points: list[Point]) -> list[Child]:

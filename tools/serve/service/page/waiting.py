@@ -6,10 +6,11 @@ from .. import node_pages
 from ..ledger import Lacking, Turn
 from ..refusals import Refusal
 from ..series import series
+from ..writes import MOST_TAKEN_OFF
 from .frame import View
 from .markup import Child, Element, a, e, facts, group, number, short, table
 from .pictures import tree
-from .views import Query, who
+from .views import MOST_LINES, Query, who
 
 BEFORE_FORK = 3
 MOST_OF_CHAIN = 20
@@ -48,10 +49,11 @@ def _tip(turn: Turn, tip: dict[str, Any]) -> Element:
         said = e("p", "A switch to it is not possible: it stands on a block that is neither stored nor in the chain, ", _stamp(tip["missing"]), ".")
         return e("section", heading, _stamp(tip["tip"]), said, class_="tip")
     off = [a(stamp.split("-")[0], "page", "block", stamp.split("-")[0]) for stamp in tip["takes_off"]]
+    too_many = f" This is more than the {MOST_TAKEN_OFF} that can be (W01)." if len(off) > MOST_TAKEN_OFF else ""
     on = [e("a", each.split("-")[0], href=f"#stored-{each}") for each in tip["puts_on"]]
     rows: list[tuple[str, Child]] = [
         ("Last block", _stamp(tip["tip"])), ("Stands on", _stamp(tip["stands_on"] or "the empty chain")),
-        ("SWITCH would take off", group(f"{len(off)} blocks: ", *_listed(off)) if off else "no block"),
+        ("SWITCH would take off", group(f"{len(off)} blocks: ", *_listed(off), too_many) if off else "no block"),
         ("and put on", group(f"{len(on)} blocks: ", *_listed(on))),
     ]
     longer = int(tip["tip"].split("-")[0]) - (turn.index.length() - 1)
@@ -146,7 +148,8 @@ def answered(turn_head: str, shown: dict[str, Any], text: str) -> View:
         parts = [e("p", f"A block that is forged now would not have this {kind}.", class_="bad", id="verdict")]
     else:
         parts = _refused(shown)
-    lines = e("ol", *[e("li", e("code", line), id=f"line-{place}") for place, line in enumerate(text.split("\n")[:2_000], 1)], class_="lines")
+    shown_lines = enumerate(text.removesuffix("\n").split("\n")[:MOST_LINES], 1)
+    lines = e("ol", *[e("li", e("code", line), id=f"line-{place}") for place, line in shown_lines], class_="lines")
     asked = e("details", e("summary", "The text that was asked about"), lines, id="asked", open=bool(shown["values"]))
     on = e("p", "On the chain that ends with ", e("code", turn_head, class_="long"), ".")
     return View("Why refused?", [*parts, on, asked, e("h2", "Ask again"), why_form(text)], is_live=False)
