@@ -176,6 +176,7 @@ async def run(given: argparse.Namespace) -> int:
         await ledger.close()
     _say(f"head: block {head.number} with {head.members} members and {head.mass} units; log and keys stand in {folder}")
     _say(f"serve it:  tools/serve/serve --log {folder}/log.sqlite --key {folder}/alice.key --pace 10")
+    _say("look at it: http://127.0.0.1:10901/")
     _say(f"ask it:    silkaj -ep 127.0.0.1:10901 money balance {people[0].key}")
     return 0
 

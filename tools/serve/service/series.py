@@ -7,7 +7,7 @@ from .index import Index, units
 MOST_POINTS = 240
 
 
-@dataclass(frozen=True)
+@dataclass(frozen=True, slots=True)
 class Point:
     """A block's values; `dividend` is the last one that was paid, in units for each member, `unspent` the money that is left behind the block."""
 

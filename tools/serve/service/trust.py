@@ -9,7 +9,7 @@ from .index import Index
 from .ledger import Turn, Unavailable
 from .people import LiveCertification, State
 
-MOST_PEOPLE = 5_000
+MOST_PEOPLE = 20_000
 """A web of more people is not put together for a page."""
 
 

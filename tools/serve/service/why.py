@@ -1,19 +1,24 @@
 """Why a block or a document is refused: a program of its own that is given the log says the rule, and the values of the case stand beside it."""
 import asyncio
+import contextlib
 import time
+from collections.abc import AsyncIterator
 from itertools import islice
 from pathlib import Path
 from typing import Any
 
 from . import commands, people
 from .branch import Branch
-from .ledger import Lacking, Ledger, Turn
+from .ledger import Lacking, Ledger, Turn, Unavailable
 from .log import Log
 from .program import Program, ProgramEnded
 from .refusals import UNHANDLED, Refusal, chapter, sentence
 from .verdicts import Claim, Unreadable, digest, document_claims, is_true, read_block
 from .why_values import values_of
 from .writes import forging_time
+
+MOST_WAITING = 8
+"""Questions at once; one more is refused for now."""
 
 _BATCH = 200
 _SECONDS_KEPT = 120.0
@@ -26,12 +31,12 @@ class Trial:
         self._ledger, self._path = ledger, path
         self._program: Program | None = None
         self._at = (0, "")
-        self._lock = asyncio.Lock()
+        self._lock, self._waiting = asyncio.Lock(), 0
         self._end: asyncio.TimerHandle | None = None
 
     async def block(self, claims: list[commands.Command], raw: bytes) -> list[str]:
-        """The words of the answer to a block."""
-        async with self._lock:
+        """The words of the answer to a block. Raises Unavailable where many wait."""
+        async with self._place():
             program = await self._ready()
             try:
                 await program.ask_all(claims)
@@ -44,8 +49,9 @@ class Trial:
                 raise
 
     async def document(self, claims: list[commands.Command], raw: bytes, key: str, second: int) -> tuple[str | None, bool]:
-        """The rule that refuses a document, or by which the block that the key would forge leaves it out; and whether that block has it."""
-        async with self._lock:
+        """The rule that refuses a document, or by which the block that the key would forge leaves it out; and whether that block has it.
+        Raises Unavailable where many wait."""
+        async with self._place():
             program = await self._ready()
             if program.lacks & {"PEND", "FORGE"}:
                 raise Lacking("PEND" if "PEND" in program.lacks else "FORGE")
@@ -72,9 +78,21 @@ class Trial:
         return left.get(text_hash), text_hash not in left
 
     async def warm(self) -> None:
-        """Has the program ready for a question."""
-        async with self._lock:
-            await self._ready()
+        """Has the program ready for a question, where nobody asks one now."""
+        if not self._lock.locked():
+            async with self._lock:
+                await self._ready()
+
+    @contextlib.asynccontextmanager
+    async def _place(self) -> AsyncIterator[None]:
+        if self._waiting >= MOST_WAITING:
+            raise Unavailable("other blocks and documents are being looked at")
+        self._waiting += 1
+        try:
+            async with self._lock:
+                yield
+        finally:
+            self._waiting -= 1
 
     async def close(self) -> None:
         """Ends the program."""

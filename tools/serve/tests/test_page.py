@@ -13,10 +13,13 @@ import pytest
 from hostile import Elements, links, strings
 from support import FORM, PROGRAM, TOOL, Server
 
-from service import commands, node_pages, trust
+from service import commands, node_pages, trust, why, why_values
 from service.blocks import BlockText, digest, joined
+from service.demo import new_wallet
+from service.forging import draft
 from service.index import Index
-from service.ledger import Ledger, Turn
+from service.ledger import Ledger, Turn, Unavailable
+from service.miner import search
 from service.page import pages, persons, protocol, views, waiting
 from service.page.frame import View, framed
 from service.page.markup import e, moment, path, span_of, written
@@ -404,3 +407,95 @@ def test_an_empty_chain(tmp_path: Path) -> None:
             assert server.get(at).status == 200, at
         for at in ("/page/block/0", "/page/person/x", "/page/parameters"):
             assert server.get(at).status in (400, 404), at
+
+
+def test_no_teller_of_values_fails_on_a_whole_block(chain: Path, tmp_path: Path) -> None:
+    log = tmp_path / "log.sqlite"
+    log.write_bytes(chain.read_bytes())
+
+    async def story() -> None:
+        ledger = await Ledger.open(PROGRAM, log)
+
+        async def work(turn: Turn) -> None:
+            for number in (0, 20, 30, 100, 299):
+                block = BlockText.of(ledger.index.block(number)[0].text)  # type: ignore[index]
+                for rule, teller in why_values._TELLERS.items():
+                    case = why_values.Case(turn, block, [1])
+                    await teller(case)
+                    assert all(each["line"] is None or 1 <= each["line"] <= len(block.lines) for each in case.found), rule
+
+        await ledger.turn(work)
+        await ledger.close()
+
+    asyncio.run(story())
+    assert set(why_values._TELLERS) <= set(sentences())
+
+
+def test_a_newcomer_who_waits(forging: Server, people: dict[str, Wallet]) -> None:
+    alice, eve, stamp = people["alice"], new_wallet("eve", "demo"), forging.get("/node/head").json["stamp"]
+    for at, field, text in (
+        ("/wot/add", "identity", eve.identity(stamp)), ("/blockchain/membership", "membership", eve.membership(stamp, stamp)),
+        ("/wot/certify", "cert", alice.certification(eve, stamp, stamp)),
+    ):
+        assert forging.post(at, **{field: text}).status == 200
+    said = _text(_ok(forging, "page", "pool").encode())
+    assert "3 documents wait" in said and "take in 0 and leave out 3" in said and f"G79 : {sentences()['G79']}" in said.replace("  ", " ")
+    assert forging.get("/page/find?word=eve").headers["Location"] == "/page/person/eve"
+    for word in ("eve", eve.key):
+        said = _text(_ok(forging, "page", "person", word).encode())
+        assert "the identity waits" in said and "Certifications that are there 1" in said and "needed 2" in said and " alice " in said
+    alone = forging.ask("POST", "/node/why", people["bob"].certification(eve, stamp, stamp).encode()).json
+    assert alone["accepted"] and alone["rule"] is None
+    assert _why(forging, people["bob"].membership(stamp, stamp))["rule"] == "G82"
+
+
+def _mined(lines: list[str], wallet: Wallet) -> bytes:
+    """The block with these lines above InnerHash, mined and signed."""
+    inner = f"InnerHash: {digest(joined(lines))}"
+    nonce, signature = search(inner, 32, wallet.issuer.seed)
+    return joined([*lines, inner, f"Nonce: {nonce}", signature]).encode()
+
+
+def test_a_failure_of_the_automatic_choice(currency: Path, people: dict[str, Wallet]) -> None:
+    alice = people["alice"]
+
+    async def drafted() -> list[str]:
+        """What stands in the place of the last block, with a wrong number of members."""
+        ledger = await Ledger.open(PROGRAM, currency / "log.sqlite")
+        last = ledger.index.block(ledger.index.length() - 1)
+        assert last is not None
+        await ledger.turn(lambda turn: turn.change(commands.revert(1)))
+        found = await ledger.turn(lambda turn: draft(turn, alice.key))
+        await ledger.turn(lambda turn: turn.change(commands.block(last[0].text.encode())))
+        await ledger.close()
+        return ["MembersCount: 7" if line.startswith("MembersCount: ") else line for line in found.lines[:-3]]
+
+    raws = [_mined(asyncio.run(drafted()), alice)]
+    for _ in range(2):
+        block = BlockText.of(raws[-1].decode())
+        new = {"Number": block.number + 1, "PreviousHash": block.hash, "PreviousIssuer": alice.key}
+        lines = [f"{name}: {new[name]}" if (name := line.split(":")[0]) in new else line for line in block.lines[:-3]]
+        raws.append(_mined(lines, alice))
+    first, _, third = [BlockText.of(raw.decode()).stamp for raw in raws]
+    with Server(currency / "log.sqlite", "--auto", "on") as server:
+        assert [server.post("/blockchain/block", block=raw.decode()).status for raw in raws] == [200] * 3
+        failed = server.get("/node/failures").json["failures"]
+        assert failed == [{"tip": third, "at": first, "rule": "G60", "sentence": sentences()["G60"]}]
+        said = _text(_ok(server, "page", "branches").encode())
+        assert f"{third} {first} G60 {sentences()['G60']}" in said
+        assert "+2 blocks from that of the chain; it is long enough" in said
+
+
+def test_many_questions_at_once_are_refused(example_log: Path, monkeypatch: pytest.MonkeyPatch) -> None:
+    async def story() -> None:
+        ledger = await Ledger.open(PROGRAM, example_log)
+        trial = why.Trial(ledger, PROGRAM)
+        monkeypatch.setattr(why, "MOST_WAITING", 2)
+        asked = [asyncio.ensure_future(trial.block([], b"x\n")) for _ in range(4)]
+        answers = await asyncio.gather(*asked, return_exceptions=True)
+        assert [isinstance(each, Unavailable) for each in answers] == [False, False, True, True]
+        assert answers[0] == ["REFUSED", "P01", "1"] and await trial.block([], b"x\n") == answers[0]
+        await trial.close()
+        await ledger.close()
+
+    asyncio.run(story())

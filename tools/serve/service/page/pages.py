@@ -34,7 +34,7 @@ _LACKING = {
     "FAILED": "Failures of the automatic choice are not told: this program has no FAILED yet.",
     "STATEMENT": "The moves of an account come from the service's own index, not from the program: it has no STATEMENT yet.",
 }
-_MOST_KEPT = 500
+_MOST_KEPT, _MOST_KEPT_BYTES = 500, 32_000_000
 _SECONDS_FOR_BODY, _LONGEST_BODY = 30.0, 3_500_000
 Make = Callable[[Turn, Query], Awaitable[View]]
 PATHS: list[tuple[str, Make]] = [
@@ -56,6 +56,7 @@ class Page:
     def __init__(self, ledger: Ledger, trial: Trial) -> None:
         self._ledger, self._trial = ledger, trial
         self._kept: dict[str, tuple[int, bytes]] = {}
+        self._bytes = 0
         # read from the index before somebody waits for it
         series(ledger.index)
         self._static = {name: (_FOLDER / name).read_bytes() for name in _TYPES}
@@ -64,6 +65,7 @@ class Page:
     def drop(self) -> None:
         """Drops what was made for a state that is gone."""
         self._kept.clear()
+        self._bytes = 0
 
     def add_to(self, router: web.UrlDispatcher) -> None:
         """Adds the paths."""
@@ -101,9 +103,10 @@ class Page:
             view = views.refusal(Refusal(UNHANDLED, f"The program that runs here has no {error} yet, which this view needs.", 501))
         made = view.status, self._framed(turn, view)
         if view.status == 200:
-            if len(self._kept) >= _MOST_KEPT:
+            if len(self._kept) >= _MOST_KEPT or self._bytes + len(made[1]) > _MOST_KEPT_BYTES:
                 self.drop()
             self._kept[path] = made
+            self._bytes += len(made[1])
         return made
 
     def _framed(self, turn: Turn, view: View) -> bytes:

@@ -8,6 +8,7 @@ from .markup import Element, e, number, path
 WIDTH, HEIGHT = 640, 220
 _TOP, _BOTTOM, _SIDE = 12, 30, 6
 _NODE, _RING, _GAP = 9, 95, 54
+_TURN = 0.37
 MOST_DRAWN = 120
 """People in a drawing of a web; of more the nearest are drawn."""
 
@@ -103,7 +104,8 @@ def _placed(middle: dict[str, Any], near: list[list[tuple[str, str]]]) -> dict[s
     for ring, people in enumerate(near, 1):
         radius = max(radius + _RING + 50 * (ring == 1), len(people) * _GAP / (2 * math.pi))
         for place, (key, uid) in enumerate(people):
-            angle = 2 * math.pi * (place + 0.5 * (ring % 2)) / max(1, len(people)) - math.pi / 2
+            # turned a little from ring to ring, so that no walk leads through the middle
+            angle = 2 * math.pi * (place + _TURN * ring) / max(1, len(people)) - math.pi / 2
             nodes[key] = Node(key, uid, radius * math.cos(angle), radius * math.sin(angle), ring)
     return nodes
 
