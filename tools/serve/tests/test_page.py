@@ -471,19 +471,19 @@ def test_a_failure_of_the_automatic_choice(currency: Path, people: dict[str, Wal
         return ["MembersCount: 7" if line.startswith("MembersCount: ") else line for line in found.lines[:-3]]
 
     raws = [_mined(asyncio.run(drafted()), alice)]
-    for _ in range(2):
+    for _ in range(3):
         block = BlockText.of(raws[-1].decode())
         new = {"Number": block.number + 1, "PreviousHash": block.hash, "PreviousIssuer": alice.key}
         lines = [f"{name}: {new[name]}" if (name := line.split(":")[0]) in new else line for line in block.lines[:-3]]
         raws.append(_mined(lines, alice))
-    first, _, third = [BlockText.of(raw.decode()).stamp for raw in raws]
+    first, *_, last_one = [BlockText.of(raw.decode()).stamp for raw in raws]
     with Server(currency / "log.sqlite", "--auto", "on") as server:
-        assert [server.post("/blockchain/block", block=raw.decode()).status for raw in raws] == [200] * 3
+        assert [server.post("/blockchain/block", block=raw.decode()).status for raw in raws] == [200] * 4
         failed = server.get("/node/failures").json["failures"]
-        assert failed == [{"tip": third, "at": first, "rule": "G60", "sentence": sentences()["G60"]}]
+        assert failed == [{"tip": last_one, "at": first, "rule": "G60", "sentence": sentences()["G60"]}]
         said = _text(_ok(server, "page", "branches").encode())
-        assert f"{third} {first} G60 {sentences()['G60']}" in said
-        assert "+2 blocks from that of the chain; it is long enough" in said
+        assert f"{last_one} {first} G60 {sentences()['G60']}" in said
+        assert "+3 blocks from that of the chain; it is long enough" in said
 
 
 def test_many_questions_at_once_are_refused(example_log: Path, monkeypatch: pytest.MonkeyPatch) -> None:

@@ -15,6 +15,8 @@ from .views import MOST_LINES, Query, who
 BEFORE_FORK = 3
 MOST_OF_CHAIN = 20
 MOST_SHOWN = 100
+LONGER_BY = 2
+"""The number of a block that the automatic choice takes is at least the length of the chain and this."""
 
 
 async def branches(turn: Turn, _: Query) -> View:
@@ -56,9 +58,9 @@ def _tip(turn: Turn, tip: dict[str, Any]) -> Element:
         ("SWITCH would take off", group(f"{len(off)} blocks: ", *_listed(off), too_many) if off else "no block"),
         ("and put on", group(f"{len(on)} blocks: ", *_listed(on))),
     ]
-    longer = int(tip["tip"].split("-")[0]) - (turn.index.length() - 1)
-    rule = "it is long enough for the automatic choice" if longer >= 2 else "the automatic choice wants two more blocks than the chain has"
-    rows.append(("Its end", f"{longer:+d} blocks from that of the chain; {rule}"))
+    number_of_tip, wanted = int(tip["tip"].split("-")[0]), turn.index.length() + LONGER_BY
+    rule = "it is long enough for the automatic choice" if number_of_tip >= wanted else f"the automatic choice wants a block {wanted} or higher"
+    rows.append(("Its end", f"{number_of_tip - turn.index.length() + 1:+d} blocks from that of the chain; {rule}"))
     return e("section", heading, facts(*rows), class_="tip")
 
 
