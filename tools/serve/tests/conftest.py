@@ -1,14 +1,17 @@
 """What several tests share: what the program has, a demonstration currency, servers of it."""
+import asyncio
 import shutil
 import subprocess
 from collections.abc import Callable, Iterator
 from pathlib import Path
 
+import generated
 import pytest
 from hypothesis import HealthCheck, settings
 from support import PROGRAM, TOOL, Server
 
 from service.forging import Issuer
+from service.history import entries
 from service.wallet import Wallet
 
 # a machine with other work is slow at times; no example is kept beside the tests
@@ -26,6 +29,19 @@ def _knows(command: bytes) -> bool:
 def has_forge() -> bool:
     """Whether the program can forge, and so has a pool too."""
     return _knows(b"FORGE " + b"1" * 44 + b" 0")
+
+
+@pytest.fixture(scope="session")
+def generated_log(tmp_path_factory: pytest.TempPathFactory, has_forge: bool) -> Path:
+    """The log of a generated chain, not to be changed: of 300 blocks, made anew; where the program cannot forge, of the 100 blocks of an example."""
+    log = tmp_path_factory.mktemp("generated") / "log.sqlite"
+    if has_forge:
+        asyncio.run(generated.make(PROGRAM, log, 300, 7))
+    else:
+        given = entries(TOOL.parents[1] / "examples" / "generated_and_reversed.in")
+        end = next(place for place, command in enumerate(given) if command.word == "REVERT")
+        asyncio.run(generated.feed(PROGRAM, log, given[:end]))
+    return log
 
 
 @pytest.fixture(scope="session")

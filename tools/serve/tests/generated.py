@@ -7,7 +7,8 @@ import subprocess
 from pathlib import Path
 
 from service import commands
-from service.blocks import SECTIONS, BlockText, Transaction, digest, joined
+from service.blocks import SECTIONS, Transaction, digest, joined
+from service.commands import Command
 from service.ledger import Ledger, Turn
 from service.people import difficulty_of
 from service.spelling import EMPTY_STAMP
@@ -154,9 +155,13 @@ async def make(program: Path, log: Path, count: int, start: int) -> None:
     assert found is not None and found[1] == stamp, (stamp, told)
 
 
-def texts(log: Ledger) -> list[str]:
-    """The texts of the blocks of a ledger."""
-    return [block.text for block, _ in log.index.blocks(0, log.index.length())]
+async def feed(program: Path, log: Path, given: list[Command]) -> None:
+    """A log of these commands, for a program that cannot forge."""
+    ledger = await Ledger.open(program, log)
 
+    async def work(turn: Turn) -> None:
+        for command in given:
+            await turn.change(command)
 
-__all__ = ["BlockText", "Generator", "make", "texts"]
+    await ledger.turn(work)
+    await ledger.close()
