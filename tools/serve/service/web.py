@@ -1,7 +1,6 @@
 """The HTTP side: one application over a ledger."""
 import asyncio
 import contextlib
-import html
 import json
 import traceback
 from collections.abc import Awaitable, Callable
@@ -87,7 +86,6 @@ class Service:
         router.add_get("/node/events", self._events)
         router.add_get("/ws/block", self._websocket)
         router.add_get("/node/openapi.json", self._openapi)
-        router.add_get("/node", self._paths)
         self._page.add_to(router)
         return application
 
@@ -117,19 +115,6 @@ class Service:
 
     async def _openapi(self, _: web.Request) -> web.Response:
         return _json(openapi())
-
-    async def _paths(self, _: web.Request) -> web.Response:
-        rows = [
-            f"<tr><td>{method.upper()}</td><td><code>{html.escape(path)}</code></td><td>{html.escape(what['summary'])}</td></tr>"
-            for path, methods in openapi()["paths"].items()
-            for method, what in methods.items()
-        ]
-        text = (
-            "<!doctype html><html lang=\"en\"><meta charset=\"utf-8\"><title>dubp_node</title><h1>dubp_node</h1>"
-            "<p>The paths of this node, as <a href=\"/node/openapi.json\">OpenAPI</a> too.</p>"
-            f"<table><tr><th>Method</th><th>Path</th><th>What it gives</th></tr>{''.join(rows)}</table></html>"
-        )
-        return web.Response(text=text, content_type="text/html", headers={**_HEADERS, "Content-Security-Policy": "default-src 'none'"})
 
     # what is posted
 

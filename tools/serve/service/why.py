@@ -77,7 +77,7 @@ class Trial:
         left = dict(line.split(" ")[1:3] for line in lines if line.startswith("LEFT "))
         return left.get(text_hash), text_hash not in left
 
-    async def warm(self) -> None:
+    async def make_ready(self) -> None:
         """Has the program ready for a question, where nobody asks one now."""
         if not self._lock.locked():
             async with self._lock:

@@ -16,14 +16,18 @@ from .spelling import EMPTY_STAMP
 Values = list[dict[str, Any]]
 _MOST = 40
 _OF_BLOCK = "Type: Block"
+_OF_SIGNATURES = ("L05", "L07", "L11", "L24", "G72", "G84")
+_UNTRUE = "a signature that is not true, or whose text is not known"
 _CLEARED_BELOW = {"SPENT": "spent", "CLEARED": "cleared", "MADE": "unspent"}
 
 
 class Case:
     """A block that was refused, or a document as a block with nothing else in it."""
 
-    def __init__(self, turn: Turn, block: BlockText, false: list[int]) -> None:
+    def __init__(self, turn: Turn, block: BlockText, false: list[int], whose: str = "the block") -> None:
         self.turn, self.index, self.block, self.false = turn, turn.index, block, false
+        self.whose = whose
+        """Whose header it is: the block's own, or for a document that of the last block."""
         self.fields, self.found = block.fields, Values()
         self.start = block.lines.index("Identities:")
 
@@ -75,10 +79,13 @@ async def values_of(turn: Turn, raw: bytes, rule: str | None, false: list[int], 
         return [{"what": "the line", "value": lines[line - 1] if line <= len(lines) else "it is missing", "line": line}]
     if rule == "X01":
         return [{"what": "bytes", "value": str(len(raw)), "line": None}]
+    is_block = text.startswith(_OF_BLOCK, text.find("\n") + 1)
     try:
-        case = Case(turn, _as_block(turn, text), false)
+        if not is_block and rule in _OF_SIGNATURES:
+            return [{"what": _UNTRUE, "value": text.split("\n")[place - 1], "line": place} for place in false]
+        case = Case(turn, _as_block(turn, text), false, "the block" if is_block else "the last block")
         await _TELLERS.get(rule, _tell_nothing)(case)
-        return case.found if text.startswith(_OF_BLOCK, text.find("\n") + 1) else [_in_document(each, case.block, text) for each in case.found]
+        return case.found if is_block else [_in_document(each, case.block, text) for each in case.found]
     except (Refusal, Lacking, Unavailable, BadWord, ValueError, IndexError, KeyError):
         # a block that is refused may have any values in it
         return []
@@ -226,7 +233,7 @@ async def _times(case: Case) -> None:
 async def _signatures(case: Case) -> None:
     for line in case.false:
         text = case.block.lines[line - 1] if line <= len(case.block.lines) else ""
-        case.tell("a signature that is not true, or whose text is not known", text, line)
+        case.tell(_UNTRUE, text, line)
 
 
 def _twice(what: str, sections: tuple[str, ...], word: Callable[[list[str]], str]) -> Callable[[Case], Awaitable[None]]:
@@ -310,7 +317,7 @@ async def _pace(case: Case) -> None:
         if last is not None and case.now < (case.index.median_time(last) or 0) + case.parameter("sigPeriod"):
             case.tell(f"last certification of {words[0]}: block {last}, at", case.index.median_time(last), place)
     case.tell("sigPeriod", case.parameter("sigPeriod"))
-    case.tell("MedianTime of the block", case.now)
+    case.tell(f"MedianTime of {case.whose}", case.now)
 
 
 async def _renewal(case: Case) -> None:
@@ -319,7 +326,7 @@ async def _renewal(case: Case) -> None:
         for each in live:
             if each.issuer == words[0] and each.expires > case.now:
                 case.tell(f"certification of {words[1]} by {words[0]} lives until", each.expires, place)
-    case.tell("MedianTime of the block", case.now)
+    case.tell(f"MedianTime of {case.whose}", case.now)
 
 
 def _stamps(window: str, sections: tuple[str, ...], word: int) -> Callable[[Case], Awaitable[None]]:
@@ -327,7 +334,7 @@ def _stamps(window: str, sections: tuple[str, ...], word: int) -> Callable[[Case
         for place, words in case.lines(*sections):
             _stamp(case, words[word], place, case.parameter(window))
         case.tell(window, case.parameter(window))
-        case.tell("MedianTime of the block", case.now)
+        case.tell(f"MedianTime of {case.whose}", case.now)
 
     return tell
 
@@ -347,7 +354,7 @@ async def _payment_stamps(case: Case) -> None:
     for place, each in case.transactions():
         _stamp(case, each.stamp, place + 1, 604_800)
     case.tell("a stamp is at most so many seconds old", 604_800)
-    case.tell("MedianTime of the block", case.now)
+    case.tell(f"MedianTime of {case.whose}", case.now)
 
 
 async def _memberships(case: Case) -> None:
@@ -408,7 +415,7 @@ async def _conditions(case: Case) -> None:
                 case.tell("condition of the source", known[0], first + offset)
                 case.tell("unlocked by", unlocks.get(str(offset), "nothing"), first + len(each.inputs) + offset)
                 case.tell("written at", case.index.median_time(known[1]), first + offset)
-    case.tell("MedianTime of the block", case.now)
+    case.tell(f"MedianTime of {case.whose}", case.now)
 
 
 async def _locktimes(case: Case) -> None:
@@ -418,7 +425,7 @@ async def _locktimes(case: Case) -> None:
             made = None if known is None else case.index.median_time(known[1])
             if made is not None and case.now < made + each.locktime:
                 case.tell(f"made at {made}; locktime", each.locktime, line)
-    case.tell("MedianTime of the block", case.now)
+    case.tell(f"MedianTime of {case.whose}", case.now)
 
 
 async def _sums(case: Case) -> None:
@@ -443,7 +450,7 @@ async def _bases(case: Case) -> None:
         for line, text in enumerate(each.outputs, place + 2 + len(each.issuers) + len(each.inputs) + len(each.unlocks)):
             if int(text.split(":")[1]) > int(case.fields["UnitBase"]):
                 case.tell("a base above that of the block", text, line)
-    case.tell("UnitBase of the block", case.fields["UnitBase"])
+    case.tell(f"UnitBase of {case.whose}", case.fields["UnitBase"])
 
 
 async def _repeated(case: Case) -> None:
@@ -478,7 +485,7 @@ _MEMBERSHIPS = ("Joiners", "Actives", "Leavers")
 _TELLERS: dict[str, Callable[[Case], Awaitable[None]]] = {
     **dict.fromkeys(("G51", "G52", "G53"), _place), "G49": _currency, "G101": _issuer, "G50": _size, "G62": _difficulty, "L01": _inner,
     **{rule: _header(name) for rule, name in _HEADER.items()}, **dict.fromkeys(("L02", "L06"), _times),
-    **dict.fromkeys(("L05", "L07", "L11", "L24", "G72", "G84"), _signatures),
+    **dict.fromkeys(_OF_SIGNATURES, _signatures),
     "L08": _twice("name", ("Identities",), lambda words: words[3]), "L09": _twice("key", ("Identities",), _key),
     "L12": _twice("key", (*_MEMBERSHIPS, "Excluded"), _key), "L13": _twice("key", (*_MEMBERSHIPS, "Revoked"), _key),
     "L14": _twice("pair", ("Certifications",), lambda words: " to ".join(words[:2])), "L15": _own,

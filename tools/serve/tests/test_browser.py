@@ -20,7 +20,10 @@ if browser.lacks():
 
 TAB, ENTER, LEFT, HOME = "\ue004", "\ue007", "\ue012", "\ue011"
 MARKUP = "<img src=x onerror=window.taken=1><script>window.taken=1</script>\"'&lt;"
-VIEWS = ("/", "/page/people", "/page/blocks", "/page/branches", "/page/pool", "/page/why", "/page/protocol", "/page/parameters", "/page/block/0")
+VIEWS = (
+    "/", "/page/people", "/page/blocks", "/page/branches", "/page/pool", "/page/why", "/page/protocol", "/page/parameters", "/page/block/0",
+    "/node",
+)
 
 
 @pytest.fixture(scope="module")

@@ -255,6 +255,7 @@ def test_refused_documents_with_their_values(forging: Server, people: dict[str, 
         "kind": "transaction", "accepted": True, "rule": None, "sentence": None, "chapter": None, "line": None,
         "false_signatures_in_lines": [], "values": [],
     }
+    foreign_signature = bob.issuer.sign("x")
     sums = _why(forging, alice.payment([source["source"]], [f"{source['units'] + 1}:0:SIG({bob.key})"], stamp))
     assert sums["rule"] == "L23" and [each["value"] for each in sums["values"]] == [str(source["units"]), str(source["units"] + 1)]
     foreign = _why(forging, bob.payment([source["source"]], [f"{source['units']}:0:SIG({bob.key})"], stamp))
@@ -263,6 +264,9 @@ def test_refused_documents_with_their_values(forging: Server, people: dict[str, 
     unknown = _why(forging, alice.payment([f"1000:0:D:{alice.key}:0"], [f"1000:0:SIG({bob.key})"], stamp))
     assert unknown["rule"] == "G87" and unknown["values"][0]["what"] == "this source was never made" and unknown["values"][0]["line"] == 9
     assert _why(forging, "Version: 10\nType: Identity\nx\n")["rule"] == "D01"
+    forged = good.replace(good.split("\n")[-2], foreign_signature)
+    untrue = _why(forging, forged)
+    assert untrue["rule"] == "L24" and [(each["value"], each["line"]) for each in untrue["values"]] == [(foreign_signature, 15)]
     own = _why(forging, alice.certification(bob, forging.get("/wot/identity-of/bob").json["sigDate"], stamp))
     assert own["rule"] == "G71" and "lives until" in own["values"][0]["what"]
     # nothing waits and nothing was written by the questions

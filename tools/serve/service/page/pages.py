@@ -40,14 +40,14 @@ Make = Callable[[Turn, Query], Awaitable[View]]
 PATHS: list[tuple[str, Make]] = [
     ("/", views.head), ("/page/people", views.people), ("/page/person/{word}", persons.person), ("/page/account/{word}", persons.account),
     ("/page/blocks", views.blocks), ("/page/block/{number}", views.block), ("/page/branches", waiting.branches), ("/page/pool", waiting.pool),
-    ("/page/why", waiting.why), ("/page/parameters", views.parameters_view), ("/page/protocol", protocol.protocol),
+    ("/page/why", waiting.why), ("/node", views.interface), ("/page/parameters", views.parameters_view), ("/page/protocol", protocol.protocol),
     ("/page/protocol/{chapter}", protocol.protocol),
 ]
 
 
 def is_of_page(path: str) -> bool:
     """Whether a path is one of the page, whose refusals are shown to people."""
-    return path == "/" or path.startswith("/page/")
+    return path in ("/", "/node") or path.startswith("/page/")
 
 
 class Page:
@@ -83,14 +83,14 @@ class Page:
                 kept = await self._ledger.turn(lambda turn: self._made(turn, make, query, request.raw_path))
             if make is waiting.why:
                 # the program that tries is made ready while the question is written
-                asyncio.ensure_future(self._warm())
+                asyncio.ensure_future(self._make_ready())
             return _html(*kept)
 
         return handle
 
-    async def _warm(self) -> None:
+    async def _make_ready(self) -> None:
         try:
-            await self._trial.warm()
+            await self._trial.make_ready()
         except Exception:
             return
 

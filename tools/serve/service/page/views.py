@@ -6,6 +6,7 @@ from ..blocks import BlockText
 from ..ledger import Turn
 from ..people import parameters
 from ..refusals import Refusal
+from ..routes import openapi
 from ..series import Point, series, thinned
 from .frame import View
 from .markup import Child, Element, a, e, facts, group, moment, number, short, span_of, table
@@ -29,6 +30,7 @@ async def head(turn: Turn, _: Query) -> View:
 def _last_block(turn: Turn, values: dict[str, Any]) -> Element:
     issuer = series(turn.index)[-1].issuer
     rows: list[tuple[str, Child]] = [
+        ("Currency", group(bma_chain.currency_of(turn), ": ", a("its parameters", "page", "parameters"))),
         ("Last block", a(number(values["number"]), "page", "block", values["number"])), ("Hash", short(values["hash"])),
         ("Median time", moment(values["median_time"])), ("Issuer", who(turn, issuer)), ("Members", number(values["members"])),
         ("Least difficulty", number(values["pow_min"])),
@@ -215,6 +217,13 @@ def state(each: dict[str, Any]) -> str:
     """The state of a person in words."""
     said = {"MEMBER": "member", "LEAVING": "member, leaving", "REVOKED": "revoked", "OUT": "no member"}.get(each["state"], each["state"])
     return said + (", sentry" if each["is_sentry"] else "")
+
+
+async def interface(_: Turn, __: Query) -> View:
+    """Every path of the service, for programs."""
+    rows = [[method.upper(), e("code", at), what["summary"]] for at, methods in openapi()["paths"].items() for method, what in methods.items()]
+    said = e("p", "The paths of this node for programs, as ", a("OpenAPI", "node", "openapi.json"), " too.")
+    return View("Interface", [said, table("Paths", ["method", "path", "what it gives"], rows)], is_live=False)
 
 
 async def parameters_view(turn: Turn, _: Query) -> View:
