@@ -82,7 +82,7 @@ def test_numbers_of_a_generated_chain(shown: Browser, chain: Server) -> None:
         assert shown.count("#received tbody tr") == each["received"] and shown.count("#issued tbody tr") == each["issued"]
         walks = [walk["walk"] for walk in person["sentries"] if walk["walk"]]
         lit = {pair for walk in walks for pair in zip(walk, walk[1:])}
-        assert shown.count("svg.web line.walk") == len(lit) and shown.count("#walks tbody tr") == len(person["sentries"])
+        assert shown.count("svg.web .walk") == len(lit) and shown.count("#walks tbody tr") == len(person["sentries"])
     account = chain.get(f"/node/accounts/{generated.key(3)}").json
     shown.open(_at(chain, "page", "account", "user3"))
     assert shown.text("#balance") == f"{account['balance']:,} units" and shown.count("#moves > .wide tbody tr") == min(240, len(account["moves"]))
@@ -184,7 +184,7 @@ def test_without_a_script(chain: Server) -> None:
 def test_a_block_that_comes_in(shown: Browser, forging: Server) -> None:
     _open(shown, forging, "/")
     number = forging.get("/node/head").json["number"]
-    shown.run("document.querySelector('#numbers').open = true; document.querySelector('#last-block a').focus(); window.kept = 1")
+    shown.run("document.querySelector('#numbers').open = true; document.querySelector('#last-block a[href*=block]').focus(); window.kept = 1")
     forging.forge()
     until(lambda: f"Last block {number + 1}" in shown.text("#last-block"))
     assert shown.text("#news") == f"Block {number + 1} has come in." and shown.run("return window.kept") == 1

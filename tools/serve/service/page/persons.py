@@ -6,7 +6,7 @@ from ..blocks import condition_keys
 from ..bma_people import lookup
 from ..ledger import Turn
 from ..refusals import Refusal
-from ..series import thinned
+from ..series import Point, series, thinned
 from ..trust import Web, web_of
 from .frame import View
 from .markup import Child, Element, a, e, facts, group, moment, number, path, short, table
@@ -71,7 +71,8 @@ def _drawing(found: Web, shown: dict[str, Any]) -> Element:
     lit = {pair for walk in walks for pair in zip(walk, walk[1:])}
     edges = {(each.issuer, each.receiver) for to in keys for each in found.received[to] if each.issuer in keys}
     drawing = web(shown, rings, {pair for pair in edges if _is_near(pair, key, rings)}, lit)
-    more = f" {len(found.states) - len(keys)} people are not drawn." if len(found.states) > len(keys) else ""
+    others = len(found.states) - len(keys)
+    more = f" {others} other {'person is' if others == 1 else 'people are'} not drawn." if others else ""
     said = "In the middle the person; around it who certified the person or was certified, and behind these the walks of sentries. "
     how = "Walks of sentries are lit; sentries are filled."
     return e(
@@ -171,14 +172,17 @@ def _moves(turn: Turn, shown: dict[str, Any], query: Query) -> Element:
     heads = ["block", "time", "what", "units", "balance", "source"]
     which = "all moves" if start == 0 and end == len(moves) else f"moves {start + 1:,} to {end:,} of {len(moves):,}"
     older = e("a", "Moves before these", href=f"?before={start}") if start > 0 else None
-    parts: list[Child] = [e("h2", "Moves"), _plot(moves) if moves else e("p", "Nothing has moved on this account.")]
+    parts: list[Child] = [e("h2", "Moves"), _plot(moves, series(turn.index)[-1]) if moves else e("p", "Nothing has moved on this account.")]
     if moves:
         parts += [table(f"Moves: {which}", heads, rows), older]
     return e("section", *parts, id="moves")
 
 
-def _plot(moves: list[dict[str, Any]]) -> Element:
+def _plot(moves: list[dict[str, Any]], last: Point) -> Element:
+    """The balance behind each move, and as it is behind the last block."""
     rows = [moves[place] for place in thinned(len(moves))]
+    if rows[-1]["block"] != last.number:
+        rows.append({"block": last.number, "time": last.median_time, "balance": rows[-1]["balance"]})
     line = Line("balance", "first", [each["balance"] for each in rows])
     times = [each["time"] for each in rows]
     cells = [[number(each["block"]), moment(each["time"]), number(each["balance"])] for each in rows]

@@ -8,7 +8,7 @@ from .markup import Element, e, number, path
 WIDTH, HEIGHT = 640, 220
 _TOP, _BOTTOM, _SIDE = 12, 30, 6
 _NODE, _RING, _GAP = 9, 95, 54
-_TURN = 0.37
+_TURN, _BEND, _FREE = 0.37, 0.14, 12
 MOST_DRAWN = 120
 """People in a drawing of a web; of more the nearest are drawn."""
 
@@ -111,11 +111,14 @@ def _placed(middle: dict[str, Any], near: list[list[tuple[str, str]]]) -> dict[s
 
 
 def _arrow(start: Node, end: Node, is_lit: bool) -> Element:
+    """A certification: straight to or from the middle, else bent, so that it does not lead through the middle and both ways are seen."""
     length = math.hypot(end.x - start.x, end.y - start.y) or 1.0
-    dx, dy = (end.x - start.x) / length * (_NODE + 3), (end.y - start.y) / length * (_NODE + 3)
-    ends = {"x1": start.x + dx, "y1": start.y + dy, "x2": end.x - dx, "y2": end.y - dy}
-    rounded = {name: f"{value:.1f}" for name, value in ends.items()}
-    return e("line", class_="walk" if is_lit else "edge", marker_end=f"url(#{'arrow-lit' if is_lit else 'arrow'})", **rounded)
+    dx, dy = (end.x - start.x) / length, (end.y - start.y) / length
+    bend = 0.0 if 0 in (start.ring, end.ring) else _BEND * length
+    x, y = (start.x + end.x) / 2 - dy * bend, (start.y + end.y) / 2 + dx * bend
+    ends = [start.x + dx * _FREE, start.y + dy * _FREE, x, y, end.x - dx * _FREE, end.y - dy * _FREE]
+    way = "M{:.1f} {:.1f}Q{:.1f} {:.1f} {:.1f} {:.1f}".format(*ends)
+    return e("path", d=way, class_="walk" if is_lit else "edge", marker_end=f"url(#{'arrow-lit' if is_lit else 'arrow'})")
 
 
 def _person(node: Node, is_sentry: bool) -> Element:

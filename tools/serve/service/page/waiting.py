@@ -111,9 +111,9 @@ async def pool(turn: Turn, _: Query) -> View:
 
 
 def _document(turn: Turn, each: dict[str, Any], knows: bool) -> Element:
-    about: list[Child] = [e("strong", each["kind"]), " of ", who(turn, each["issuer"])]
+    about: list[Child] = [e("strong", each["kind"]), " by ", who(turn, each["issuer"])]
     if each["subject"] != each["issuer"]:
-        about += [" on ", who(turn, each["subject"]) if each["kind"] == "certification" else each["subject"]]
+        about += [" of ", who(turn, each["subject"])] if each["kind"] == "certification" else [" called ", each["subject"]]
     if each["left"]:
         about += [": left out by ", rule_link(each["left"]), f": {each['sentence']}"]
     elif knows:
