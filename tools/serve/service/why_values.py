@@ -1,72 +1,23 @@
 """The values of a case that broke a rule, as far as the program or the service's index can be asked for them."""
+import contextlib
 import math
 from collections import Counter
-from collections.abc import Awaitable, Callable, Iterator
-from typing import Any
+from collections.abc import Callable
 
-from . import commands, people
-from .blocks import BlockText, Transaction, digest, joined
+from . import commands, people, why_money
+from .blocks import BlockText, digest, joined
 from .commands import BadWord
-from .index import units
 from .ledger import Lacking, Turn, Unavailable
-from .people import State, head_of, state_of
+from .people import State, head_of
 from .refusals import Refusal
 from .spelling import EMPTY_STAMP
+from .why_case import OF_BLOCK, Case, Teller, Values, as_block, in_document
 
-Values = list[dict[str, Any]]
-_MOST = 40
-_OF_BLOCK = "Type: Block"
+_NONE_TO_TELL = (Refusal, Lacking, Unavailable, BadWord, ValueError, IndexError, KeyError)
+"""What is raised where a block that is refused has values that are none, or where nobody can be asked for them."""
+
 _OF_SIGNATURES = ("L05", "L07", "L11", "L24", "G72", "G84")
 _UNTRUE = "a signature that is not true, or whose text is not known"
-_CLEARED_BELOW = {"SPENT": "spent", "CLEARED": "cleared", "MADE": "unspent"}
-
-
-class Case:
-    """A block that was refused, or a document as a block with nothing else in it."""
-
-    def __init__(self, turn: Turn, block: BlockText, false: list[int], whose: str = "the block") -> None:
-        self.turn, self.index, self.block, self.false = turn, turn.index, block, false
-        self.whose = whose
-        """Whose header it is: the block's own, or for a document that of the last block."""
-        self.fields, self.found = block.fields, Values()
-        self.start = block.lines.index("Identities:")
-
-    def tell(self, what: str, value: object, line: int | None = None) -> None:
-        """Notes a value."""
-        if len(self.found) < _MOST:
-            self.found.append({"what": what, "value": str(value), "line": line})
-
-    def lines(self, *sections: str) -> Iterator[tuple[int, list[str]]]:
-        """The lines of sections with their places from 1, each cut at its colons."""
-        for name in sections:
-            place = self.block.lines.index(f"{name}:", self.start) + 2
-            for offset, line in enumerate(self.block.sections[name]):
-                yield place + offset, line.split(":")
-
-    def transactions(self) -> Iterator[tuple[int, Transaction]]:
-        """The transactions with the place of the first line of each."""
-        place = self.block.lines.index("Transactions:", self.start) + 2
-        for each in self.block.transactions:
-            yield place, each
-            place += each.compact_size
-
-    async def state(self, key: str) -> State | None:
-        """What the chain says of a person."""
-        return await state_of(self.turn, key)
-
-    def time_of(self, stamp: str) -> int | None:
-        """The median time of the chain's block with a stamp."""
-        number, _, block_hash = stamp.partition("-")
-        return self.index.median_time(int(number)) if number.isdigit() and self.index.hash_of(int(number)) == block_hash else None
-
-    @property
-    def now(self) -> int:
-        """MedianTime that the block says."""
-        return int(self.fields["MedianTime"])
-
-    def parameter(self, name: str) -> int:
-        """A parameter of the currency."""
-        return int(people.parameters(self.index)[name])
 
 
 async def values_of(turn: Turn, raw: bytes, rule: str | None, false: list[int], line: int | None) -> Values:
@@ -79,63 +30,16 @@ async def values_of(turn: Turn, raw: bytes, rule: str | None, false: list[int], 
         return [{"what": "the line", "value": lines[line - 1] if line <= len(lines) else "it is missing", "line": line}]
     if rule == "X01":
         return [{"what": "bytes", "value": str(len(raw)), "line": None}]
-    is_block = text.startswith(_OF_BLOCK, text.find("\n") + 1)
+    is_block = text.startswith(OF_BLOCK, text.find("\n") + 1)
+    if not is_block and rule in _OF_SIGNATURES:
+        return [{"what": _UNTRUE, "value": text.split("\n")[place - 1], "line": place} for place in false]
     try:
-        if not is_block and rule in _OF_SIGNATURES:
-            return [{"what": _UNTRUE, "value": text.split("\n")[place - 1], "line": place} for place in false]
-        case = Case(turn, _as_block(turn, text), false, "the block" if is_block else "the last block")
-        await _TELLERS.get(rule, _tell_nothing)(case)
-        return case.found if is_block else [_in_document(each, case.block, text) for each in case.found]
-    except (Refusal, Lacking, Unavailable, BadWord, ValueError, IndexError, KeyError):
-        # a block that is refused may have any values in it
+        case = Case(turn, as_block(turn, text), false, "the block" if is_block else "the last block")
+    except _NONE_TO_TELL:
         return []
-
-
-def _in_document(value: dict[str, Any], block: BlockText, text: str) -> dict[str, Any]:
-    """The value with the document's own line: that with the same text, where there is one."""
-    if value["line"] is None:
-        return value
-    lines, wanted = text.split("\n"), block.lines[value["line"] - 1]
-    return {**value, "line": lines.index(wanted) + 1 if wanted in lines else None}
-
-
-def _as_block(turn: Turn, text: str) -> BlockText:
-    """The block; of a document one with its line alone, at the time of the last block."""
-    lines = text.split("\n")[:-1]
-    if lines[1] == _OF_BLOCK:
-        return BlockText(lines)
-    last = turn.index.block(turn.index.length() - 1)
-    assert last is not None
-    block = BlockText(list(last[0].lines))
-    for name in block.sections:
-        block.sections[name] = []
-    section, line = _line_of_document(lines, text)
-    block.sections[section] = line
-    header = block.lines[: block.lines.index("Identities:")]
-    body = [each for name, inside in block.sections.items() for each in (f"{name}:", *inside)]
-    return BlockText([*header, *body, *block.lines[-3:]])
-
-
-def _line_of_document(lines: list[str], text: str) -> tuple[str, list[str]]:
-    fields = dict(line.split(": ", 1) for line in reversed(lines) if ": " in line)
-    kind, key, signature = fields["Type"], fields.get("Issuer", ""), lines[-1]
-    if kind == "Transaction":
-        return "Transactions", _compact(Transaction.from_document(text))
-    if kind == "Identity":
-        return "Identities", [f"{key}:{signature}:{fields['Timestamp']}:{fields['UniqueID']}"]
-    if kind == "Membership":
-        section = "Joiners" if fields["Membership"] == "IN" else "Leavers"
-        return section, [f"{key}:{signature}:{fields['Block']}:{fields['CertTS']}:{fields['UserID']}"]
-    if kind == "Certification":
-        return "Certifications", [f"{key}:{fields['IdtyIssuer']}:{fields['CertTimestamp'].split('-')[0]}:{signature}"]
-    return "Revoked", [f"{key}:{signature}"]
-
-
-def _compact(each: Transaction) -> list[str]:
-    counts = ":".join(str(len(part)) for part in (each.issuers, each.inputs, each.unlocks, each.outputs))
-    first = f"TX:10:{counts}:{int(each.comment != '')}:{each.locktime}"
-    comment = [each.comment] if each.comment else []
-    return [first, each.stamp, *each.issuers, *each.inputs, *each.unlocks, *each.outputs, *comment, *each.signatures]
+    with contextlib.suppress(*_NONE_TO_TELL):
+        await TELLERS.get(rule, _tell_nothing)(case)
+    return case.found if is_block else [in_document(each, case.block, text) for each in case.found]
 
 
 # how each rule is told
@@ -169,7 +73,7 @@ _HEADER = {
 }
 
 
-def _header(name: str) -> Callable[[Case], Awaitable[None]]:
+def _header(name: str) -> Teller:
     async def tell(case: Case) -> None:
         case.tell(f"{name} of the block", case.fields.get(name, "none"))
         command = commands.forge(case.fields["Issuer"], int(case.fields["Time"]))
@@ -236,7 +140,7 @@ async def _signatures(case: Case) -> None:
         case.tell(_UNTRUE, text, line)
 
 
-def _twice(what: str, sections: tuple[str, ...], word: Callable[[list[str]], str]) -> Callable[[Case], Awaitable[None]]:
+def _twice(what: str, sections: tuple[str, ...], word: Callable[[list[str]], str]) -> Teller:
     async def tell(case: Case) -> None:
         found = [(place, word(words)) for place, words in case.lines(*sections)]
         counts = Counter(value for _, value in found)
@@ -266,7 +170,7 @@ async def _issuer(case: Case) -> None:
     await _said(case, case.fields["Issuer"], None)
 
 
-def _people(*sections: str, word: int = 0, wanted: Callable[[State | None], bool] = lambda state: True) -> Callable[[Case], Awaitable[None]]:
+def _people(*sections: str, word: int = 0, wanted: Callable[[State | None], bool] = lambda state: True) -> Teller:
     async def tell(case: Case) -> None:
         for place, words in case.lines(*sections):
             if wanted(await case.state(words[word])):
@@ -329,7 +233,7 @@ async def _renewal(case: Case) -> None:
     case.tell(f"MedianTime of {case.whose}", case.now)
 
 
-def _stamps(window: str, sections: tuple[str, ...], word: int) -> Callable[[Case], Awaitable[None]]:
+def _stamps(window: str, sections: tuple[str, ...], word: int) -> Teller:
     async def tell(case: Case) -> None:
         for place, words in case.lines(*sections):
             _stamp(case, words[word], place, case.parameter(window))
@@ -374,6 +278,20 @@ async def _identities(case: Case) -> None:
             case.tell("identity of the chain", f"{written.uid}, {written.stamp}", place)
 
 
+async def _without_joiner(case: Case) -> None:
+    joiners = {(words[0], words[4], words[3]) for _, words in case.lines("Joiners")}
+    for place, (key, _, stamp, uid) in case.lines("Identities"):
+        if (key, uid, stamp) not in joiners:
+            case.tell(f"no line of Joiners has the key, name and stamp of {uid}", stamp, place)
+
+
+async def _certified_who_ends(case: Case) -> None:
+    ends = {words[0]: place for place, words in case.lines("Leavers", "Revoked", "Excluded")}
+    for place, words in case.lines("Certifications"):
+        if words[1] in ends:
+            case.tell(f"the certified key stands in line {ends[words[1]]} too", words[1], place)
+
+
 async def _excluded(case: Case) -> None:
     said = {words[0]: place for place, words in case.lines("Excluded")}
     for key, place in said.items():
@@ -385,111 +303,19 @@ async def _excluded(case: Case) -> None:
             await _said(case, key, None, "has to be excluded; what the chain says")
 
 
-# money
-
-async def _sources(case: Case) -> None:
-    made = {f"T:{each.hash}:{place}" for _, each in case.transactions() for place in range(len(each.outputs))}
-    for place, each in case.transactions():
-        for line, source in enumerate(each.inputs, place + 2 + len(each.issuers)):
-            name = source.split(":", 2)[2]
-            known = case.index.source(name)
-            if known is None and name not in made:
-                case.tell("this source was never made", source, line)
-            elif known is not None and known[2] != "MADE":
-                case.tell(f"this source was {_CLEARED_BELOW[known[2]]} in block {known[3]}", source, line)
-            elif known is not None and source not in await _unspent(case, known[0]):
-                case.tell("unspent, but with another amount or base", source, line)
-
-
-async def _unspent(case: Case, condition: str) -> list[str]:
-    return [line.removeprefix("SOURCE ") for line in await case.turn.ask(commands.of_condition("SOURCES", condition))]
-
-
-async def _conditions(case: Case) -> None:
-    for place, each in case.transactions():
-        first = place + 2 + len(each.issuers)
-        unlocks = {line.split(":", 1)[0]: line for line in each.unlocks}
-        for offset, source in enumerate(each.inputs):
-            known = case.index.source(source.split(":", 2)[2])
-            if known is not None and known[2] == "MADE":
-                case.tell("condition of the source", known[0], first + offset)
-                case.tell("unlocked by", unlocks.get(str(offset), "nothing"), first + len(each.inputs) + offset)
-                case.tell("written at", case.index.median_time(known[1]), first + offset)
-    case.tell(f"MedianTime of {case.whose}", case.now)
-
-
-async def _locktimes(case: Case) -> None:
-    for place, each in case.transactions():
-        for line, source in enumerate(each.inputs, place + 2 + len(each.issuers)):
-            known = case.index.source(source.split(":", 2)[2])
-            made = None if known is None else case.index.median_time(known[1])
-            if made is not None and case.now < made + each.locktime:
-                case.tell(f"made at {made}; locktime", each.locktime, line)
-    case.tell(f"MedianTime of {case.whose}", case.now)
-
-
-async def _sums(case: Case) -> None:
-    for place, each in case.transactions():
-        given, taken = sum(map(units, each.outputs)), sum(map(units, each.inputs))
-        if given != taken:
-            case.tell("units of the inputs", taken, place)
-            case.tell("units of the outputs", given, place)
-
-
-async def _amounts(case: Case) -> None:
-    for place, each in case.transactions():
-        lines = [*enumerate(each.inputs, place + 2 + len(each.issuers))]
-        lines += enumerate(each.outputs, place + 2 + len(each.issuers) + len(each.inputs) + len(each.unlocks))
-        for line, text in lines:
-            if text.split(":")[0] == "0":
-                case.tell("an amount of 0", text, line)
-
-
-async def _bases(case: Case) -> None:
-    for place, each in case.transactions():
-        for line, text in enumerate(each.outputs, place + 2 + len(each.issuers) + len(each.inputs) + len(each.unlocks)):
-            if int(text.split(":")[1]) > int(case.fields["UnitBase"]):
-                case.tell("a base above that of the block", text, line)
-    case.tell(f"UnitBase of {case.whose}", case.fields["UnitBase"])
-
-
-async def _repeated(case: Case) -> None:
-    for place, each in case.transactions():
-        block = case.index.transaction_block(each.hash)
-        if block is not None:
-            case.tell(f"block {block} has the transaction", each.hash, place)
-
-
-async def _spent_twice(case: Case) -> None:
-    found = [
-        (line, source.split(":", 2)[2])
-        for place, each in case.transactions() for line, source in enumerate(each.inputs, place + 2 + len(each.issuers))
-    ]
-    counts = Counter(name for _, name in found)
-    for line, name in found:
-        if counts[name] > 1:
-            case.tell("an input that stands more than once", name, line)
-
-
-async def _long(case: Case) -> None:
-    for place, each in case.transactions():
-        if each.compact_size > 100:
-            case.tell("lines of the transaction", each.compact_size, place)
-
-
 def _key(words: list[str]) -> str:
     return words[0]
 
 
 _MEMBERSHIPS = ("Joiners", "Actives", "Leavers")
-_TELLERS: dict[str, Callable[[Case], Awaitable[None]]] = {
+TELLERS: dict[str, Teller] = {
     **dict.fromkeys(("G51", "G52", "G53"), _place), "G49": _currency, "G101": _issuer, "G50": _size, "G62": _difficulty, "L01": _inner,
     **{rule: _header(name) for rule, name in _HEADER.items()}, **dict.fromkeys(("L02", "L06"), _times),
     **dict.fromkeys(_OF_SIGNATURES, _signatures),
     "L08": _twice("name", ("Identities",), lambda words: words[3]), "L09": _twice("key", ("Identities",), _key),
     "L12": _twice("key", (*_MEMBERSHIPS, "Excluded"), _key), "L13": _twice("key", (*_MEMBERSHIPS, "Revoked"), _key),
     "L14": _twice("pair", ("Certifications",), lambda words: " to ".join(words[:2])), "L15": _own,
-    "L16": _twice("issuer", ("Certifications",), _key), "L18": _long, "L21": _spent_twice, "L22": _amounts, "L23": _sums,
+    "L16": _twice("issuer", ("Certifications",), _key), "L10": _without_joiner, "L17": _certified_who_ends,
     "G63": _stamps("idtyWindow", ("Identities",), 2), "G64": _stamps("msWindow", _MEMBERSHIPS, 2),
     "G65": _stamps("sigWindow", ("Certifications",), 2),
     "G73": _name_taken, "G74": _people("Identities", wanted=lambda state: state is not None), "G75": _memberships, "G108": _memberships,
@@ -499,6 +325,5 @@ _TELLERS: dict[str, Callable[[Case], Awaitable[None]]] = {
     "G66": _stock, "G67": _pace, "G68": _people("Certifications", wanted=_is_no_member),
     "G69": _people("Certifications", word=1, wanted=_is_no_member),
     "G70": _people("Certifications", word=1, wanted=lambda state: state is not None and state.state == "LEAVING"), "G71": _renewal,
-    "G79": _enough, "G76": _distance, "G85": _excluded, "G86": _excluded, "X05": _repeated, "G103": _payment_stamps, "G87": _sources,
-    "G88": _conditions, "G89": _locktimes, "G90": _bases,
+    "G79": _enough, "G76": _distance, "G85": _excluded, "G86": _excluded, "G103": _payment_stamps, **why_money.TELLERS,
 }

@@ -9,8 +9,8 @@ import generated
 import pytest
 from browser import Browser
 from hostile import strings
+from strangers import StandIn, views_of
 from support import TOOL, Server, until
-from test_page import StandIn, _views_of
 
 from service.page.markup import path
 from service.wallet import Wallet
@@ -267,7 +267,7 @@ def test_thousands_of_hostile_texts_in_the_browser(shown: Browser, example_log: 
             for names in ([f"x{place}" for place in range(piece)], strings(start + piece)[start:]):
                 if wanted is not None and names[0] == "x0":
                     continue
-                made = asyncio.run(_views_of(StandIn(names, monkeypatch), names))[:7]
+                made = asyncio.run(views_of(StandIn(names, monkeypatch), names))[:7]
                 found = [shown.run(count, page) for page in made]
                 wanted = wanted or found
                 assert found == wanted
