@@ -1,5 +1,6 @@
 """The page in a real browser: numbers beside the program's answers, the keyboard, a narrow screen, blocks that come in, markup of strangers."""
 import asyncio
+import http.client
 import time
 from collections.abc import Callable, Iterator
 from pathlib import Path
@@ -14,6 +15,7 @@ from support import TOOL, Server, until
 
 from service.page.markup import path
 from service.wallet import Wallet
+from service.web import MOST_STREAMS
 
 if browser.lacks():
     pytest.skip(f"these are not installed: {browser.lacks()}", allow_module_level=True)
@@ -101,7 +103,7 @@ def test_plots_are_read_by_the_keyboard(shown: Browser, chain: Server) -> None:
     for keys, point in (((LEFT,), points[-2]), ((HOME,), points[0])):
         shown.press(*keys)
         assert f"members: {point['members']}" in shown.text("#plot-members") and f"mass: {point['mass']:,}" in shown.text("#plot-mass")
-        assert f"block {point['number']}" in shown.text(".reader output")
+        assert f"block {point['number']}" in shown.text(".reader span")
         assert f"block {point['number']}" in shown.run("return document.querySelector('input[type=range]').getAttribute('aria-valuetext')")
 
 
@@ -202,6 +204,21 @@ def test_what_a_page_says_when_the_node_is_gone(shown: Browser, forging: Server)
     forging.kill()
     until(lambda: "cannot be reached" in shown.text("#reach"))
     shown.complaints()
+
+
+def test_a_stream_that_is_refused_is_tried_again(shown: Browser, example_log: Path) -> None:
+    with Server(example_log) as server:
+        taken = [http.client.HTTPConnection("127.0.0.1", server.port) for _ in range(MOST_STREAMS)]
+        for each in taken:
+            each.request("GET", "/node/events")
+            assert each.getresponse().status == 200
+        _open(shown, server, "/")
+        until(lambda: "cannot be reached" in shown.text("#reach"))
+        for each in taken:
+            each.close()
+        # a stream is seen to be gone when something is written to it, at the latest behind the time between two signs of life
+        until(lambda: shown.text("#reach") == "" and shown.run("return events && events.readyState") == 1, 60)
+        shown.complaints()
 
 
 def test_a_fork_and_what_waits(shown: Browser, forging: Server, people: dict[str, Wallet]) -> None:

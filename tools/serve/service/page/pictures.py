@@ -43,7 +43,7 @@ def _ends(blocks: tuple[int, int]) -> list[Element]:
 
 def _legend(line: Line) -> Element:
     last = number(line.values[-1]) if line.values else "none"
-    return e("li", e("span", class_=f"swatch {line.style}"), f"{line.name}: ", e("output", last, data_line=line.name))
+    return e("li", e("span", class_=f"swatch {line.style}"), f"{line.name}: ", e("span", last, data_line=line.name))
 
 
 def _height(value: int, top: int) -> float:

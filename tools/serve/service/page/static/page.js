@@ -23,7 +23,7 @@ function readPlots(plots) {
   const reader = document.createElement("div");
   reader.className = "reader";
   const label = document.createElement("label");
-  const said = document.createElement("output");
+  const said = document.createElement("span");
   const range = document.createElement("input");
   Object.assign(range, { type: "range", min: "0", max: String(rows.length - 1), value: String(rows.length - 1), id: "read-" + plots.dataset.reads });
   label.append("Read the plot at: ");
@@ -53,9 +53,9 @@ function showFigure(figure, row, place, isAsked) {
   marker.setAttribute("x1", at);
   marker.setAttribute("x2", at);
   marker.setAttribute("visibility", isAsked ? "visible" : "hidden");
-  return Array.from(figure.querySelectorAll("output[data-line]")).map((output) => {
-    output.textContent = cellOf(row, output.dataset.line).textContent;
-    return output.dataset.line + " " + output.textContent;
+  return Array.from(figure.querySelectorAll("[data-line]")).map((value) => {
+    value.textContent = cellOf(row, value.dataset.line).textContent;
+    return value.dataset.line + " " + value.textContent;
   }).join(", ");
 }
 
@@ -149,6 +149,7 @@ function reach(isThere) {
   if (place.textContent !== said) { place.textContent = said; }
 }
 
+const MILLISECONDS_TO_RETRY = 5000;
 let events = null;
 
 // A page that is not looked at keeps no connection: a browser opens few to one host.
@@ -168,9 +169,17 @@ function listen() {
   const known = {};
   events = new EventSource("/node/events");
   events.addEventListener("open", () => reach(true));
-  events.addEventListener("error", () => reach(false));
+  events.addEventListener("error", () => {
+    reach(false);
+    if (events && events.readyState === EventSource.CLOSED) {
+      // the service refused the stream: a browser does not try again by itself
+      leave();
+      setTimeout(listenWhileShown, MILLISECONDS_TO_RETRY);
+    }
+  });
   events.addEventListener("block", (event) => {
     const block = JSON.parse(event.data);
+    if (!main.dataset.head) { main.dataset.head = block.stamp; }
     if (main.dataset.head === block.stamp) { return; }
     say("Block " + Number(block.number) + " has come in.");
     changed();
