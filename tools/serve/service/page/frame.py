@@ -51,7 +51,7 @@ def _header(view: View, currency: str) -> Element:
 def _footer(lacks: list[str]) -> Element:
     said = [e("p", "What cannot be reached here:"), e("ul", *[e("li", sentence) for sentence in lacks])] if lacks else []
     about = e(
-        "p", "The answers of the program behind this page are proved; what the service around it shows is tested, and not proved. ",
-        "Times are local where scripts run, else those of Greenwich.",
+        "p", "Where the program behind this page is the proved dubp_node, its answers are proved; what the service around it shows is tested, and ",
+        "not proved. Times are local where scripts run, else those of Greenwich.",
     )
     return e("footer", *said, about, e("p", id="reach", role="status", aria_live="polite"))

@@ -31,6 +31,7 @@ _LACKING = {
     "PEND": "Documents cannot wait: this program has no PEND yet.",
     "FORGE": "No block can be forged, and what one would have is not told: this program has no FORGE yet.",
     "OFFER": "Blocks of other branches are not stored: this program has no OFFER.",
+    "AUTO": "No branch is chosen by itself: this program has no AUTO yet.",
     "FAILED": "Failures of the automatic choice are not told: this program has no FAILED yet.",
     "STATEMENT": "The moves of an account come from the service's own index, not from the program: it has no STATEMENT yet.",
 }
