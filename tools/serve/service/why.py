@@ -10,8 +10,8 @@ from typing import Any
 from . import commands, people
 from .branch import Branch
 from .ledger import Lacking, Ledger, Turn, Unavailable
-from .log import Log
-from .program import Program, ProgramEnded
+from .log import Entry, LogRefused
+from .program import Program
 from .refusals import UNHANDLED, Refusal, chapter, sentence
 from .verdicts import Claim, Unreadable, digest, document_claims, is_true, read_block
 from .why_values import values_of
@@ -25,7 +25,8 @@ _SECONDS_KEPT = 120.0
 
 
 class Trial:
-    """A second program with the same log, in which what is asked about is tried and taken back. It is ended when nobody asked for a while."""
+    """A second program with the same log, in which what is asked about is tried. It is ended when nobody asked for a while, and where what was
+    tried changed it."""
 
     def __init__(self, ledger: Ledger, path: Path) -> None:
         self._ledger, self._path = ledger, path
@@ -41,7 +42,8 @@ class Trial:
             try:
                 await program.ask_all(claims)
                 answer = (await program.ask(commands.block(raw)))[0].split(" ")
-                if answer[0] == "ACCEPTED" and await program.ask(commands.revert(1)) != ["REVERTED 1"]:
+                if answer[0] == "ACCEPTED":
+                    # what leads back is a fresh program: a reversal leaves one block less that can be reversed, and the store without this block
                     await self._stop()
                 return answer
             except BaseException:
@@ -68,6 +70,8 @@ class Trial:
         answer = (await program.ask(commands.pend(raw)))[0].split(" ")
         if answer[0] == "REFUSED":
             return answer[1], False
+        if answer[0] not in ("PENDING", "KNOWN"):
+            raise Unavailable("no more documents can wait now")
         text_hash = digest(raw.decode("latin-1"))
         lines = await program.ask(commands.forge(key, second))
         if answer[0] == "PENDING":
@@ -101,15 +105,38 @@ class Trial:
 
     async def _ready(self) -> Program:
         """The program, given what the log has by now."""
-        if self._program is None:
-            self._program, self._at = await Program.start(self._path), (0, "")
-        try:
-            self._at = await _replay(self._program, self._ledger.log, self._at)
-        except (ProgramEnded, commands.BadWord):
+        for _ in range(2):
+            program = self._program
+            if program is None:
+                program = self._program = await Program.start(self._path)
+                self._at = (0, "")
+            try:
+                if await self._follow(program):
+                    self._wait_for_end()
+                    return program
+            except BaseException:
+                await self._stop()
+                raise
             await self._stop()
-            raise
-        self._wait_for_end()
-        return self._program
+        raise Unavailable("the log has changed meanwhile")
+
+    async def _follow(self, program: Program) -> bool:
+        """Gives the program what the log has behind what it was given, a piece at a time, so that others are answered meanwhile. Says whether
+        the answers are those of the log."""
+
+        async def read(_: Turn) -> list[Entry]:
+            return list(islice(self._ledger.log.entries(self._at), _BATCH))
+
+        try:
+            while piece := await self._ledger.turn(read):
+                batch = [(commands.read_changing(entry.line, entry.frame), entry.answer.count("\n") + 1) for entry in piece]
+                answers = await program.again(batch)
+                if ["\n".join(lines) for lines in answers] != [entry.answer for entry in piece]:
+                    return False
+                self._at = (piece[-1].number, piece[-1].sum)
+        except LogRefused:
+            return False
+        return True
 
     def _wait_for_end(self) -> None:
         if self._end is not None:
@@ -120,15 +147,6 @@ class Trial:
         program, self._program = self._program, None
         if program is not None:
             await program.stop()
-
-
-async def _replay(program: Program, log: Log, after: tuple[int, str]) -> tuple[int, str]:
-    # a piece at a time, so that others are answered meanwhile
-    while piece := list(islice(log.entries(after), _BATCH)):
-        batch = [(commands.read_changing(entry.line, entry.frame), entry.answer.count("\n") + 1) for entry in piece]
-        await program.again(batch)
-        after = (piece[-1].number, piece[-1].sum)
-    return after
 
 
 async def why(ledger: Ledger, trial: Trial, raw: bytes) -> dict[str, Any]:

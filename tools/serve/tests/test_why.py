@@ -10,7 +10,7 @@ from mining import changed, mined
 from reading import said_by
 from support import FORM, PROGRAM, TOOL, Server
 
-from service import why, why_values
+from service import commands, why, why_values
 from service.blocks import BlockText, digest, joined
 from service.forging import draft
 from service.ledger import Lacking, Ledger, Turn, Unavailable
@@ -181,6 +181,32 @@ def test_no_teller_of_values_fails_on_a_whole_block(generated_log: Path, tmp_pat
 
     asyncio.run(story())
     assert set(why_values.TELLERS) <= set(sentences())
+
+
+def test_trials_follow_the_log(currency: Path, people: dict[str, Wallet]) -> None:
+    good = mined(_drafted(currency / "log.sqlite", people["alice"]), people["alice"])
+
+    async def story() -> None:
+        ledger = await Ledger.open(PROGRAM, currency / "log.sqlite")
+        trial = why.Trial(ledger, PROGRAM)
+        last = ledger.index.block(ledger.index.length() - 1)
+        assert last is not None
+        # three times the same question: a block that was accepted leaves nothing behind
+        for _ in range(3):
+            assert (await why.why(ledger, trial, good))["accepted"]
+        await ledger.turn(lambda turn: turn.change(commands.revert(1)))
+        assert (await why.why(ledger, trial, good))["rule"] == "G51"
+        await ledger.turn(lambda turn: turn.change(commands.block(last[0].text.encode())))
+        assert (await why.why(ledger, trial, good))["accepted"]
+        # a log that is another one behind what was read is read anew
+        await trial.make_ready()
+        trial._at = (trial._at[0], "0" * 64)
+        await ledger.turn(lambda turn: turn.change(commands.revert(1)))
+        assert (await why.why(ledger, trial, good))["rule"] == "G51"
+        await trial.close()
+        await ledger.close()
+
+    asyncio.run(story())
 
 
 def test_many_questions_at_once_are_refused(example_log: Path, monkeypatch: pytest.MonkeyPatch) -> None:
