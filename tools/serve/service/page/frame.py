@@ -33,7 +33,7 @@ def framed(view: View, *, currency: str, head: str, lacks: list[str], versions: 
     main = e(
         "main", e("h1", view.title), *view.content, id="main", tabindex="-1", data_head=head, data_live="yes" if view.is_live else "no",
     )
-    news = e("p", id="news", role="status", aria_live="polite", hidden=True)
+    news = e("p", id="news", role="status", aria_live="polite")
     body = e("body", e("a", "To the content", href="#main", class_="skip"), _header(view, currency), news, main, _footer(lacks))
     return e("html", top, body, lang="en")
 

@@ -75,9 +75,7 @@ function prepare(root) {
 }
 
 function say(text) {
-  const news = document.getElementById("news");
-  news.hidden = false;
-  news.textContent = text;
+  document.getElementById("news").textContent = text;
 }
 
 // The focus and what is open or chosen stay where they are when the content is put anew.
