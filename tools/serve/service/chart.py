@@ -18,8 +18,8 @@ from matplotlib.collections import LineCollection  # noqa: E402
 from . import spelling  # noqa: E402
 from .feeding import NoCommands  # noqa: E402
 from .history import Behind, entries, run, steps_of  # noqa: E402
-from .main import FAILED, PROGRAM  # noqa: E402
 from .people import least_sentry_degree  # noqa: E402
+from .places import FAILED, PROGRAM  # noqa: E402
 from .program import ProgramEnded  # noqa: E402
 from .progress import Progress  # noqa: E402
 

@@ -13,9 +13,9 @@ from .forging import Issuer, draft, submit_own
 from .genesis import first_block
 from .ledger import Ledger, Turn
 from .log import LogRefused
-from .main import FAILED, PROGRAM
 from .miner import search
 from .people import head_of
+from .places import FAILED, PROGRAM
 from .program import ProgramEnded
 from .wallet import Wallet
 from .writes import CERTIFICATION, IDENTITY, MEMBERSHIP, REVOCATION, TRANSACTION, submit_block, submit_document

@@ -10,14 +10,12 @@ from . import commands
 from .forging import Forger, Issuer, NoKey
 from .ledger import Ledger, Unavailable
 from .log import LogRefused
+from .places import FAILED, PROGRAM
 from .program import ProgramEnded
 from .web import Service, start
 
-REPOSITORY = Path(__file__).resolve().parents[3]
-PROGRAM = REPOSITORY / "crates" / "dubp_node" / "out" / "dubp_node"
 LOG = Path("out/demo/log.sqlite")
 PORT = 10901
-WRONG_WORDS, FAILED = 2, 1
 
 _NEEDED = {
     "OFFER": "blocks of branches are not stored",

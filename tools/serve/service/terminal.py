@@ -14,7 +14,8 @@ from . import spelling
 from .commands import BadWord
 from .ledger import Lacking, Ledger, Turn, Unavailable
 from .log import LogRefused
-from .main import FAILED, PORT, PROGRAM
+from .main import PORT
+from .places import FAILED, PROGRAM
 from .program import ProgramEnded
 from .refusals import Refusal
 from .routes import READS
