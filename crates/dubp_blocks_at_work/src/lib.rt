@@ -1,5 +1,4 @@
-//! Tests of the texts of blocks, documents, conditions, records and commands, of verdicts, of the rules on a block by itself, of heads, of
-//! facts and of drafts, and nothing else.
+//! Tests of the texts of blocks, documents and conditions, and of the rules on a block by itself, and nothing else.
 //!
 //! Each call is made with texts whose answers are known from outside. The tests stand above the crates that they try: a crate with
 //! tests of its own is proved once more with them.
@@ -8,20 +7,8 @@
 #[cfg(test)]
 mod blocks;
 #[cfg(test)]
-mod commands;
-#[cfg(test)]
 mod conditions;
 #[cfg(test)]
 mod documents;
 #[cfg(test)]
-mod drafts;
-#[cfg(test)]
-mod facts;
-#[cfg(test)]
-mod heads;
-#[cfg(test)]
-mod records;
-#[cfg(test)]
 mod rules;
-#[cfg(test)]
-mod verdicts;
