@@ -15,7 +15,7 @@ use Rattle.dubp_replay.specs.Turns.{Branches, BreaksAt, Fails, IsAcceptedOn, IsP
 use Rattle.dubp_turn_laws.specs.Laws.{SwitchesOneWay}
 
 -- ---- the path
-one_path : (store : List Block) (s : Stamp) (path path' : List Block) (end end' : Option Stamp) → IsPath store s path end → IsPath store s path' end' → (path ≡ path') × (end ≡ end')
+pub one_path : (store : List Block) (s : Stamp) (path path' : List Block) (end end' : Option Stamp) → IsPath store s path end → IsPath store s path' end' → (path ≡ path') × (end ≡ end')
 one_path store s [] [] end end' p q = (refl, p.1 ∙ sym q.1)
 one_path store s [] (b ∷ path') end end' p q = let e : None ≡ Some b = sym p.0 ∙ q.0 in absurd cc
 one_path store s (b ∷ path) [] end end' p q = let e : None ≡ Some b = sym q.0 ∙ p.0 in absurd cc
@@ -50,7 +50,7 @@ module _ (v : Verdicts) where
 
   module _ (c : Chain) where
     -- the same, down the path: a rule is broken by its first block, or below
-    abbrev BreaksDown : List Block → Block → Rule → Type 0
+    abbrev pub BreaksDown : List Block → Block → Rule → Type 0
     BreaksDown [] b rule = ⊥
     BreaksDown (x ∷ path) b rule = ((b ≡ x) × IsAcceptedOn v c path × FirstBroken v (path ++ c) x (Some rule)) ⊎ BreaksDown path b rule
 
@@ -58,15 +58,15 @@ module _ (v : Verdicts) where
     down_by [] below b rule a f = inl (refl, a, f)
     down_by (x ∷ above) below b rule a f = inr (down_by above below b rule a f)
 
-    down : (path : List Block) (b : Block) (rule : Rule) → BreaksAt v c path b rule → BreaksDown path b rule
+    pub down : (path : List Block) (b : Block) (rule : Rule) → BreaksAt v c path b rule → BreaksDown path b rule
     down path b rule w = subst (λ p. BreaksDown p b rule) (sym w.stands) (down_by w.above w.below b rule w.passed w.breaks)
 
-    not_accepted : (path : List Block) (b : Block) (rule : Rule) → BreaksDown path b rule → IsAcceptedOn v c path → ⊥
+    pub not_accepted : (path : List Block) (b : Block) (rule : Rule) → BreaksDown path b rule → IsAcceptedOn v c path → ⊥
     not_accepted [] b rule w a = w
     not_accepted (x ∷ path) b rule (inl w) a = let e : Some rule ≡ None = one_first (path ++ c) x (Some rule) None w.2 a.0 in cc
     not_accepted (x ∷ path) b rule (inr w) a = not_accepted path b rule w a.1
 
-    one_break : (path : List Block) (b b' : Block) (rule rule' : Rule) → BreaksDown path b rule → BreaksDown path b' rule' → (b ≡ b') × (rule ≡ rule')
+    pub one_break : (path : List Block) (b b' : Block) (rule rule' : Rule) → BreaksDown path b rule → BreaksDown path b' rule' → (b ≡ b') × (rule ≡ rule')
     one_break [] b b' rule rule' w w' = absurd w
     one_break (x ∷ path) b b' rule rule' (inl w) (inl w') =
         let e : Some rule ≡ Some rule' = one_first (path ++ c) x (Some rule) (Some rule') w.2 w'.2 in (w.0 ∙ sym w'.0, cc)

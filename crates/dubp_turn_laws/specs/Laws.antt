@@ -1,5 +1,5 @@
--- Laws of turns in which the node chooses, each of which a public function without a body promises. Protocol: choice.
-use Rattle.std.specs.Prelude.{◌≡◌, true, false, List, [], ◌∷◌, map, Option, Some, ⊤}
+-- Laws of turns, each of which a public function without a body promises. Protocol: commands and answers, choice.
+use Rattle.std.specs.Prelude.{◌≡◌, ℕ, true, false, List, [], ◌∷◌, map, Option, Some, ⊤}
 use Rattle.std.specs.List.{AllByRecursion, list_any}
 use Rattle.std.specs.Option.{option_map}
 use Rattle.dubp_atoms.specs.declared.stamp.Stamp.{Stamp}
@@ -9,7 +9,8 @@ use Rattle.dubp_resolve.specs.Choice.{choice, is_among}
 use Rattle.dubp_resolve.specs.Known.{AreOffers}
 use Rattle.dubp_resolve.specs.Resolve.{HasOneResult, IsDetermined, Line, Switched, Failed}
 use Rattle.dubp_replay.specs.declared.failure.Failure.{Failure}
-use Rattle.dubp_replay.specs.Turns.{Fails, IsPath, ResolvesBy, State, Succeeds, branches_of, choices_of}
+use Rattle.dubp_replay.specs.declared.command.Command.{Command}
+use Rattle.dubp_replay.specs.Turns.{Fails, IsPath, ResolvesBy, State, Succeeds, Turn, branches_of, choices_of}
 
 -- a switch has one result
 abbrev pub SwitchesOneWay : Type 0
@@ -43,3 +44,9 @@ AreApartAt (f ∷ failures) = (is_among (map (λ (g : Failure). g.at) failures) 
 abbrev pub FailuresStayApart : Type 0
 FailuresStayApart =
     (old : State) (lines : List (Line Failure)) (new : State) → AreOffers (choices_of old).offers → ResolvesBy old lines new → AreApartAt old.failures → AreApartAt new.failures
+
+-- two turns of one command with one frame from one state have one answer, and lead to one state
+abbrev pub TurnsHaveOneAnswer : Type 0
+TurnsHaveOneAnswer =
+    (old : State) (command : Command) (frame answer answer' : List ℕ) (new new' : State) → Turn old command frame answer new → Turn old command frame answer' new'
+    → (answer ≡ answer') × (new ≡ new')

@@ -1,4 +1,4 @@
-ghost use Rattle.dubp_turn_laws.specs.Laws.{FailedIsNotTried, FailingKeepsAll, FailuresStayApart, ResolvesOneWay, SwitchesOneWay};
+ghost use Rattle.dubp_turn_laws.specs.Laws.{FailedIsNotTried, FailingKeepsAll, FailuresStayApart, ResolvesOneWay, SwitchesOneWay, TurnsHaveOneAnswer};
 
 /// A switch to a branch has one result: it leads to one state, or it fails at one block, by one rule, and not both.
 pub fn switches_one_way()
@@ -23,4 +23,9 @@ pub fn failed_is_not_tried()
 /// Where no two failures have one block, none come to have one.
 pub fn failures_stay_apart()
     ensures { FailuresStayApart }
+{}
+
+/// A turn has one result, whatever the command: from one state, with one frame, it has one answer and leads to one state.
+pub fn turns_have_one_answer()
+    ensures { TurnsHaveOneAnswer }
 {}

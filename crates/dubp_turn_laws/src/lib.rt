@@ -1,4 +1,4 @@
-//! Laws of turns in which a node chooses a branch: each function does nothing, and its contract is the law.
+//! Laws of turns, most of them of turns in which a node chooses a branch: each function does nothing, and its contract is the law.
 //!
 //! ```text
 //! resolves_one_way();
