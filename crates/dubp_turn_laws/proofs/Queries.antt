@@ -17,7 +17,7 @@ one_count : {X : Type 0} (P : X → Type 0) (xs : List X) (n m : ℕ) → IsCoun
 one_count P xs n m a b = a.2 ∙ (λ i. count_by (λ x. same_from_decides (a.0 x) (b.0 x) (a.1 x) (b.1 x) i) xs) ∙ sym b.2
 
 -- whether they are enough is decided
-near_or_far : {R : Type 0} (n m : ℕ) → (n ≤ m → R) → ((n ≤ m → ⊥) → R) → R
+pub near_or_far : {R : Type 0} (n m : ℕ) → (n ≤ m → R) → ((n ≤ m → ⊥) → R) → R
 near_or_far {R} n m f g =
     elim (nat_le n m) as (λ t. nat_le n m ≡ t → R) [
       | true ↦ λ e. f (grind (arith, nat_tests))

@@ -32,17 +32,19 @@ said : {X : Type 0} (text : List ℕ) (to : X) (a a' : List ℕ) (x x' : X) → 
 said text to a a' x x' p q = (p.0 ∙ sym q.0, p.1 ∙ sym q.1)
 
 -- by a test, and by whether there is a value
-by : {R : Type 0} (t : Bool) (P Q P' Q' : Type 0) → (P → P' → R) → (Q → Q' → R) → MatchBool t P Q → MatchBool t P' Q' → R
-by true P Q P' Q' f g p q = f p q
-by false P Q P' Q' f g p q = g p q
+two_by_test : {R : Type 0} (t : Bool) (P Q P' Q' : Type 0) → (P → P' → R) → (Q → Q' → R) → MatchBool t P Q → MatchBool t P' Q' → R
+two_by_test true P Q P' Q' f g p q = f p q
+two_by_test false P Q P' Q' f g p q = g p q
 
-by_value : {R X : Type 0} (o : Option X) (P P' : Type 0) (Q Q' : X → Type 0) → (P → P' → R) → ((x : X) → Q x → Q' x → R) → MatchOption o P Q → MatchOption o P' Q' → R
-by_value None P P' Q Q' f g p q = f p q
-by_value (Some x) P P' Q Q' f g p q = g x p q
+two_by_value : {R X : Type 0} (o : Option X) (P P' : Type 0) (Q Q' : X → Type 0) → (P → P' → R) → ((x : X) → Q x → Q' x → R)
+    → MatchOption o P Q → MatchOption o P' Q' → R
+two_by_value None P P' Q Q' f g p q = f p q
+two_by_value (Some x) P P' Q Q' f g p q = g x p q
 
 -- ---- BLOCK and OFFER
 
-one_rule : (v : Verdicts) (c : Chain) (bytes : List ℕ) (rules : List Rule) (o o' : Option Rule) → IsFirst (HoldsRaw v c bytes) rules o → IsFirst (HoldsRaw v c bytes) rules o' → o ≡ o'
+one_rule : (v : Verdicts) (c : Chain) (bytes : List ℕ) (rules : List Rule) (o o' : Option Rule)
+    → IsFirst (HoldsRaw v c bytes) rules o → IsFirst (HoldsRaw v c bytes) rules o' → o ≡ o'
 one_rule v c bytes rules o o' f g =
     let Holding = HoldsRaw v c bytes in
     FirstOf_determined Holding rules o o' (FirstOf_from_IsFirst Holding rules o f) (FirstOf_from_IsFirst Holding rules o' g)
@@ -61,7 +63,8 @@ module _ (bytes : List ℕ) (old : Branches) (a a' : List ℕ) (new new' : Branc
   one_block_turn : BlockTurn old bytes a new → BlockTurn old bytes a' new' → Same a a' new new'
   one_block_turn p q =
       let same = one_rule old.verdicts old.chain bytes table_rules p.broken q.broken p.first q.first in
-      by_value p.broken (Accepts bytes old a new) (Accepts bytes old a' new') (λ rule. RefusedBy bytes rule old a new) (λ rule. RefusedBy bytes rule old a' new') one_accepted one_refusal p.decides
+      two_by_value p.broken (Accepts bytes old a new) (Accepts bytes old a' new') (λ rule. RefusedBy bytes rule old a new) (λ rule. RefusedBy bytes rule old a' new')
+      one_accepted one_refusal p.decides
       (subst (λ o. MatchOption o (Accepts bytes old a' new') (λ rule. RefusedBy bytes rule old a' new')) (sym same) q.decides)
 
   abbrev StoresBlock : List ℕ → Branches → Block → Type 0
@@ -76,13 +79,15 @@ module _ (bytes : List ℕ) (old : Branches) (a a' : List ℕ) (new new' : Branc
   one_stored p q =
       let b = p.0 in
       let rest : StoresBlock a' new' b = subst (StoresBlock a' new') (one_block bytes q.0 p.0 q.1 p.1) q.2 in
-      by (is_known old (stamp_of b)) _ _ _ _ (said (known_answer (stamp_of b)) old a a' new new')
-      (by (nat_le most_stored (length old.store)) _ _ _ _ (said full_answer old a a' new new') (said (stored_answer (stamp_of b)) (record old { store = old.store ++ b ∷ [] }) a a' new new')) p.2 rest
+      two_by_test (is_known old (stamp_of b)) _ _ _ _ (said (known_answer (stamp_of b)) old a a' new new')
+      (two_by_test (nat_le most_stored (length old.store)) _ _ _ _ (said full_answer old a a' new new')
+      (said (stored_answer (stamp_of b)) (record old { store = old.store ++ b ∷ [] }) a a' new new')) p.2 rest
 
   one_offer_turn : OfferTurn old bytes a new → OfferTurn old bytes a' new' → Same a a' new new'
   one_offer_turn p q =
       let same = one_rule old.verdicts old.chain bytes offer_rules p.broken q.broken p.first q.first in
-      by_value p.broken (Stores bytes old a new) (Stores bytes old a' new') (λ rule. RefusedBy bytes rule old a new) (λ rule. RefusedBy bytes rule old a' new') one_stored one_refusal p.decides
+      two_by_value p.broken (Stores bytes old a new) (Stores bytes old a' new') (λ rule. RefusedBy bytes rule old a new) (λ rule. RefusedBy bytes rule old a' new')
+      one_stored one_refusal p.decides
       (subst (λ o. MatchOption o (Stores bytes old a' new') (λ rule. RefusedBy bytes rule old a' new')) (sym same) q.decides)
 
 -- ---- SWITCH
@@ -90,8 +95,10 @@ module _ (bytes : List ℕ) (old : Branches) (a a' : List ℕ) (new new' : Branc
 module _ (old : Branches) (stamp : Stamp) (a a' : List ℕ) (new new' : Branches) where
   one_try : (path : List Block) (count : ℕ) → TriesPath old stamp path count a new → TriesPath old stamp path count a' new' → Same a a' new new'
   one_try path count (inl p) (inl q) = (p.1 ∙ sym q.1, p.2 ∙ sym q.2)
-  one_try path count (inl p) (inr q) = absurd (not_accepted old.verdicts (drop count old.chain) path q.0 q.1 (down old.verdicts (drop count old.chain) path q.0 q.1 q.2) p.0)
-  one_try path count (inr p) (inl q) = absurd (not_accepted old.verdicts (drop count old.chain) path p.0 p.1 (down old.verdicts (drop count old.chain) path p.0 p.1 p.2) q.0)
+  one_try path count (inl p) (inr q) =
+      absurd (not_accepted old.verdicts (drop count old.chain) path q.0 q.1 (down old.verdicts (drop count old.chain) path q.0 q.1 q.2) p.0)
+  one_try path count (inr p) (inl q) =
+      absurd (not_accepted old.verdicts (drop count old.chain) path p.0 p.1 (down old.verdicts (drop count old.chain) path p.0 p.1 p.2) q.0)
   one_try path count (inr p) (inr q) =
       let c = drop count old.chain in
       let same = one_break old.verdicts c path p.0 q.0 p.1 q.1 (down old.verdicts c path p.0 p.1 p.2) (down old.verdicts c path q.0 q.1 q.2) in
@@ -101,15 +108,15 @@ module _ (old : Branches) (stamp : Stamp) (a a' : List ℕ) (new new' : Branches
 
   one_way_by : (path : List Block) (count : ℕ) → SwitchesBy old stamp path count a new → SwitchesBy old stamp path count a' new' → Same a a' new new'
   one_way_by path count =
-      by (nat_lt old.kept count) _ _ _ _ (said (too_deep_answer old.kept) old a a' new new')
-      (by (nat_lt most_stored ((length old.store - length path) + count)) _ _ _ _ (said full_answer old a a' new new') (one_try path count))
+      two_by_test (nat_lt old.kept count) _ _ _ _ (said (too_deep_answer old.kept) old a a' new new')
+      (two_by_test (nat_lt most_stored ((length old.store - length path) + count)) _ _ _ _ (said full_answer old a a' new new') (one_try path count))
 
   detached : (end : Option Stamp) → Detaches old end a new → Detaches old end a' new' → Same a a' new new'
   detached None p q = absurd p
   detached (Some s) p q = said (detached_answer s) old a a' new new' p q
 
   one_along : (path : List Block) (end : Option Stamp) → GoesAlong old stamp path end a new → GoesAlong old stamp path end a' new' → Same a a' new new'
-  one_along path end = by_value (blocks_behind old.chain end) _ _ _ _ (detached end) (one_way_by path)
+  one_along path end = two_by_value (blocks_behind old.chain end) _ _ _ _ (detached end) (one_way_by path)
 
   one_switch_turn : SwitchTurn old stamp a new → SwitchTurn old stamp a' new' → Same a a' new new'
   one_switch_turn p q =
@@ -119,20 +126,23 @@ module _ (old : Branches) (stamp : Stamp) (a a' : List ℕ) (new new' : Branches
       let rest : MatchBool (is_some (stored old.store stamp)) (GoesAlong old stamp p.path p.end a' new') (Only unknown_answer old a' new') =
       subst (λ e. MatchBool (is_some (stored old.store stamp)) (GoesAlong old stamp p.path e a' new') (Only unknown_answer old a' new')) end
       (subst (λ l. MatchBool (is_some (stored old.store stamp)) (GoesAlong old stamp l q.end a' new') (Only unknown_answer old a' new')) path q.goes) in
-      by (is_some (stored old.store stamp)) _ _ _ _ (one_along p.path p.end) (said unknown_answer old a a' new new') p.goes rest
+      two_by_test (is_some (stored old.store stamp)) _ _ _ _ (one_along p.path p.end) (said unknown_answer old a a' new new') p.goes rest
 
 -- ---- each command
 
-one_of_branches : (old : Branches) (c : Command) (frame a a' : List ℕ) (new new' : Branches) → BranchesTurn old c frame a new → BranchesTurn old c frame a' new' → Same a a' new new'
+one_of_branches : (old : Branches) (c : Command) (frame a a' : List ℕ) (new new' : Branches)
+    → BranchesTurn old c frame a new → BranchesTurn old c frame a' new' → Same a a' new new'
 one_of_branches old (command.Verdict key hash sig) frame a a' new new' p q = (p.0 ∙ sym q.0, p.1 ∙ sym q.1)
 one_of_branches old (command.Block len) frame a a' new new' p q = one_block_turn frame old a a' new new' p q
 one_of_branches old (command.Revert count) frame a a' new new' p q =
-    by (nat_le count old.kept) _ _ _ _ (said (reverted_answer count) (record old { chain = drop count old.chain; kept = old.kept - count }) a a' new new')
+    two_by_test (nat_le count old.kept) _ _ _ _
+    (said (reverted_answer count) (record old { chain = drop count old.chain; kept = old.kept - count }) a a' new new')
     (said (too_deep_answer old.kept) old a a' new new') p q
 one_of_branches old (command.Offer len) frame a a' new new' p q = one_offer_turn frame old a a' new new' p q
 one_of_branches old (command.Switch stamp) frame a a' new new' p q = one_switch_turn old stamp a a' new new' p q
 one_of_branches old (command.Forget stamp) frame a a' new new' p q =
-    by (is_some (stored old.store stamp)) _ _ _ _ (said forgotten_answer (record old { store = without stamp old.store }) a a' new new') (said unknown_answer old a a' new new') p q
+    two_by_test (is_some (stored old.store stamp)) _ _ _ _
+    (said forgotten_answer (record old { store = without stamp old.store }) a a' new new') (said unknown_answer old a a' new new') p q
 one_of_branches old (command.Statement cond) frame a a' new new' p q = (p.0 ∙ sym q.0, p.1 ∙ sym q.1)
 one_of_branches old (command.Auto on) frame a a' new new' p q = absurd p
 one_of_branches old command.Failures frame a a' new new' p q = absurd p
@@ -152,8 +162,10 @@ GoesOn old a new first b =
 one_offer : (old : State) (bytes a a' : List ℕ) (new new' : State) → OfferGoesOn old bytes a new → OfferGoesOn old bytes a' new' → Same a a' new new'
 one_offer old bytes a a' new new' p q =
     let same = one_offer_turn bytes (branches_of old) q.first p.first q.branches p.branches q.offers p.offers in
-    let rest : GoesOn old a' new' p.first p.branches = subst (GoesOn old a' new' p.first) same.1 (subst (λ f. GoesOn old a' new' f q.branches) same.0 q.goes_on) in
-    by (old.auto && nat_lt (length old.store) (length p.branches.store)) _ _ _ _ (one_choice p.first (onward old p.branches) a a' new new') (said p.first (onward old p.branches) a a' new new') p.goes_on rest
+    let rest : GoesOn old a' new' p.first p.branches =
+    subst (GoesOn old a' new' p.first) same.1 (subst (λ f. GoesOn old a' new' f q.branches) same.0 q.goes_on) in
+    two_by_test (old.auto && nat_lt (length old.store) (length p.branches.store)) _ _ _ _
+    (one_choice p.first (onward old p.branches) a a' new new') (said p.first (onward old p.branches) a a' new new') p.goes_on rest
 
 one_auto : (old : State) (on : Bool) (a a' : List ℕ) (new new' : State) → AutoTurn old on a new → AutoTurn old on a' new' → Same a a' new new'
 one_auto old true a a' new new' p q = one_choice auto_on_answer (record old { auto = true }) a a' new new' p q

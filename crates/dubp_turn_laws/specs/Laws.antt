@@ -1,16 +1,18 @@
 -- Laws of turns, each of which a public function without a body promises. Protocol: commands and answers, choice.
-use Rattle.std.specs.Prelude.{◌≡◌, ℕ, true, false, List, [], ◌∷◌, map, Option, Some, ⊤}
+use Rattle.std.specs.Prelude.{◌≡◌, ℕ, Bool, true, false, not, List, [], ◌∷◌, map, filter, zip, Option, Some, None, ⊤}
 use Rattle.std.specs.List.{AllByRecursion, list_any}
 use Rattle.std.specs.Option.{option_map}
+use Rattle.dubp_atoms.specs.Same.{same_text}
 use Rattle.dubp_atoms.specs.declared.stamp.Stamp.{Stamp}
 use Rattle.dubp_block.specs.declared.block.Block.{Block}
 use Rattle.dubp_block.specs.Text.{stamp_of}
 use Rattle.dubp_resolve.specs.Choice.{choice, is_among}
 use Rattle.dubp_resolve.specs.Known.{AreOffers}
 use Rattle.dubp_resolve.specs.Resolve.{HasOneResult, IsDetermined, Line, Switched, Failed}
+use Rattle.dubp_replay.specs.Answers.{bad_answer, no_memory_answer}
 use Rattle.dubp_replay.specs.declared.failure.Failure.{Failure}
 use Rattle.dubp_replay.specs.declared.command.Command.{Command}
-use Rattle.dubp_replay.specs.Turns.{Fails, IsPath, ResolvesBy, State, Succeeds, Turn, branches_of, choices_of}
+use Rattle.dubp_replay.specs.Turns.{Asked, Fails, IsPath, IsServed, Only, ResolvesBy, Runs, State, Succeeds, Turn, branches_of, choices_of}
 
 -- a switch has one result
 abbrev pub SwitchesOneWay : Type 0
@@ -48,5 +50,30 @@ FailuresStayApart =
 -- two turns of one command with one frame from one state have one answer, and lead to one state
 abbrev pub TurnsHaveOneAnswer : Type 0
 TurnsHaveOneAnswer =
-    (old : State) (command : Command) (frame answer answer' : List ℕ) (new new' : State) → Turn old command frame answer new → Turn old command frame answer' new'
-    → (answer ≡ answer') × (new ≡ new')
+    (old : State) (command : Command) (frame answer answer' : List ℕ) (new new' : State)
+    → Turn old command frame answer new → Turn old command frame answer' new' → (answer ≡ answer') × (new ≡ new')
+
+-- ---- runs, and the want of memory in them
+
+-- what stands in the input is answered as where memory does not run out
+abbrev pub IsServedInFull : State → Asked → List ℕ → State → Type 0
+IsServedInFull old None answer new = Only bad_answer old answer new
+IsServedInFull old (Some (command, frame)) answer new = Turn old command frame answer new
+
+abbrev pub is_no_memory : List ℕ → Bool
+is_no_memory answer = same_text answer no_memory_answer
+
+-- what was asked and its answer, one after another, without what was answered NOMEM
+abbrev pub served : List Asked → List (List ℕ) → List (Asked × List ℕ)
+served asked answers = filter (λ p. not (is_no_memory p.1)) (zip asked answers)
+
+-- no turn is answered NOMEM
+abbrev pub TurnsHaveOtherAnswers : Type 0
+TurnsHaveOtherAnswers =
+    (old : State) (command : Command) (frame answer : List ℕ) (new : State) → Turn old command frame answer new → is_no_memory answer ≡ false
+
+-- What was not answered NOMEM, asked alone, is answered the same where memory does not run out, and leads to the same state.
+abbrev pub WithoutRefused : Type 0
+WithoutRefused =
+    (old : State) (asked : List Asked) (answers : List (List ℕ)) (new : State) → Runs IsServed old asked answers new
+    → Runs IsServedInFull old (map (λ p. p.0) (served asked answers)) (map (λ p. p.1) (served asked answers)) new

@@ -1,4 +1,4 @@
-ghost use Rattle.dubp_turn_laws.specs.Laws.{FailedIsNotTried, FailingKeepsAll, FailuresStayApart, ResolvesOneWay, SwitchesOneWay, TurnsHaveOneAnswer};
+ghost use Rattle.dubp_turn_laws.specs.Laws.{FailedIsNotTried, FailingKeepsAll, FailuresStayApart, ResolvesOneWay, SwitchesOneWay, TurnsHaveOneAnswer, TurnsHaveOtherAnswers, WithoutRefused};
 
 /// A switch to a branch has one result: it leads to one state, or it fails at one block, by one rule, and not both.
 pub fn switches_one_way()
@@ -28,4 +28,11 @@ pub fn failures_stay_apart()
 /// A turn has one result, whatever the command: from one state, with one frame, it has one answer and leads to one state.
 pub fn turns_have_one_answer()
     ensures { TurnsHaveOneAnswer }
+{}
+
+/// `NOMEM` is the answer to no turn, and a command that was answered so leaves no trace: the others of a run, asked alone where memory does not
+/// run out, have the same answers in the same order, and lead to the same state.
+pub fn without_refused()
+    ensures other { TurnsHaveOtherAnswers }
+    ensures rest { WithoutRefused }
 {}
