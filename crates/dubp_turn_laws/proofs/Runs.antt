@@ -1,8 +1,9 @@
--- What was answered NOMEM can be left out of a run.
-use Rattle.std.proofs.Common.{◌≡◌, ◌⊎◌, inl, inr, ℕ, true, false, not, cond, List, [], ◌∷◌, Some, None, map, sym, ap, subst}
+-- What was answered NOMEM can be left out of a run, and a run without it has one result.
+use Rattle.std.proofs.Common.{◌≡◌, ◌⊎◌, inl, inr, ℕ, true, false, not, cond, List, [], ◌∷◌, Some, None, map, refl, sym, ap, subst, ◌∙◌}
 use Rattle.dubp_replay.specs.Turns.{Asked, IsServed, Runs, State}
-use Rattle.dubp_turn_laws.specs.Laws.{IsServedInFull, WithoutRefused, is_no_memory, served}
+use Rattle.dubp_turn_laws.specs.Laws.{IsServedInFull, RunsHaveOneResult, WithoutRefused, is_no_memory, served}
 use Rattle.dubp_turn_laws.proofs.Memory.{other_turn}
+use Rattle.dubp_turn_laws.proofs.Turns.{one_turn}
 
 -- an answer is NOMEM and changes nothing, or it is another and that of a turn
 told : (old : State) (x : Asked) (answer : List ℕ) (new : State) → IsServed old x answer new
@@ -28,3 +29,20 @@ without_lacks old [] (answer ∷ answers) new r = absurd r
 without_lacks old (x ∷ asked) [] new r = absurd r
 without_lacks old (x ∷ asked) (answer ∷ answers) new r =
     one_more old x answer r.0 (served asked answers) new r.1 (without_lacks r.0 asked answers new r.2)
+
+-- ---- one result
+
+one_served : (old : State) (x : Asked) (a a' : List ℕ) (new new' : State) → IsServedInFull old x a new → IsServedInFull old x a' new' → (a ≡ a') × (new ≡ new')
+one_served old None a a' new new' p q = (p.0 ∙ sym q.0, p.1 ∙ sym q.1)
+one_served old (Some (c, frame)) a a' new new' p q = one_turn old c frame a a' new new' p q
+
+pub one_run : RunsHaveOneResult
+one_run old [] [] [] new new' p q = (refl, p ∙ sym q)
+one_run old [] [] (a' ∷ more') new new' p q = absurd q
+one_run old [] (a ∷ more) answers' new new' p q = absurd p
+one_run old (x ∷ asked) [] answers' new new' p q = absurd p
+one_run old (x ∷ asked) (a ∷ more) [] new new' p q = absurd q
+one_run old (x ∷ asked) (a ∷ more) (a' ∷ more') new new' p q =
+    let first = one_served old x a a' p.0 q.0 p.1 q.1 in
+    let rest = one_run p.0 asked more more' new new' p.2 (subst (λ m. Runs IsServedInFull m asked more' new') (sym first.1) q.2) in
+    ((λ i. first.0 i ∷ rest.0 i), rest.1)

@@ -77,3 +77,9 @@ abbrev pub WithoutRefused : Type 0
 WithoutRefused =
     (old : State) (asked : List Asked) (answers : List (List ℕ)) (new : State) → Runs IsServed old asked answers new
     → Runs IsServedInFull old (map (λ p. p.0) (served asked answers)) (map (λ p. p.1) (served asked answers)) new
+
+-- where memory does not run out, two runs of what was asked have the same answers and lead to one state
+abbrev pub RunsHaveOneResult : Type 0
+RunsHaveOneResult =
+    (old : State) (asked : List Asked) (answers answers' : List (List ℕ)) (new new' : State)
+    → Runs IsServedInFull old asked answers new → Runs IsServedInFull old asked answers' new' → (answers ≡ answers') × (new ≡ new')

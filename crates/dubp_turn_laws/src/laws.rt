@@ -1,4 +1,4 @@
-ghost use Rattle.dubp_turn_laws.specs.Laws.{FailedIsNotTried, FailingKeepsAll, FailuresStayApart, ResolvesOneWay, SwitchesOneWay, TurnsHaveOneAnswer, TurnsHaveOtherAnswers, WithoutRefused};
+ghost use Rattle.dubp_turn_laws.specs.Laws.{FailedIsNotTried, FailingKeepsAll, FailuresStayApart, ResolvesOneWay, RunsHaveOneResult, SwitchesOneWay, TurnsHaveOneAnswer, TurnsHaveOtherAnswers, WithoutRefused};
 
 /// A switch to a branch has one result: it leads to one state, or it fails at one block, by one rule, and not both.
 pub fn switches_one_way()
@@ -35,4 +35,10 @@ pub fn turns_have_one_answer()
 pub fn without_refused()
     ensures other { TurnsHaveOtherAnswers }
     ensures rest { WithoutRefused }
+{}
+
+/// Where memory does not run out, what was asked determines the answers and the state: two runs of it from one state have the same answers, in
+/// order, and lead to one state.
+pub fn runs_have_one_result()
+    ensures { RunsHaveOneResult }
 {}
