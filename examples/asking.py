@@ -3,6 +3,8 @@ import subprocess
 
 # a line that is no command is answered BAD, which nothing else here is: it tells where an answer or a row of answers begins and ends
 FENCE = b"FENCE\n"
+# the words of the commands whose lines head a frame
+FRAMED = (b"BLOCK ", b"OFFER ", b"PEND ")
 
 
 def commands_of(given):
@@ -10,8 +12,8 @@ def commands_of(given):
     at, found = 0, []
     while at < len(given):
         end = given.index(b"\n", at) + 1
-        if given.startswith((b"BLOCK ", b"OFFER "), at):
-            end += int(given[at + 6 : end]) + 1
+        if given.startswith(FRAMED, at):
+            end += int(given[at:end].split()[1]) + 1
         found.append(given[at:end])
         at = end
     return found

@@ -1,1 +1,2 @@
+pub mod OfReplay
 pub mod Tallies

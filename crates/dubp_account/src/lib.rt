@@ -16,4 +16,5 @@ mod conditions;
 mod tally;
 
 pub use blocks::add_block;
+pub use dubp_replay::{Kind, Move, move_laws};
 pub use tally::Tally;

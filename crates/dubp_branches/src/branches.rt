@@ -1,6 +1,7 @@
 ghost use Rattle.std.specs.Prelude.{◌≡◌, length, ◌≤◌, ◌<◌, ℕ, List, [], ◌∷◌, None, Some, OnOk, OnErr, slice_get};
 ghost use Rattle.std.specs.List.{list_any};
-ghost use Rattle.dubp_branches.specs.Acting.{BranchesActs};
+ghost use Rattle.dubp_atoms.specs.Spelling.{IsNumber};
+ghost use Rattle.dubp_branches.specs.Acting.{BranchesActs, Forges};
 ghost use Rattle.dubp_query.specs.AnswerBytes.{answer_bytes};
 ghost use Rattle.dubp_block.specs.Text.{IsBlock, block_text, stamp_of as block_stamp};
 ghost use Rattle.dubp_block.specs.declared.block.Block.{Block as BlockValue};
@@ -23,7 +24,7 @@ use dubp_block::{Block, ReadRefusal, read_block};
 use dubp_forks::{
     Ledger, OfferRefusal, PeopleAndMoney, Store, SubmitRefusal, SwitchRefusal, TooDeep,
 };
-use dubp_query::{Answer, CondText, Query, answer, statement_answer};
+use dubp_query::{Answer, CondText, Pool, Query, answer, forge_answer, statement_answer};
 use dubp_verdict::Verdicts;
 use std::alloc::Global;
 use std::marker::Model;
@@ -134,6 +135,17 @@ impl<T: PeopleAndMoney> Branches<T> {
         ensures { (frame : List ℕ) → BranchesActs self.now (StatementCommand cond.now) frame (answer_bytes result) self.now }
     {
         match statement_answer(self.alloc, &self.ledger, cond) {
+            Ok(answer) => answer,
+            Err(_) => no_memory(),
+        }
+    }
+
+    /// The answer to FORGE: the block that this key can issue at this time, of the documents that wait; nothing changes. The time is below 2^53.
+    pub fn forge(&self, pool: &Pool, key: Key, time: u64) -> Answer
+        requires { IsNumber time }
+        ensures { Forges self.now pool.now key time (answer_bytes result) }
+    {
+        match forge_answer(self.alloc, &self.ledger, pool, &self.verdicts, key, time) {
             Ok(answer) => answer,
             Err(_) => no_memory(),
         }

@@ -147,21 +147,21 @@ pub fn noted() -> Answer
     one(b"NOTED")
 }
 
-/// `FULL 1024`: as many blocks are stored as can be.
-fn full() -> Answer
+/// `FULL 1024`: as many blocks are stored as can be, or as many documents wait as may.
+pub fn full() -> Answer
     ensures { answer_bytes result ≡ full_answer }
 {
     one(b"FULL 1024")
 }
 
-/// `UNKNOWN`: no stored block has the stamp.
+/// `UNKNOWN`: no stored block has the stamp, or no document that waits the hash.
 pub fn unknown() -> Answer
     ensures { answer_bytes result ≡ unknown_answer }
 {
     one(b"UNKNOWN")
 }
 
-/// `FORGOTTEN`: the block is no longer stored.
+/// `FORGOTTEN`: the block is no longer stored, or the document waits no longer.
 pub fn forgotten() -> Answer
     ensures { answer_bytes result ≡ forgotten_answer }
 {

@@ -55,4 +55,4 @@ left_noted store fs f held stored =
 -- branches that are as before are no other state
 pub onward_same : (old : State) (b : Branches) → left_over old.store old.failures ≡ old.failures → b ≡ branches_of old → onward old b ≡ old
 onward_same old b held e =
-    ap (onward old) e ∙ (λ i. record { verdicts = old.verdicts; chain = old.chain; kept = old.kept; store = old.store; auto = old.auto; failures = held i })
+    ap (onward old) e ∙ (λ i. record { verdicts = old.verdicts; chain = old.chain; kept = old.kept; store = old.store; auto = old.auto; failures = held i; pool = old.pool })

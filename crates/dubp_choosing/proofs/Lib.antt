@@ -5,3 +5,4 @@ pub mod Turns
 pub mod Resolving
 pub mod Offering
 pub mod Seen
+pub mod Waiting

@@ -15,6 +15,9 @@ abbrev pub IsPlain : Command → Type 0
 IsPlain (command.Offer len) = ⊥
 IsPlain (command.Auto on) = ⊥
 IsPlain command.Failures = ⊥
+IsPlain (command.Pend len) = ⊥
+IsPlain (command.Unpend hash) = ⊥
+IsPlain (command.Forge key time) = ⊥
 IsPlain c = ⊤
 
 pub plain_turn : (old : State) (c : Command) (frame answer : List ℕ) (b : Branches) → IsPlain c → BranchesTurn (branches_of old) c frame answer b → Turn old c frame answer (onward old b)
@@ -27,6 +30,9 @@ plain_turn old (command.Forget stamp) frame answer b plain turn = (b, turn, refl
 plain_turn old (command.Statement cond) frame answer b plain turn = (b, turn, refl)
 plain_turn old (command.Auto on) frame answer b plain turn = absurd plain
 plain_turn old command.Failures frame answer b plain turn = absurd plain
+plain_turn old (command.Pend len) frame answer b plain turn = absurd plain
+plain_turn old (command.Unpend hash) frame answer b plain turn = absurd plain
+plain_turn old (command.Forge key time) frame answer b plain turn = absurd plain
 plain_turn old (command.Ask q) frame answer b plain turn = (b, turn, refl)
 
 -- or memory ran out
@@ -39,6 +45,6 @@ plain_acts old c frame answer b new plain held is (inr lack) = inr (lack.0, (lac
 pub held_same : (store after : List Block) (fs : List Failure) → left_over store fs ≡ fs → after ≡ store → left_over after fs ≡ fs
 held_same store after fs held e = subst (λ s. left_over s fs ≡ fs) (sym e) held
 
-pub onward_by : (b : Branches) (auto : Bool) (fs left : List Failure) (old : State) → left ≡ left_over b.store fs → old.auto ≡ auto → old.failures ≡ fs → state_with b auto left ≡ onward old b
+pub onward_by : (b : Branches) (auto : Bool) (fs left : List Failure) (old : State) → left ≡ left_over b.store fs → old.auto ≡ auto → old.failures ≡ fs → state_with old.pool b auto left ≡ onward old b
 onward_by b auto fs left old is a f =
-    ap (state_with b auto) (is ∙ ap (left_over b.store) (sym f)) ∙ ap (λ x. state_with b x (left_over b.store old.failures)) (sym a)
+    ap (state_with old.pool b auto) (is ∙ ap (left_over b.store) (sym f)) ∙ ap (λ x. state_with old.pool b x (left_over b.store old.failures)) (sym a)

@@ -1,18 +1,20 @@
--- The state that branches make together with what was chosen among them. Protocol: choice.
+-- The state that branches make together with what was chosen among them and the documents that wait. Protocol: choice.
 use Rattle.std.specs.Prelude.{◌≡◌, ◌+◌, Bool, true, List, [], ◌∷◌, map, reverse, take, Option, Some, None}
 use Rattle.std.specs.Option.{option_map}
 use Rattle.dubp_atoms.specs.declared.stamp.Stamp.{Stamp}
 use Rattle.dubp_block.specs.Text.{stamp_of}
 use Rattle.dubp_resolve.specs.Choice.{Choices, choice}
 use Rattle.dubp_replay.specs.declared.failure.Failure.{Failure}
+use Rattle.dubp_replay.specs.OfForging.{Doc}
 use Rattle.dubp_replay.specs.Turns.{Branches, State, choices_of}
 
-abbrev pub state_with : Branches → Bool → List Failure → State
-state_with b auto failures = record { verdicts = b.verdicts; chain = b.chain; kept = b.kept; store = b.store; auto = auto; failures = failures }
+abbrev pub state_with : List Doc → Branches → Bool → List Failure → State
+state_with pool b auto failures =
+    record { verdicts = b.verdicts; chain = b.chain; kept = b.kept; store = b.store; auto = auto; failures = failures; pool = pool }
 
--- while the node chooses by itself
+-- while the node chooses by itself; a choice looks at no document that waits
 abbrev pub choosing : Branches → List Failure → State
-choosing b failures = state_with b true failures
+choosing b failures = state_with [] b true failures
 
 -- this is the block to switch to
 abbrev pub IsTipOf : Branches → List Failure → Option Stamp → Type 0

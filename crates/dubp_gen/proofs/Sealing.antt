@@ -9,7 +9,7 @@ use Rattle.dubp_chain.specs.Heads.{difficulty}
 use Rattle.dubp_chain.specs.Members.{member}
 use Rattle.dubp_drafts.specs.Sealing.{IsSealed}
 use Rattle.dubp_drafts.specs.declared.sealed.Sealed.{Sealed}
-use Rattle.dubp_ledger.specs.Filled.{IsFilled}
+use Rattle.dubp_ledger.specs.OfForging.{IsFilled}
 use Rattle.dubp_gen.specs.declared.chain.GenRefusal.{GenRefusal}
 use Rattle.dubp_gen.specs.declared.chain.GenRefusal.TheVariants.{NoNonce}
 use Rattle.dubp_gen.specs.Generated.{HasNoNonce, HasNoSeal, IsToSeal, IssuerMay}

@@ -19,7 +19,7 @@ use Rattle.dubp_drafts.specs.Keys.{key_text}
 use Rattle.dubp_drafts.specs.Numbers.{number_after}
 use Rattle.dubp_drafts.specs.Drafting.{Given, draft_of, first_draft, first_given, given_of, payer}
 use Rattle.dubp_drafts.specs.Sealing.{sealed_with}
-use Rattle.dubp_ledger.specs.Filled.{IsFilled}
+use Rattle.dubp_ledger.specs.OfForging.{IsFilled}
 use Rattle.dubp_gen.specs.declared.chain.GenRefusal.{GenRefusal}
 use Rattle.dubp_gen.specs.declared.chain.GenRefusal.TheVariants.{NoNonce, Invalid, NoMemory}
 

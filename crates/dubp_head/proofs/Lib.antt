@@ -10,3 +10,4 @@ pub mod NextHeads
 pub mod Powers
 pub mod SameRules
 pub mod Sizes
+pub mod Stated

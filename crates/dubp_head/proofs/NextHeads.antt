@@ -1,5 +1,5 @@
 -- The next head behind a head that is there, its money and its limits, as the code computes them from the newest head.
-use Rattle.std.proofs.Common.{◌≡◌, ℕ, zero, suc, ◌+◌, ◌-◌, ◌/◌, ◌^◌, ◌<◌, ◌≤◌, List, [], ◌∷◌, map, take, Option, Some, None, length, slice_get, slice_index_or, refl, ap, subst, sym, ◌∙◌, inl, inr, ◌↔◌, IsTrue, nat_lt, ltb-true, lt-ltb, Result, Ok, Err, IfOk, arith}
+use Rattle.std.proofs.Common.{◌≡◌, ℕ, zero, suc, ◌+◌, ◌-◌, ◌/◌, ◌^◌, ◌<◌, ◌≤◌, List, [], ◌∷◌, map, take, Option, Some, None, length, slice_get, slice_index_or, refl, ap, subst, sym, ◌∙◌, inl, inr, ◌↔◌, IsTrue, nat_lt, ltb-true, lt-ltb, arith}
 use Rattle.std.specs.List.{AllByRecursion}
 use Rattle.std.specs.Option.{option_map_or}
 use Rattle.std.proofs.lemmas.List.{length-map, length-take}
@@ -12,7 +12,7 @@ use Rattle.dubp_pow.specs.Difficulty.{issuer_diff_of}
 use Rattle.dubp_block.specs.declared.block.Block.{Block}
 use Rattle.dubp_block.specs.Text.{block_hash_of, size_of}
 use Rattle.dubp_rules.specs.declared.rule.Rule.{Rule}
-use Rattle.dubp_rules.specs.First.{IsFirst, FirstOf}
+use Rattle.dubp_rules.specs.First.{FirstOf}
 use Rattle.dubp_rules.proofs.FirstLaws.{IsFirst_from_FirstOf}
 use Rattle.dubp_chain.specs.declared.head.Head.{Head}
 use Rattle.dubp_chain.specs.Heads.{newest, next_head, later_head, next_median_time, blocks_of, doubled_median, difficulty_behind, next_least_difficulty, last_issued, handicap_among}
@@ -185,8 +185,3 @@ pub small_enough : (hs : List Head) (h head : Head) (b : Block) (size bound : �
 small_enough [] h head b size bound e is is_bound = cc
 small_enough (g ∷ hs) h head b size bound e is is_bound =
     (λ less. rw (← is, ← is_bound) (ltb-true _ _ less), λ less. lt-ltb _ _ (omega (arith, less, is, is_bound)))
-
--- An answer that may fail.
-pub first_is : {R E : Type 0} (Holds : R → Type 0) (rules : List R) (answer : Result (Option R) E) → IfOk answer (FirstOf Holds rules) → IfOk answer (IsFirst Holds rules)
-first_is Holds rules (Ok first) f = IsFirst_from_FirstOf Holds rules first f
-first_is Holds rules (Err _) f = tt

@@ -58,3 +58,7 @@ HeaderHolds p hs head b rule = ⊤
 
 abbrev pub header_rules : List Rule
 header_rules = G50 ∷ G54 ∷ G55 ∷ G56 ∷ G57 ∷ G58 ∷ G59 ∷ G60 ∷ G61 ∷ G62 ∷ []
+
+-- those without the rule on the difficulty, which a block that is not signed yet cannot keep
+abbrev pub stated_rules : List Rule
+stated_rules = G50 ∷ G54 ∷ G55 ∷ G56 ∷ G57 ∷ G58 ∷ G59 ∷ G60 ∷ G61 ∷ []

@@ -31,4 +31,4 @@ pub use dubp_validity::Record;
 pub use frame::Frame;
 pub use heads::Heads;
 pub use refusal::{HeadRefusal, Passed};
-pub use rules::{head_rules, head_rules_over};
+pub use rules::{head_rules, head_rules_over, stated_rules_over};

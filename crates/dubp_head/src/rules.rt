@@ -1,5 +1,6 @@
 ghost use Rattle.std.specs.Prelude.{◌≡◌, ◌^◌, ◌<◌, ◌≤◌, ◌↔◌, IsTrue, IfOk, length, sum_by};
 ghost use Rattle.std.specs.List.{AllByRecursion};
+ghost use Rattle.dubp_params.specs.declared.params.Params.{Params as ParamsValue};
 ghost use Rattle.dubp_params.specs.Ranges.{IsInRange};
 ghost use Rattle.dubp_block.specs.Text.{block_hash_of, size_of};
 ghost use Rattle.dubp_pow.specs.Meeting.{Meets};
@@ -10,7 +11,7 @@ ghost use Rattle.dubp_head.specs.Bounds.{IsSmall};
 ghost use Rattle.dubp_head.specs.Frames.{frame_issuers};
 ghost use Rattle.dubp_head.specs.HeadsStates.{AreOver};
 ghost use Rattle.dubp_head.specs.Following.{AreHeads, MayFollow, KeepsLimits};
-ghost use Rattle.dubp_head.specs.NextHead.{HeaderHolds, header_rules, IsSmallEnough, difficulty_for};
+ghost use Rattle.dubp_head.specs.NextHead.{HeaderHolds, header_rules, stated_rules, IsSmallEnough, difficulty_for};
 
 use crate::difficulties::difficulty_over;
 use crate::frame::Frame;
@@ -64,27 +65,32 @@ pub fn head_rules_over(
     requires frame { frame.now ≡ frame_issuers heads.now.list }
     ensures { IfOk result (IsFirst (HeaderHolds params.now heads.now.list head.now block.now) header_rules) }
 {
-    first_broken(alloc, heads, frame, params, head, block)
+    match stated_rules_over(heads, head, block) {
+        Some(rule) => Ok(Some(rule)),
+        None => {
+            let meets = meets_difficulty(alloc, heads, frame, params, head, block)?;
+            if meets { Ok(None) } else { Ok(Some(Rule::G62)) }
+        }
+    }
 }
 
-fn first_broken(
-    alloc: Global,
-    heads: &Heads,
-    frame: &Frame,
-    params: &Params,
-    head: &Head,
-    block: &Block,
-) -> Result<Option<Rule>, NoMemory>
-    requires valid { IsInRange params.now }
-    requires over { AreOver heads.now params.now }
-    requires heads { AreHeads params.now heads.now.list }
-    requires frame { frame.now ≡ frame_issuers heads.now.list }
-    requires hash { head.now.hash ≡ block_hash_of block.now }
+/// The first of G50 and G54 to G61 that fails: all but the rule on the difficulty. `head` is the head of the block behind the heads,
+/// which are in order by some parameters. It takes no memory.
+pub fn stated_rules_over(heads: &Heads, head: &Head, block: &Block) -> Option<Rule>
+    requires heads { (p : ParamsValue) × (IsInRange p × AreHeads p heads.now.list) }
+    requires block { MayFollow head.now.members heads.now.list block.now }
+    ensures { (p : ParamsValue) → IsFirst (HeaderHolds p heads.now.list head.now block.now) stated_rules result }
+{
+    first_broken(heads, head, block)
+}
+
+fn first_broken(heads: &Heads, head: &Head, block: &Block) -> Option<Rule>
+    requires small { AllByRecursion IsSmall heads.now.list }
     requires size { size_of block.now < 2 ^ 53 }
     requires short { length heads.now.list ≤ 2 ^ 40 }
-    ensures { IfOk result (FirstOf (HeaderHolds params.now heads.now.list head.now block.now) header_rules) }
+    ensures { (p : ParamsValue) → FirstOf (HeaderHolds p heads.now.list head.now block.now) stated_rules result }
 {
-    Ok(first_of!(
+    first_of!(
         Rule::G50 => is_small_enough(heads, head, block),
         Rule::G54 => block.issuers == head.issuers,
         Rule::G55 => block.frame == head.frame,
@@ -94,8 +100,7 @@ fn first_broken(
         Rule::G59 => block.unit_base == head.unit_base as u64,
         Rule::G60 => block.members == head.members,
         Rule::G61 => block.pow_min == head.pow_min,
-        Rule::G62 => meets_difficulty(alloc, heads, frame, params, head, block)?,
-    ))
+    )
 }
 
 fn is_variation(head: &Head, block: &Block) -> bool

@@ -4,12 +4,14 @@ use Rattle.std.specs.List.{AllByRecursion, slice_get}
 use Rattle.std.proofs.lemmas.Option.{none-some}
 use Rattle.dubp_block.specs.declared.block.Block.{Block}
 use Rattle.dubp_rules.specs.declared.rule.Rule.{Rule}
-use Rattle.dubp_rules.specs.declared.rule.Rule.TheVariants.{X01, X06, L05, L07, L11, L24, G84, G72}
+use Rattle.dubp_rules.specs.declared.rule.Rule.TheVariants.{X01, L05, L07, L11, L24, G50, G62, G72, G84}
 use Rattle.dubp_rules.specs.Table.{table_rules, place_of, StandsBefore}
 use Rattle.dubp_chain.specs.Chains.{Chain}
 use Rattle.dubp_verdict.specs.Verdicts.{Verdicts}
 use Rattle.dubp_validity.specs.Rules.{Holds, KeepsUnsigned, reads_verdicts}
+use Rattle.dubp_kept.specs.OfLocal.{Asked}
 use Rattle.dubp_judge.specs.Parts.{early_rules, table_parts}
+use Rattle.dubp_judge.specs.Asking.{Asks}
 
 unsigned : (v : Verdicts) (c : Chain) (b : Block) (rule : Rule) → reads_verdicts rule ≡ false → Holds v c b rule → Holds [] c b rule
 unsigned v c b L05 reads h = absurd (true≢false reads)
@@ -35,9 +37,18 @@ first_of_two [] ys k r lt at = absurd (omega (arith, lt))
 first_of_two (x ∷ xs) ys zero r lt at = at
 first_of_two (x ∷ xs) ys (suc k) r lt at = first_of_two xs ys k r (omega (arith, lt)) at
 
-pub early_hold : (v : Verdicts) (c : Chain) (b : Block) → AllByRecursion (Holds v c b) early_rules → (rule : Rule) → reads_verdicts rule ≡ false → StandsBefore rule X06 → Holds [] c b rule
-early_hold v c b all rule reads early =
-    unsigned v c b rule reads (all_at (Holds v c b) early_rules (place_of rule) rule (first_of_two early_rules table_parts (place_of rule) rule early (stands rule)) all)
+-- what a rule up to X08 that reads no verdict says as it is asked
+as_asked : (asked : Asked) (v : Verdicts) (c : Chain) (b : Block) (rule : Rule) → reads_verdicts rule ≡ false → StandsBefore rule G50 → Asks asked v c b rule → Holds v c b rule
+as_asked asked v c b L05 reads early h = absurd (true≢false reads)
+as_asked asked v c b G62 reads early h = let places : 45 < 36 = early in absurd (omega (arith, places))
+as_asked asked v c b rule reads early h = h
+
+pub early_hold : (asked : Asked) (v : Verdicts) (c : Chain) (b : Block) → AllByRecursion (Asks asked v c b) early_rules → (rule : Rule) → reads_verdicts rule ≡ false → StandsBefore rule G50 → Holds [] c b rule
+early_hold asked v c b all rule reads early =
+    let soon : place_of rule < 36 = early in
+    let among : place_of rule < 46 = omega (arith, soon) in
+    let said = all_at (Asks asked v c b) early_rules (place_of rule) rule (first_of_two early_rules table_parts (place_of rule) rule among (stands rule)) all in
+    unsigned v c b rule reads (as_asked asked v c b rule reads early said)
 
 pub keeps_unsigned : (v : Verdicts) (c : Chain) (b : Block) → AllByRecursion (Holds v c b) (early_rules ++ table_parts) → KeepsUnsigned c b
 keeps_unsigned v c b all rule reads = unsigned v c b rule reads (all_at (Holds v c b) table_rules (place_of rule) rule (stands rule) all)

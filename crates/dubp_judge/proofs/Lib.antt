@@ -1,5 +1,7 @@
 pub mod Chains
 pub mod Sizes
 pub mod Orders
+pub mod Asking
 pub mod Early
+pub mod Joins
 pub mod Heads

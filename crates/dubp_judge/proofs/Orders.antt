@@ -73,7 +73,11 @@ module _ (Hold : Rule → Type 0) where
   pub parts_decide : (answer : Option Rule) → IsFirst Hold early_rules None → IsFirst Hold table_parts answer → IsFirst Hold (early_rules ++ table_parts) answer
   parts_decide answer e f = found_behind early_rules table_parts answer e f
 
--- of two lists whose rules all hold, those of the second do
+-- of two lists whose rules all hold, those of the first do, and those of the second
+pub all_front : (Hold : Rule → Type 0) (xs ys : List Rule) → AllByRecursion Hold (xs ++ ys) → AllByRecursion Hold xs
+all_front Hold [] ys all = tt
+all_front Hold (x ∷ xs) ys all = (all.0, all_front Hold xs ys all.1)
+
 pub all_behind : (Hold : Rule → Type 0) (xs ys : List Rule) → AllByRecursion Hold (xs ++ ys) → AllByRecursion Hold ys
 all_behind Hold [] ys all = all
 all_behind Hold (x ∷ xs) ys all = all_behind Hold xs ys all.1

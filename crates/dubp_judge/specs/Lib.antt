@@ -1,4 +1,5 @@
 pub mod Parts
+pub mod Asking
 pub mod Judged
 pub mod OfKept
 pub mod OfLocal

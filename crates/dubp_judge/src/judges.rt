@@ -30,8 +30,8 @@ pub trait Judges: Written {
         requires { IsBlock block.now }
         ensures { IfOk result (λ count. (c : Chain) → Self.at self.now c → IsSound c → count ≡ length (members (block.now ∷ c))) };
 
-    /// The first of the rules from `X06` on that the block breaks. The rules before them hold; the head and the parameters are those of the
-    /// chain with the block, and `hashes` those of its transactions, in order.
+    /// The first of the rules from `X06` on that the block breaks. Each rule up to `X08` that reads no verdict holds; the head and the
+    /// parameters are those of the chain with the block, and `hashes` those of its transactions, in order.
     fn first_broken(
         &self,
         alloc: Global,

@@ -5,14 +5,18 @@ ghost use Rattle.dubp_rules.specs.First.{FirstOf, IsFirst};
 ghost use Rattle.dubp_verdict.specs.Verdicts.{Verdicts as VerdictsValue};
 ghost use Rattle.dubp_chain.specs.Chains.{params as params_of};
 ghost use Rattle.dubp_validity.specs.Rules.{Holds, longest_block};
+ghost use Rattle.dubp_validity.specs.Drafts.{FirstBad};
 ghost use Rattle.dubp_head.specs.Following.{AreHeads, MayFollow, KeepsLimits, limit_rules};
 ghost use Rattle.dubp_head.specs.Frames.{frame_issuers};
+ghost use Rattle.dubp_head.specs.HeadsStates.{AreOver};
+ghost use Rattle.dubp_head.specs.NextHead.{HeaderHolds};
 ghost use Rattle.dubp_chain.specs.Members.{members};
 ghost use Rattle.dubp_chain.specs.Heads.{next_head};
 ghost use Rattle.dubp_kept.specs.KeptChain.{IsKnown, stated_params as stated};
 ghost use Rattle.dubp_kept.specs.OfLocal.{all_hashes};
 ghost use Rattle.dubp_judge.specs.Parts.{early_rules, link_rules, opening_rules, place_rules, table_parts};
-ghost use Rattle.dubp_judge.specs.Judged.{HeadFits, IsToJudge, Judged, Opened};
+ghost use Rattle.dubp_judge.specs.Asking.{Asks, asked_header};
+ghost use Rattle.dubp_judge.specs.Judged.{HeadFits, IsToJudge, Judged, JudgedAsked, Opened};
 
 use crate::checks::{
     currency_and_version_fit, first_of, issuer_is_member, number_is_next, previous_hash_is_right,
@@ -24,8 +28,8 @@ use dubp_atoms::{Items, NoMemory};
 use dubp_block::Block;
 use dubp_chain::Head;
 use dubp_docs::TxHashes;
-use dubp_head::{Frame, Heads, augment_over, head_rules_over};
-use dubp_kept::{Checked, Kept, Written, check_local_hashed};
+use dubp_head::{Frame, Heads, augment_over, head_rules_over, stated_rules_over};
+use dubp_kept::{Asked, Checked, Kept, Written, check_local_hashed};
 use dubp_params::Params;
 use dubp_rules::{Rule, first_of};
 use dubp_undo::Tables;
@@ -50,11 +54,41 @@ pub fn judge<T: Judges>(
         kept.blocks(),
         block,
         verdicts,
+        Asked::Signed,
     )?;
     Ok(judgement)
 }
 
-// The same, where the chain is that of these blocks.
+/// The first rule that the block, whose text has at most 1,048,576 bytes, breaks behind the chain, other than `L05` and `G62`, which a
+/// block keeps once it is signed; or None where it breaks none of the others.
+///
+/// `NoMemory` where there is no memory to check the block.
+pub fn trial<T: Judges>(
+    alloc: Global,
+    kept: &Kept<T>,
+    block: &Block,
+    verdicts: &Verdicts,
+) -> Result<Option<Rule>, NoMemory>
+    requires text { IsBlock block.now }
+    requires short { length (block_text block.now) ≤ longest_block }
+    ensures { IfOk result (FirstBad verdicts.now kept.now.chain block.now) }
+{
+    let judgement = judge_over(
+        alloc,
+        kept.tables(),
+        kept.heads(),
+        kept.blocks(),
+        block,
+        verdicts,
+        Asked::Unsigned,
+    )?;
+    match judgement {
+        Judgement::Breaks(rule) => Ok(Some(rule)),
+        Judgement::Keeps(_head, _params, _hashes) => Ok(None),
+    }
+}
+
+// What there is to say of the block behind the chain of these blocks, of the rules that it is asked.
 fn judge_over<T: Judges>(
     alloc: Global,
     tables: &T,
@@ -62,22 +96,23 @@ fn judge_over<T: Judges>(
     blocks: &[Block],
     block: &Block,
     verdicts: &Verdicts,
+    asked: Asked,
 ) -> Result<Judgement, NoMemory>
     requires at { T.at tables.now (reverse blocks.now) }
     requires known { IsKnown (reverse blocks.now) heads.now }
     requires text { IsBlock block.now }
     requires short { length (block_text block.now) ≤ longest_block }
-    ensures { IfOk result (Judged verdicts.now (reverse blocks.now) block.now) }
+    ensures { IfOk result (JudgedAsked asked verdicts.now (reverse blocks.now) block.now) }
 {
-    match first_opening(alloc, heads, blocks, block, verdicts)? {
+    match first_opening(alloc, heads, blocks, block, verdicts, asked)? {
         Checked::Breaks(rule) => Ok(Judgement::Breaks(rule)),
         Checked::Keeps(hashes) => {
-            judge_opened(alloc, tables, heads, blocks, block, hashes, verdicts)
+            judge_opened(alloc, tables, heads, blocks, block, hashes, verdicts, asked)
         }
     }
 }
 
-// What the rules behind `G51` say, where those up to it hold. `hashes` are those of the transactions of the block.
+// What the rules behind `G51` say, where those up to it that are asked hold. `hashes` are those of the transactions of the block.
 fn judge_opened<T: Judges>(
     alloc: Global,
     tables: &T,
@@ -86,21 +121,22 @@ fn judge_opened<T: Judges>(
     block: &Block,
     hashes: Items<TxHashes>,
     verdicts: &Verdicts,
+    asked: Asked,
 ) -> Result<Judgement, NoMemory>
     requires at { T.at tables.now (reverse blocks.now) }
     requires known { IsKnown (reverse blocks.now) heads.now }
     requires text { IsBlock block.now }
     requires short { length (block_text block.now) ≤ longest_block }
-    requires opening { IsFirst (Holds verdicts.now (reverse blocks.now) block.now) opening_rules None }
+    requires opening { IsFirst (Asks asked verdicts.now (reverse blocks.now) block.now) opening_rules None }
     requires hashes { hashes ≡ all_hashes block.now }
-    ensures { IfOk result (Judged verdicts.now (reverse blocks.now) block.now) }
+    ensures { IfOk result (JudgedAsked asked verdicts.now (reverse blocks.now) block.now) }
 {
     if let Some(rule) = first_of_place(tables, heads, blocks, block) {
         return Ok(Judgement::Breaks(rule));
     }
     let params = params_with(blocks, block).unwrap();
     judge_placed(
-        alloc, tables, heads, blocks, block, params, hashes, verdicts,
+        alloc, tables, heads, blocks, block, params, hashes, verdicts, asked,
     )
 }
 
@@ -128,12 +164,13 @@ fn first_opening(
     blocks: &[Block],
     block: &Block,
     verdicts: &Verdicts,
+    asked: Asked,
 ) -> Result<Checked, NoMemory>
     requires text { IsBlock block.now }
     requires known { IsKnown (reverse blocks.now) heads.now }
-    ensures { IfOk result (Opened verdicts.now (reverse blocks.now) block.now) }
+    ensures { IfOk result (Opened asked verdicts.now (reverse blocks.now) block.now) }
 {
-    match check_local_hashed(alloc, block, verdicts, stated_params(blocks))? {
+    match check_local_hashed(alloc, block, verdicts, stated_params(blocks), asked)? {
         Checked::Breaks(rule) => Ok(Checked::Breaks(rule)),
         Checked::Keeps(hashes) => {
             if number_is_next(blocks, block) {
@@ -188,16 +225,17 @@ fn judge_placed<T: Judges>(
     params: &Params,
     hashes: Items<TxHashes>,
     verdicts: &Verdicts,
+    asked: Asked,
 ) -> Result<Judgement, NoMemory>
     requires at { T.at tables.now (reverse blocks.now) }
     requires known { IsKnown (reverse blocks.now) heads.now }
     requires text { IsBlock block.now }
     requires short { length (block_text block.now) ≤ longest_block }
     requires params { Some params.now ≡ stated (block.now ∷ reverse blocks.now) }
-    requires opening { IsFirst (Holds verdicts.now (reverse blocks.now) block.now) opening_rules None }
+    requires opening { IsFirst (Asks asked verdicts.now (reverse blocks.now) block.now) opening_rules None }
     requires place { IsFirst (Holds verdicts.now (reverse blocks.now) block.now) place_rules None }
     requires hashes { hashes ≡ all_hashes block.now }
-    ensures { IfOk result (Judged verdicts.now (reverse blocks.now) block.now) }
+    ensures { IfOk result (JudgedAsked asked verdicts.now (reverse blocks.now) block.now) }
 {
     let frame = Frame::of(alloc, heads)?;
     let members = tables.members_with(alloc, block)?;
@@ -207,7 +245,7 @@ fn judge_placed<T: Judges>(
     match augment_over(heads, &frame, params, block, members) {
         Err(passed) => Ok(Judgement::Breaks(passed.rule)),
         Ok(head) => judge_headed(
-            alloc, tables, heads, &frame, blocks, block, params, &head, hashes, verdicts,
+            alloc, tables, heads, &frame, blocks, block, params, &head, hashes, verdicts, asked,
         ),
     }
 }
@@ -224,12 +262,13 @@ fn judge_headed<T: Judges>(
     head: &Head,
     hashes: Items<TxHashes>,
     verdicts: &Verdicts,
+    asked: Asked,
 ) -> Result<Judgement, NoMemory>
     requires at { T.at tables.now (reverse blocks.now) }
     requires known { IsKnown (reverse blocks.now) heads.now }
     requires text { IsBlock block.now }
     requires params { Some params.now ≡ stated (block.now ∷ reverse blocks.now) }
-    requires opening { IsFirst (Holds verdicts.now (reverse blocks.now) block.now) opening_rules None }
+    requires opening { IsFirst (Asks asked verdicts.now (reverse blocks.now) block.now) opening_rules None }
     requires place { IsFirst (Holds verdicts.now (reverse blocks.now) block.now) place_rules None }
     requires hashes { hashes ≡ all_hashes block.now }
     requires limits { IsFirst (Holds verdicts.now (reverse blocks.now) block.now) limit_rules None }
@@ -238,15 +277,42 @@ fn judge_headed<T: Judges>(
     requires follows { MayFollow head.now.members heads.now.list block.now }
     requires within { KeepsLimits params.now head.now.members heads.now.list block.now }
     requires head { head.now ≡ next_head params.now head.now.members heads.now.list block.now }
-    ensures { IfOk result (Judged verdicts.now (reverse blocks.now) block.now) }
+    ensures { IfOk result (JudgedAsked asked verdicts.now (reverse blocks.now) block.now) }
 {
-    match head_rules_over(alloc, heads, frame, params, head, block)? {
+    match first_of_header(alloc, heads, frame, params, head, block, asked)? {
         Some(rule) => Ok(Judgement::Breaks(rule)),
-        None => judge_tables(alloc, tables, blocks, block, params, head, hashes, verdicts),
+        None => judge_tables(
+            alloc, tables, blocks, block, params, head, hashes, verdicts, asked,
+        ),
     }
 }
 
-// What the rules on people and on money say, where all before them hold.
+// The first of the rules on the header that the block breaks, of those that it is asked.
+fn first_of_header(
+    alloc: Global,
+    heads: &Heads,
+    frame: &Frame,
+    params: &Params,
+    head: &Head,
+    block: &Block,
+    asked: Asked,
+) -> Result<Option<Rule>, NoMemory>
+    requires valid { IsInRange params.now }
+    requires over { AreOver heads.now params.now }
+    requires heads { AreHeads params.now heads.now.list }
+    requires block { MayFollow head.now.members heads.now.list block.now }
+    requires limits { KeepsLimits params.now head.now.members heads.now.list block.now }
+    requires head { head.now ≡ next_head params.now head.now.members heads.now.list block.now }
+    requires frame { frame.now ≡ frame_issuers heads.now.list }
+    ensures { IfOk result (IsFirst (HeaderHolds params.now heads.now.list head.now block.now) (asked_header asked)) }
+{
+    match asked {
+        Asked::Signed => head_rules_over(alloc, heads, frame, params, head, block),
+        Asked::Unsigned => Ok(stated_rules_over(heads, head, block)),
+    }
+}
+
+// What the rules on people and on money say, where those before them that are asked hold.
 fn judge_tables<T: Judges>(
     alloc: Global,
     tables: &T,
@@ -256,13 +322,14 @@ fn judge_tables<T: Judges>(
     head: &Head,
     hashes: Items<TxHashes>,
     verdicts: &Verdicts,
+    asked: Asked,
 ) -> Result<Judgement, NoMemory>
     requires at { T.at tables.now (reverse blocks.now) }
     requires to_judge { IsToJudge (reverse blocks.now) block.now head.now params.now }
-    requires early { IsFirst (Holds verdicts.now (reverse blocks.now) block.now) early_rules None }
+    requires early { IsFirst (Asks asked verdicts.now (reverse blocks.now) block.now) early_rules None }
     requires fits { HeadFits (reverse blocks.now) block.now head.now }
     requires hashes { hashes ≡ all_hashes block.now }
-    ensures { IfOk result (Judged verdicts.now (reverse blocks.now) block.now) }
+    ensures { IfOk result (JudgedAsked asked verdicts.now (reverse blocks.now) block.now) }
 {
     match tables.first_broken(alloc, block, head, params, hashes.as_slice(), verdicts)? {
         Some(rule) => Ok(Judgement::Breaks(rule)),

@@ -25,7 +25,7 @@ mod moves;
 mod switch;
 mod written;
 
-pub use dubp_local::{Checked, check_local, check_local_hashed};
+pub use dubp_local::{Asked, Checked, check_local, check_local_hashed};
 pub use held::Held;
 pub use kept::Kept;
 pub use left_behind::LeftBehind;

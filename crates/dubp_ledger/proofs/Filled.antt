@@ -18,7 +18,7 @@ use Rattle.dubp_head.specs.Laws.{head_with}
 use Rattle.dubp_people_views.specs.OfFacts.{First}
 use Rattle.dubp_people_views.specs.OfFacts.{first_at}
 use Rattle.dubp_rows.proofs.OfKept.{length_heads}
-use Rattle.dubp_ledger.specs.Filled.{IsBehind, IsFilled, States, StatesMoney}
+use Rattle.dubp_forging.specs.Filled.{IsBehind, IsFilled, States, StatesMoney}
 use Rattle.dubp_ledger.specs.Filling.{IsStated, hashed, placed, stating}
 
 -- a text that passes the test of a reader is read

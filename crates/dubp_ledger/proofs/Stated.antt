@@ -16,7 +16,7 @@ use Rattle.dubp_head.specs.NextHead.{PassesLimit, without_dividend}
 use Rattle.dubp_rows.specs.OfKept.{IsKnown, IsSteered}
 use Rattle.dubp_rows.proofs.OfKept.{length_heads}
 use Rattle.dubp_ledger.specs.Filling.{CanBeStated, IsStated}
-use Rattle.dubp_ledger.specs.Filled.{IsWithinLimits}
+use Rattle.dubp_forging.specs.Filled.{IsWithinLimits}
 use Rattle.dubp_ledger.proofs.Headers.{head_in_range, without_in_range}
 
 params_stay : (c : Chain) (b : Block) → 1 ≤ length c → params c ≡ params (b ∷ c)

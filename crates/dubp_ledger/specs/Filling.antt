@@ -11,7 +11,7 @@ use Rattle.dubp_chain.specs.Chains.{Chain, params}
 use Rattle.dubp_chain.specs.Heads.{heads_of}
 use Rattle.dubp_head.specs.Laws.{head_with, members_with}
 use Rattle.dubp_head.specs.NextHead.{without_dividend}
-use Rattle.dubp_ledger.specs.Filled.{IsWithinLimits, blank_sig}
+use Rattle.dubp_forging.specs.Filled.{IsWithinLimits, blank_sig}
 
 -- the draft as the block of this number behind the last head, with these exclusions, at time 0 and with an empty header
 abbrev pub placed : Text → ℕ → Head → List Text → Block → Block

@@ -1,7 +1,7 @@
 pub mod States
 pub mod Traces
 pub mod Written
-pub mod Filled
 pub mod Filling
+pub mod OfForging
 pub mod OfKept
 pub mod OfLocal

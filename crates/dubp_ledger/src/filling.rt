@@ -5,7 +5,7 @@ ghost use Rattle.dubp_block.specs.Text.{IsBlock, IsVersion, size_of};
 ghost use Rattle.dubp_chain.specs.Chains.{params as params_of};
 ghost use Rattle.dubp_chain.specs.Heads.{heads_of};
 ghost use Rattle.dubp_head.specs.Following.{MayFollow};
-ghost use Rattle.dubp_ledger.specs.Filled.{IsDraft, IsFilled, blank_sig};
+ghost use Rattle.dubp_forging.specs.Filled.{IsDraft, IsFilled, blank_sig};
 ghost use Rattle.dubp_ledger.specs.Filling.{CanBeStated, IsStated, hashed, placed, stating};
 
 use crate::ledger::Ledger;

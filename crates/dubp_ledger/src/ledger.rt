@@ -9,6 +9,7 @@ ghost use Rattle.dubp_rules.specs.First.{IsFirst};
 ghost use Rattle.dubp_rules.specs.declared.rule.Rule.TheVariants.{X01, P01};
 ghost use Rattle.dubp_validity.specs.Records.{records_at};
 ghost use Rattle.dubp_validity.specs.Rules.{FirstBroken, Holds, IsSound, longest_block};
+ghost use Rattle.dubp_validity.specs.Drafts.{FirstBad};
 ghost use Rattle.dubp_rows.specs.OfKept.{all_hashes, local_rules};
 ghost use Rattle.dubp_rows.specs.OfKept.{IsAsBefore, IsAsHeld, IsHeldBy, IsKnown, MayJoin, last_steps, most_kept, most_steps, steps_of_last, steps_of_out, without_last};
 ghost use Rattle.dubp_ledger.specs.States.{Accepted, HandedBack, IsTooDeep};
@@ -24,7 +25,7 @@ use dubp_chain::Head;
 use dubp_docs::TxHashes;
 use dubp_head::{Heads, difficulty};
 use dubp_params::Params;
-use dubp_people_and_money::{Judgement, Money, People, PeopleAndMoney, judge};
+use dubp_people_and_money::{Judgement, Money, People, PeopleAndMoney, judge, trial};
 use dubp_rows::{Held, Kept, check_local, put_records};
 use dubp_rules::Rule;
 use dubp_undo::Tables;
@@ -236,6 +237,18 @@ impl<T: PeopleAndMoney> Ledger<T> {
                 Ok(found)
             }
         }
+    }
+
+    /// The first rule other than `L05` and `G62`, the two that a block keeps once it is signed, that the block breaks on the chain; None where
+    /// it breaks none. Its text has at most 1,048,576 bytes. Nothing moves.
+    ///
+    /// `NoMemory` where there is no memory to check the block.
+    pub fn trial(&self, block: &Block, verdicts: &Verdicts) -> Result<Option<Rule>, NoMemory>
+        requires text { IsBlock block.now }
+        requires short { length (block_text block.now) ≤ longest_block }
+        ensures { IfOk result (FirstBad verdicts.now self.now.chain block.now) }
+    {
+        trial(self.alloc, &self.kept, block, verdicts)
     }
 
     /// Does nothing. Its clauses say that each block of the chain is one in range, whose text is no longer than blocks are read, and breaks no

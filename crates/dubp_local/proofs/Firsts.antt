@@ -1,51 +1,27 @@
 -- From what is found down the rules as they are read to the first local rule that a block breaks.
-use Rattle.std.proofs.Common.{◌≡◌, Bool, true, false, true≢false, not, cond, List, [], ◌∷◌, Option, Some, None, refl, sym, inl, inr}
-use Rattle.std.specs.Prelude.{filter}
+use Rattle.std.proofs.Common.{◌≡◌, ◌↔◌, true, false, true≢false, not, Option, Some, None, sym}
 use Rattle.dubp_params.specs.declared.params.Params.{Params}
 use Rattle.dubp_block.specs.declared.block.Block.{Block}
 use Rattle.dubp_rules.specs.declared.rule.Rule.{Rule}
 use Rattle.dubp_rules.specs.declared.rule.Rule.TheVariants.{L05}
-use Rattle.dubp_rules.specs.First.{FirstOf}
-use Rattle.dubp_rules.proofs.FirstLaws.{IsFirst_from_FirstOf}
+use Rattle.dubp_rules.proofs.FirstLaws.{FirstOf_same, IsFirst_from_FirstOf}
 use Rattle.dubp_verdict.specs.Verdicts.{Verdicts}
 use Rattle.dubp_validity.specs.OfChain.{Chain}
 use Rattle.dubp_validity.specs.Rules.{Holds}
+use Rattle.dubp_validity.proofs.Passed.{FirstOf_filter}
 use Rattle.dubp_local.specs.declared.check.Asked.{Asked}
 use Rattle.dubp_local.specs.declared.check.Asked.TheVariants.{Signed, Unsigned}
 use Rattle.dubp_local.specs.declared.check.Checked.{Checked}
 use Rattle.dubp_local.specs.declared.check.Checked.TheVariants.{Breaks, Keeps}
 use Rattle.dubp_local.specs.Local.{FirstLocal, local_rules, unsigned_rules, is_signature_rule}
-use Rattle.dubp_local.specs.Asking.{Asks, FirstAsked}
+use Rattle.dubp_local.specs.Asking.{Asks, FirstAsked, asked_rules}
 use Rattle.dubp_local.specs.Checking.{IsChecked, broken_rule}
 
-module _ {R : Type 0} {Asked' Held : R → Type 0} (kept : R → Bool) (same : (r : R) → kept r ≡ true → (Asked' r → Held r) × (Held r → Asked' r)) (passes : (r : R) → kept r ≡ false → Asked' r) where
-  -- where each rule that is left out passes, the first of the others is the first of all
-  FirstOf_filter : (rs : List R) (answer : Option R) → FirstOf Asked' rs answer → FirstOf Held (filter kept rs) answer
-  FirstOf_filter [] None f = tt
-  FirstOf_filter [] (Some q) f = absurd f
-  FirstOf_filter (r ∷ rs) None f =
-      let rest : FirstOf Held (filter kept rs) None = FirstOf_filter rs None f.1 in
-      elim (kept r) as (λ k. kept r ≡ k → FirstOf Held (cond k (r ∷ filter kept rs) (filter kept rs)) None) [
-        | true ↦ λ e. ((same r e).0 f.0, rest)
-        | false ↦ λ e. rest
-      ] refl
-  FirstOf_filter (r ∷ rs) (Some q) (inl here) =
-      elim (kept r) as (λ k. kept r ≡ k → FirstOf Held (cond k (r ∷ filter kept rs) (filter kept rs)) (Some q)) [
-        | true ↦ λ e. inl (here.0, λ held. here.1 ((same r e).1 held))
-        | false ↦ λ e. absurd (here.1 (passes r e))
-      ] refl
-  FirstOf_filter (r ∷ rs) (Some q) (inr later) =
-      let rest : FirstOf Held (filter kept rs) (Some q) = FirstOf_filter rs (Some q) later.1 in
-      elim (kept r) as (λ k. kept r ≡ k → FirstOf Held (cond k (r ∷ filter kept rs) (filter kept rs)) (Some q)) [
-        | true ↦ λ e. inr ((same r e).0 later.0, rest)
-        | false ↦ λ e. rest
-      ] refl
-
-signed_same : (v : Verdicts) (c : Chain) (b : Block) (r : Rule) → (Asks Signed v c b r → Holds v c b r) × (Holds v c b r → Asks Signed v c b r)
+signed_same : (v : Verdicts) (c : Chain) (b : Block) (r : Rule) → Asks Signed v c b r ↔ Holds v c b r
 signed_same v c b L05 = (λ h. h, λ h. h)
 signed_same v c b rule = (λ h. h, λ h. h)
 
-unsigned_same : (v : Verdicts) (c : Chain) (b : Block) (r : Rule) → not (is_signature_rule r) ≡ true → (Asks Unsigned v c b r → Holds v c b r) × (Holds v c b r → Asks Unsigned v c b r)
+unsigned_same : (v : Verdicts) (c : Chain) (b : Block) (r : Rule) → not (is_signature_rule r) ≡ true → Asks Unsigned v c b r ↔ Holds v c b r
 unsigned_same v c b L05 e = absurd (true≢false (sym e))
 unsigned_same v c b rule e = (λ h. h, λ h. h)
 
@@ -53,15 +29,19 @@ unsigned_passes : (v : Verdicts) (c : Chain) (b : Block) (r : Rule) → not (is_
 unsigned_passes v c b L05 e = tt
 unsigned_passes v c b rule e = absurd (true≢false e)
 
-pub first_local : (v : Verdicts) (p : Option Params) (b : Block) (answer : Option Rule) → FirstAsked local_rules Signed v p b answer → FirstLocal local_rules v p b answer
+first_local : (v : Verdicts) (p : Option Params) (b : Block) (answer : Option Rule) → FirstAsked local_rules Signed v p b answer → FirstLocal local_rules v p b answer
 first_local v p b answer f c params =
     IsFirst_from_FirstOf (Holds v c b) local_rules answer
-    (FirstOf_filter (λ _. true) (λ r e. signed_same v c b r) (λ r e. absurd (true≢false e)) local_rules answer (f c params))
+    (FirstOf_same (Asks Signed v c b) (Holds v c b) (λ r. (signed_same v c b r).0) (λ r. (signed_same v c b r).1) local_rules answer (f c params))
 
-pub first_unsigned : (v : Verdicts) (p : Option Params) (b : Block) (answer : Option Rule) → FirstAsked local_rules Unsigned v p b answer → FirstLocal unsigned_rules v p b answer
+first_unsigned : (v : Verdicts) (p : Option Params) (b : Block) (answer : Option Rule) → FirstAsked local_rules Unsigned v p b answer → FirstLocal unsigned_rules v p b answer
 first_unsigned v p b answer f c params =
     IsFirst_from_FirstOf (Holds v c b) unsigned_rules answer
     (FirstOf_filter (λ r. not (is_signature_rule r)) (unsigned_same v c b) (unsigned_passes v c b) local_rules answer (f c params))
+
+pub first_asked : (asked : Asked) (v : Verdicts) (p : Option Params) (b : Block) (answer : Option Rule) → FirstAsked local_rules asked v p b answer → FirstLocal (asked_rules asked) v p b answer
+first_asked Signed = first_local
+first_asked Unsigned = first_unsigned
 
 pub checked_same : (First More : Option Rule → Type 0) → ((answer : Option Rule) → First answer → More answer) → (b : Block) (checked : Checked) → IsChecked First b checked → IsChecked More b checked
 checked_same First More larger b (Breaks rule) f = larger (Some rule) f

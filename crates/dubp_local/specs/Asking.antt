@@ -11,7 +11,12 @@ use Rattle.dubp_validity.specs.LocalRules.{BlockIsSigned}
 use Rattle.dubp_validity.specs.Rules.{Holds}
 use Rattle.dubp_local.specs.declared.check.Asked.{Asked}
 use Rattle.dubp_local.specs.declared.check.Asked.TheVariants.{Signed, Unsigned}
-use Rattle.dubp_local.specs.Local.{AreParamsOf}
+use Rattle.dubp_local.specs.Local.{AreParamsOf, local_rules, unsigned_rules}
+
+-- the rules that are asked
+abbrev pub asked_rules : Asked → List Rule
+asked_rules Signed = local_rules
+asked_rules Unsigned = unsigned_rules
 
 abbrev pub rules_before_l24 : List Rule
 rules_before_l24 = X02 ∷ X07 ∷ L01 ∷ L02 ∷ L03 ∷ L04 ∷ L05 ∷ L06 ∷ L07 ∷ L08 ∷ L09 ∷ L10 ∷ L11 ∷ L12 ∷ L13 ∷ L14 ∷ L15 ∷ L16 ∷ L17 ∷ L18 ∷ L19 ∷ L20 ∷ L21 ∷ L22 ∷ L23 ∷ []

@@ -3,7 +3,7 @@ ghost use Rattle.std.specs.Prelude.{◌≡◌, ◌↔◌, IsTrue, IfOk, MatchOpt
 ghost use Rattle.dubp_block.specs.Text.{IsBlock};
 ghost use Rattle.dubp_params.specs.Ranges.{IsInRange};
 ghost use Rattle.dubp_local.specs.Local.{FirstLocal, local_rules, unsigned_rules, all_hashes};
-ghost use Rattle.dubp_local.specs.Asking.{FirstAsked, IsSignedWhereAsked, rules_before_l24};
+ghost use Rattle.dubp_local.specs.Asking.{FirstAsked, IsSignedWhereAsked, asked_rules, rules_before_l24};
 ghost use Rattle.dubp_local.specs.Checking.{IsChecked, broken_rule};
 
 use crate::numbers::{
@@ -52,10 +52,12 @@ impl Checked {
     }
 }
 
-/// Whether the signature of the block is asked for.
+/// Whether a block is asked for its signature.
 #[derive(Clone, Copy)]
-pub(crate) enum Asked {
+pub enum Asked {
+    /// It is signed, and each rule is asked.
     Signed,
+    /// It is not signed yet, and what it keeps only once it is signed is not asked.
     Unsigned,
 }
 
@@ -73,7 +75,7 @@ pub fn check_local(
     requires params { MatchOption params ⊤ (λ p. IsInRange p.now) }
     ensures { IfOk result (FirstLocal local_rules verdicts.now (option_copied params.entry) block.now) }
 {
-    let checked = check_local_hashed(alloc, block, verdicts, params)?;
+    let checked = check_local_hashed(alloc, block, verdicts, params, Asked::Signed)?;
     Ok(checked.broken())
 }
 
@@ -88,23 +90,24 @@ pub fn check_unsigned(
     requires params { MatchOption params ⊤ (λ p. IsInRange p.now) }
     ensures { IfOk result (FirstLocal unsigned_rules verdicts.now (option_copied params.entry) block.now) }
 {
-    let checked = check_asked(alloc, block, verdicts, params, Asked::Unsigned)?;
+    let checked = check_local_hashed(alloc, block, verdicts, params, Asked::Unsigned)?;
     Ok(checked.broken())
 }
 
-/// As `check_local`, and hands on the hashes of the transactions of a block that keeps the rules. They are made once, when
-/// rule `L24` is read.
+/// As `check_local` of a block that is signed, and as `check_unsigned` of one that is not; and hands on the hashes of the
+/// transactions of a block that keeps the rules. They are made once, when rule `L24` is read.
 pub fn check_local_hashed(
     alloc: Global,
     block: &Block,
     verdicts: &Verdicts,
     params: Option<&Params>,
+    asked: Asked,
 ) -> Result<Checked, NoMemory>
     requires block { IsBlock block.now }
     requires params { MatchOption params ⊤ (λ p. IsInRange p.now) }
-    ensures { IfOk result (IsChecked (FirstLocal local_rules verdicts.now (option_copied params.entry) block.now) block.now) }
+    ensures { IfOk result (IsChecked (FirstLocal (asked_rules asked) verdicts.now (option_copied params.entry) block.now) block.now) }
 {
-    let checked = check_asked(alloc, block, verdicts, params, Asked::Signed)?;
+    let checked = check_asked(alloc, block, verdicts, params, asked)?;
     Ok(checked)
 }
 

@@ -25,7 +25,7 @@ use std::alloc::Global;
 
 /// The first of the rules on money, in the order of the table, that the block breaks on the chain, or None where it keeps them all.
 ///
-/// The blocks of the chain are in range, and the block stands to be judged on it: it keeps each rule before `X06` that reads no
+/// The blocks of the chain are in range, and the block stands to be judged on it: it keeps each rule up to `X08` that reads no
 /// verdict. `head` is the head of the chain with the block, `next` its parameters and time, and `hashes` are those of the
 /// transactions of the block, in order. `NoMemory` where there is no room for the set of these hashes, or for a condition of the
 /// chain.

@@ -13,7 +13,7 @@ ghost use Rattle.std.specs.Prelude.{◌≡◌, []};
 ghost use Rattle.dubp_chain.specs.Chains.{Chain};
 
 use dubp_block::Block;
-pub use dubp_judge::{Judgement, Judges, judge};
+pub use dubp_judge::{Judgement, Judges, judge, trial};
 pub use dubp_money::Money;
 pub use dubp_registry::Registry as People;
 use dubp_undo::Tables;

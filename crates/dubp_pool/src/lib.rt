@@ -4,7 +4,7 @@
 //! that wait.
 //!
 //! ```text
-//! let mut pool = Pool::new(alloc);
+//! let mut pool = Pool::with_secret(alloc, secret);
 //! let hash = pool.add(text)?;
 //! pool.at(0);
 //! pool.remove(hash);

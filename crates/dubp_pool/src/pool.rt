@@ -4,7 +4,7 @@ ghost use Rattle.dubp_docs.specs.declared.doc.Doc.{Doc as DocValue};
 ghost use Rattle.dubp_pool.specs.Pools.{ArePending, Keeps, Pends, doc_hash, differs, is_pending, without};
 
 use crate::refusal::PendRefusal;
-use dubp_atoms::Hash;
+use dubp_atoms::{Hash, Secret};
 use dubp_docs::{Doc, read_doc};
 use indexmap::IndexMap;
 use std::alloc::Global;
@@ -19,7 +19,7 @@ pub const MOST_PENDING: usize = 1024;
 #[derive(Drop)]
 pub struct Pool {
     alloc: Global,
-    documents: IndexMap<Hash, Doc>,
+    documents: IndexMap<Hash, Doc, Secret>,
 }
 
 impl Model for Pool {
@@ -41,13 +41,21 @@ impl Model for Pool {
 }
 
 impl Pool {
-    /// No document waits. It takes no memory.
+    /// No document waits. It takes no memory. Who is let in to choose documents can make some that are slow to keep: `with_secret` is for them.
     pub fn new(alloc: Global) -> Pool
+        ensures { result ≡ [] }
+    {
+        Pool::with_secret(alloc, Secret::known())
+    }
+
+    /// No document waits. Those that come are kept by this secret: who does not know it makes none that are slower to keep than others. It takes no
+    /// memory.
+    pub fn with_secret(alloc: Global, secret: Secret) -> Pool
         ensures { result ≡ [] }
     {
         Pool {
             alloc,
-            documents: IndexMap::new(alloc),
+            documents: IndexMap::with_hasher(alloc, secret),
         }
     }
 

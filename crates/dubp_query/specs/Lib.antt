@@ -1,2 +1,3 @@
 pub mod AnswerBytes
 pub mod Asked
+pub mod Forged

@@ -15,6 +15,7 @@ use Rattle.dubp_block.specs.declared.block.Block.{Block}
 use Rattle.dubp_block.specs.declared.block.IdentityLine.{IdentityLine}
 use Rattle.dubp_block.specs.declared.block.CertLine.{CertLine}
 use Rattle.dubp_block.specs.Text.{block_text}
+use Rattle.dubp_rules.specs.declared.rule.Rule.{Rule}
 use Rattle.dubp_rules.specs.Table.{code_text}
 use Rattle.dubp_replay.specs.declared.failure.Failure.{Failure}
 use Rattle.dubp_replay.specs.declared.query.Query.{Query}
@@ -257,6 +258,27 @@ move_line m = values_line (codes "MOVE") (decimal m.number ∷ kind_text m.kind 
 -- the moves of the condition of this text
 abbrev pub statement_answer : Chain → Text → List ℕ
 statement_answer c cond = ended (map move_line (moves_of c cond))
+
+-- ---- documents that wait
+
+-- documents are told by the SHA-256 of their texts
+abbrev pub pending_answer : Text → List ℕ
+pending_answer hash = answer_line (codes "PENDING " ++ hash)
+
+abbrev pub known_document_answer : Text → List ℕ
+known_document_answer hash = answer_line (codes "KNOWN " ++ hash)
+
+-- the bytes are the text of no document
+abbrev pub no_document_answer : List ℕ
+no_document_answer = refused_answer (codes "D01")
+
+-- LEFT HASH RULE
+abbrev pub left_line : Text × Rule → List ℕ
+left_line l = values_line (codes "LEFT") (l.0 ∷ code_text l.1 ∷ [])
+
+-- the text of the block, and the documents that it leaves out
+abbrev pub forged_answer : Block → List (Text × Rule) → List ℕ
+forged_answer b left = block_text b ++ ended (map left_line left)
 
 -- what each query is answered
 abbrev pub IsAnswered : Chain → Query → List ℕ → Type 0

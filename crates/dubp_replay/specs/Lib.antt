@@ -1,3 +1,4 @@
 pub mod Answers
+pub mod OfForging
 pub mod OfMoves
 pub mod Turns

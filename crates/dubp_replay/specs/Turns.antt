@@ -2,12 +2,13 @@
 use Rattle.std.specs.Prelude.{◌≡◌, ◌⊎◌, ◌≤◌, ◌&&◌, ℕ, ◌+◌, ◌-◌, min, Bool, true, false, not, List, [], ◌∷◌, ◌++◌, length, map, filter, find, take, drop, reverse, position, Option, Some, None, option_map, is_some, nat_le, nat_lt, ⊤, MatchBool}
 use Rattle.std.specs.Option.{MatchOption}
 use Rattle.std.specs.List.{list_any, flat_map}
-use Rattle.dubp_atoms.specs.Same.{same_stamp}
+use Rattle.dubp_atoms.specs.Same.{Text, same_stamp}
+use Rattle.dubp_atoms.specs.Spelling.{IsNumber}
 use Rattle.dubp_atoms.specs.declared.stamp.Stamp.{Stamp}
 use Rattle.dubp_block.specs.declared.block.Block.{Block}
 use Rattle.dubp_block.specs.Text.{stamp_of}
 use Rattle.dubp_rules.specs.declared.rule.Rule.{Rule}
-use Rattle.dubp_rules.specs.declared.rule.Rule.TheVariants.{P01, G51}
+use Rattle.dubp_rules.specs.declared.rule.Rule.TheVariants.{X01, P01, G51}
 use Rattle.dubp_rules.specs.Table.{table_rules, code_text, place_of}
 use Rattle.dubp_rules.specs.First.{IsFirst}
 use Rattle.dubp_replay.specs.declared.command.Command.{Command}
@@ -16,13 +17,15 @@ use Rattle.dubp_replay.specs.declared.failure.Failure.{Failure}
 use Rattle.dubp_replay.specs.declared.query.Query.{Query}
 use Rattle.dubp_replay.specs.declared.query.Query.TheVariants as query
 use Rattle.dubp_chain.specs.Chains.{Chain}
+use Rattle.dubp_forging.specs.OfPool.{Doc, IsRead, doc_hash, is_pending, most_pending, without as without_document}
+use Rattle.dubp_forging.specs.Forged.{Forging, IsForged, IsTried}
 use Rattle.dubp_resolve.specs.declared.view.Offered.{Offered}
 use Rattle.dubp_resolve.specs.Choice.{Choices}
 use Rattle.dubp_resolve.specs.Resolve.{Line, Switched, Failed, Resolves}
 use Rattle.dubp_verdict.specs.Verdicts.{Verdicts, with_verdict}
 use Rattle.dubp_validity.specs.Rules.{FirstBroken, FirstBrokenRaw, HoldsRaw, IsTextOf, longest_block}
 use Rattle.dubp_block.specs.RefusedLine.{IsRefusedLine}
-use Rattle.dubp_replay.specs.Answers.{noted_answer, accepted_answer, refused_answer, unread_answer, reverted_answer, too_deep_answer, stored_answer, known_answer, full_answer, switched_answer, unknown_answer, detached_answer, branch_refused_answer, forgotten_answer, statement_answer, bad_answer, no_memory_answer, auto_on_answer, auto_off_answer, failed_line, failures_answer, IsAnswered}
+use Rattle.dubp_replay.specs.Answers.{noted_answer, accepted_answer, refused_answer, unread_answer, reverted_answer, too_deep_answer, stored_answer, known_answer, full_answer, switched_answer, unknown_answer, detached_answer, branch_refused_answer, forgotten_answer, statement_answer, bad_answer, no_memory_answer, auto_on_answer, auto_off_answer, failed_line, failures_answer, pending_answer, no_document_answer, known_document_answer, forged_answer, none_answer, IsAnswered}
 
 -- what blocks are judged by and stand in: the verdicts, the chain of accepted and unreversed blocks, how many of them can be
 -- reversed, and the stored blocks of branches in their order
@@ -199,6 +202,7 @@ ForgetTurn old stamp answer new =
 abbrev pub frame_of : Command → Option ℕ
 frame_of (command.Block len) = Some len
 frame_of (command.Offer len) = Some len
+frame_of (command.Pend len) = Some len
 frame_of other = None
 
 -- from these branches the command, with these raw bytes of its frame, may be answered so, and leads there
@@ -214,11 +218,15 @@ BranchesTurn old (command.Forget stamp) frame answer new = ForgetTurn old stamp 
 BranchesTurn old (command.Statement cond) frame answer new = Only (statement_answer old.chain cond.items) old answer new
 BranchesTurn old (command.Auto on) frame answer new = ⊥
 BranchesTurn old command.Failures frame answer new = ⊥
+BranchesTurn old (command.Pend len) frame answer new = ⊥
+BranchesTurn old (command.Unpend hash) frame answer new = ⊥
+BranchesTurn old (command.Forge key time) frame answer new = ⊥
 BranchesTurn old (command.Ask q) frame answer new = IsAnswered old.chain q answer × (new ≡ old)
 
 -- ---- the state, and the choice of a branch
 
--- what all answers depend on: the branches, whether the node chooses among them by itself, and where those that it chose failed
+-- what all answers depend on: the branches, whether the node chooses among them by itself, where those that it chose failed, and the
+-- documents that wait for a block
 pub record State : Type 0 where
   pub verdicts : Verdicts
   pub chain : Chain
@@ -226,9 +234,10 @@ pub record State : Type 0 where
   pub store : List Block
   pub auto : Bool
   pub failures : List Failure
+  pub pool : List Doc
 
 abbrev pub start : State
-start = record { verdicts = []; chain = []; kept = 0; store = []; auto = false; failures = [] }
+start = record { verdicts = []; chain = []; kept = 0; store = []; auto = false; failures = []; pool = [] }
 
 abbrev pub branches_of : State → Branches
 branches_of s = record { verdicts = s.verdicts; chain = s.chain; kept = s.kept; store = s.store }
@@ -239,7 +248,7 @@ left_over store failures = filter (λ f. list_any (is_stamped f.at) store) failu
 
 -- with these branches in place of those before
 abbrev pub onward : State → Branches → State
-onward old b = record { verdicts = b.verdicts; chain = b.chain; kept = b.kept; store = b.store; auto = old.auto; failures = left_over b.store old.failures }
+onward old b = record { verdicts = b.verdicts; chain = b.chain; kept = b.kept; store = b.store; auto = old.auto; failures = left_over b.store old.failures; pool = old.pool }
 
 abbrev pub offered : Block → Offered
 offered b = record { stamp = stamp_of b; previous = previous_stamp b }
@@ -295,6 +304,50 @@ pub record OfferGoesOn (old : State) (bytes answer : List ℕ) (new : State) : T
       (Chooses first (onward old branches) answer new)
       (Only first (onward old branches) answer new)
 
+-- ---- documents that wait
+
+-- the document goes to the end of those that wait, unless it waits already or as many wait as may
+abbrev pub PendsDoc : State → Doc → List ℕ → State → Type 0
+PendsDoc old d answer new =
+    MatchBool (is_pending old.pool (doc_hash d))
+    (Only (known_document_answer (doc_hash d)) old answer new)
+    (MatchBool (nat_le most_pending (length old.pool))
+    (Only full_answer old answer new)
+    ((answer ≡ pending_answer (doc_hash d)) × (new ≡ record old { pool = old.pool ++ d ∷ [] })))
+
+-- PEND: the bytes, where they are not too many, are the text of a document or of none
+abbrev pub PendTurn : State → List ℕ → List ℕ → State → Type 0
+PendTurn old bytes answer new =
+    MatchBool (nat_le (length bytes) longest_block)
+    (((d : Doc) × IsRead bytes d × PendsDoc old d answer new)
+    ⊎ (((d : Doc) → IsRead bytes d → ⊥) × Only no_document_answer old answer new))
+    (Only (refused_answer (code_text X01)) old answer new)
+
+-- UNPEND: the document whose text has this hash waits no longer
+abbrev pub UnpendTurn : State → Text → List ℕ → State → Type 0
+UnpendTurn old hash answer new =
+    MatchBool (is_pending old.pool hash)
+    ((answer ≡ forgotten_answer) × (new ≡ record old { pool = without_document hash old.pool }))
+    (Only unknown_answer old answer new)
+
+-- what this key would forge a block from at this time
+abbrev pub forging_of : State → Text → ℕ → Forging
+forging_of s key time = record { verdicts = s.verdicts; chain = s.chain; issuer = key; time = time; pool = s.pool }
+
+-- the forged block and what is left out; or the rule that the draft without documents breaks
+abbrev pub IsForgedAnswer : Forging → List ℕ → Type 0
+IsForgedAnswer f answer =
+    ((b : Block) × (left : List (Text × Rule)) × IsForged f b left × (answer ≡ forged_answer b left))
+    ⊎ ((rule : Rule) × IsTried f [] (Some rule) × (answer ≡ refused_answer (code_text rule)))
+
+-- FORGE: behind no block nothing is forged
+abbrev pub IsForgeAnswer : Forging → Chain → List ℕ → Type 0
+IsForgeAnswer f [] answer = answer ≡ none_answer
+IsForgeAnswer f (a ∷ c) answer = IsForgedAnswer f answer
+
+abbrev pub ForgeTurn : State → Text → ℕ → List ℕ → State → Type 0
+ForgeTurn old key time answer new = IsForgeAnswer (forging_of old key time) old.chain answer × (new ≡ old)
+
 -- ---- turns and runs
 
 -- from this state the command, with these raw bytes of its frame, may be answered so, and leads there
@@ -302,6 +355,9 @@ abbrev pub Turn : State → Command → List ℕ → List ℕ → State → Type
 Turn old (command.Offer len) frame answer new = OfferGoesOn old frame answer new
 Turn old (command.Auto on) frame answer new = AutoTurn old on answer new
 Turn old command.Failures frame answer new = Only (failures_answer old.failures) old answer new
+Turn old (command.Pend len) frame answer new = PendTurn old frame answer new
+Turn old (command.Unpend hash) frame answer new = UnpendTurn old hash answer new
+Turn old (command.Forge key time) frame answer new = ForgeTurn old key time answer new
 Turn old command frame answer new = (b : Branches) × BranchesTurn (branches_of old) command frame answer b × (new ≡ onward old b)
 
 -- the queries that take memory
@@ -324,7 +380,15 @@ TakesMemory (command.Forget stamp) = ⊥
 TakesMemory (command.Statement cond) = ⊤
 TakesMemory (command.Auto on) = on ≡ true
 TakesMemory command.Failures = ⊤
+TakesMemory (command.Pend len) = len ≤ longest_block
+TakesMemory (command.Unpend hash) = ⊥
+TakesMemory (command.Forge key time) = ⊤
 TakesMemory (command.Ask q) = AskingTakesMemory q
+
+-- the time of a block that is to be forged is a number, as each line of the command says it
+abbrev pub IsTimely : Command → Type 0
+IsTimely (command.Forge key time) = IsNumber time
+IsTimely command = ⊤
 
 -- the turn of the command, or NOMEM, which changes nothing
 abbrev pub TurnOrLack : State → Command → List ℕ → List ℕ → State → Type 0

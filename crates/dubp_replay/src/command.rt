@@ -23,6 +23,12 @@ pub enum Command {
     Auto { on: bool },
     /// `FAILED`: the branches that the node chose and that failed.
     Failures,
+    /// `PEND LEN`: a document that waits for a block. LEN raw bytes follow, and one byte more.
+    Pend { len: u64 },
+    /// `UNPEND HASH`: the document whose text has this SHA-256 waits no longer.
+    Unpend { hash: Hash },
+    /// `FORGE KEY TIME`: the block that this key can issue at this time, of the documents that wait.
+    Forge { key: Key, time: u64 },
     /// A query, which changes nothing.
     Ask(Query),
 }

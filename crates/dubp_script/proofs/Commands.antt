@@ -20,7 +20,7 @@ use Rattle.dubp_replay.specs.declared.query.Query.TheVariants as query
 use Rattle.dubp_replay.specs.declared.command.Command.{Command}
 use Rattle.dubp_replay.specs.declared.command.Command.TheVariants as command
 use Rattle.dubp_script.specs.Spelling.{IsCommand, IsQuery, IsCondText, command_text, query_text, Says}
-use Rattle.dubp_script.specs.Reading.{bare, verdict_of, change_of, choice_of, cond_text_if, statement_of, keyed_of, other_of, command_of}
+use Rattle.dubp_script.specs.Reading.{bare, verdict_of, change_of, choice_of, cond_text_if, forging_of, statement_of, pending_of, keyed_of, other_of, command_of}
 use Rattle.dubp_script.proofs.Tried.{or_some, map_some, behind, bare_found}
 
 -- whatever is read has this text and is in range
@@ -121,6 +121,34 @@ statement_tells : Tells IsCommand command_text statement_of
 unfolding statement_of
 statement_tells = cond_tells (codes "STATEMENT ") command.Statement (λ t is. is) (λ t. refl)
 
+forging_law : (text : List ℕ) (c : Command) → forging_of text ≡ Some c → IsCommand c × (codes "FORGE " ++ text ≡ command_text c)
+unfolding forging_of
+forging_law text c e =
+    let k = field_found SPACE (text_if is_key) text _ c e in
+    let t = bind_some (number_of k.rest) (λ time. Some (command.Forge k.value time)) c k.goes_on in
+    let key = text_found is_key k.front k.value k.reads in
+    let time = number_found k.rest t.0 t.1 in
+    let P : Command → Type 0 = λ d. IsCommand d × (codes "FORGE " ++ text ≡ command_text d) in
+    subst P (some_is (command.Forge k.value t.0) c t.2) (
+      (key.0, time.0),
+      ap (λ x. codes "FORGE " ++ x) (k.parts ∙ glue SPACE k.front k.rest k.value (decimal t.0) key.1 time.1),
+    )
+
+forging_tells : Tells IsCommand command_text (named (codes "FORGE ") forging_of)
+forging_tells = record {
+  tells = λ line c e.
+      let n = named_found (codes "FORGE ") forging_of line c e in
+      let f = forging_law n.0 c n.2 in
+      (f.0, n.1 ∙ f.1);
+}
+
+pending_tells : Tells IsCommand command_text pending_of
+unfolding pending_of
+pending_tells =
+    either_tells (number_tells (codes "PEND ") command.Pend (λ n is. is) (λ n. refl))
+    (either_tells (text_tells is_hash (codes "UNPEND ") command.Unpend (λ t is. is) (λ t. refl))
+    forging_tells)
+
 keyed_tells : Tells IsQuery query_text keyed_of
 unfolding keyed_of
 keyed_tells =
@@ -150,7 +178,7 @@ asks_tells {read = read} p = record {
 
 command_tells : Tells IsCommand command_text command_of
 unfolding command_of
-command_tells = either_tells change_tells (either_tells choice_tells (either_tells statement_tells (either_tells (asks_tells keyed_tells) (asks_tells other_tells))))
+command_tells = either_tells change_tells (either_tells choice_tells (either_tells statement_tells (either_tells pending_tells (either_tells (asks_tells keyed_tells) (asks_tells other_tells)))))
 
 pub command_says : (line : List ℕ) (c : Command) → command_of line ≡ Some c → Says line c
 command_says line c e = let f = command_tells.tells line c e in record { is = f.0; text = f.1 }
@@ -175,8 +203,14 @@ verdict_again key hash sig k h s =
     ∙ field_again SPACE (text_if is_hash) hash sig hash _ (hash_lacks hash h) (text_again is_hash hash h)
     ∙ rw (text_again is_sig sig s) refl
 
+forging_again : (key : List ℕ) (time : ℕ) → is_key key ≡ true → IsNumber time → forging_of (key ++ SPACE ∷ decimal time) ≡ Some (command.Forge key time)
+unfolding forging_of
+forging_again key time k t =
+    field_again SPACE (text_if is_key) key (decimal time) key _ (key_lacks key k) (text_again is_key key k)
+    ∙ rw (number_again time t) refl
+
 pub command_again : (c : Command) → IsCommand c → command_of (command_text c) ≡ Some c
-unfolding command_of change_of choice_of statement_of keyed_of other_of
+unfolding command_of change_of choice_of statement_of pending_of keyed_of other_of
 command_again (command.Verdict key hash sig) is = rw (verdict_again key hash sig is.0 is.1 is.2) refl
 command_again (command.Block len) is = rw (number_again len is) refl
 command_again (command.Revert count) is = rw (number_again count is) refl
@@ -187,6 +221,9 @@ command_again (command.Statement cond) is = rw (cond_text_again cond.items is) r
 command_again (command.Auto true) is = refl
 command_again (command.Auto false) is = refl
 command_again command.Failures is = refl
+command_again (command.Pend len) is = rw (number_again len is) refl
+command_again (command.Unpend hash) is = rw (text_again is_hash hash is) refl
+command_again (command.Forge key time) is = rw (forging_again key time is.0 is.1) refl
 command_again (command.Ask query.Head) is = refl
 command_again (command.Ask query.Money) is = refl
 command_again (command.Ask (query.Identity key)) is = rw (text_again is_key key is) refl

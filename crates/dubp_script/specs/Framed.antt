@@ -11,11 +11,16 @@ use Rattle.dubp_script.specs.declared.framed.Framed.TheVariants as framed
 abbrev pub framed_command : Framed → Command
 framed_command (framed.Block len) = command.Block len
 framed_command (framed.Offer len) = command.Offer len
+framed_command (framed.Pend len) = command.Pend len
 
 abbrev pub framed_len : Framed → ℕ
 framed_len (framed.Block len) = len
 framed_len (framed.Offer len) = len
+framed_len (framed.Pend len) = len
 
 -- what is read of a line
 unfoldable pub framed_of : List ℕ → Option Framed
-framed_of line = option_or (option_map framed.Block (named (codes "BLOCK ") number_of line)) (option_map framed.Offer (named (codes "OFFER ") number_of line))
+framed_of line =
+    option_or (option_map framed.Block (named (codes "BLOCK ") number_of line))
+    (option_or (option_map framed.Offer (named (codes "OFFER ") number_of line))
+    (option_map framed.Pend (named (codes "PEND ") number_of line)))

@@ -47,6 +47,18 @@ choice_of line =
 unfoldable pub statement_of : List ℕ → Option Command
 statement_of line = option_map command.Statement (named (codes "STATEMENT ") cond_text_if line)
 
+unfoldable pub forging_of : List ℕ → Option Command
+forging_of text =
+    field SPACE (text_if is_key) text (λ key rest.
+    number_of rest >>= (λ time. Some (command.Forge key time)))
+
+-- what is said of documents that wait
+unfoldable pub pending_of : List ℕ → Option Command
+pending_of line =
+    option_or (option_map command.Pend (named (codes "PEND ") number_of line))
+    (option_or (option_map command.Unpend (named (codes "UNPEND ") (text_if is_hash) line))
+    (named (codes "FORGE ") forging_of line))
+
 -- what is asked of a key or a name
 unfoldable pub keyed_of : List ℕ → Option Query
 keyed_of line =
@@ -70,4 +82,4 @@ abbrev pub query_of : List ℕ → Option Command
 query_of line = option_or (option_map command.Ask (keyed_of line)) (option_map command.Ask (other_of line))
 
 unfoldable pub command_of : List ℕ → Option Command
-command_of line = option_or (change_of line) (option_or (choice_of line) (option_or (statement_of line) (query_of line)))
+command_of line = option_or (change_of line) (option_or (choice_of line) (option_or (statement_of line) (option_or (pending_of line) (query_of line))))

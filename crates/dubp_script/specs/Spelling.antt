@@ -24,7 +24,7 @@ query_text (query.Diff key) = codes "DIFF " ++ key
 query_text (query.Records number) = codes "RECORDS " ++ decimal number
 query_text (query.Show number) = codes "SHOW " ++ decimal number
 
--- the line of a command; BLOCK and OFFER tell how many raw bytes follow
+-- the line of a command; BLOCK, OFFER and PEND tell how many raw bytes follow
 abbrev pub command_text : Command → List ℕ
 command_text (command.Verdict key hash sig) = codes "VERDICT " ++ (key ++ SPACE ∷ (hash ++ SPACE ∷ sig))
 command_text (command.Block len) = codes "BLOCK " ++ decimal len
@@ -36,6 +36,9 @@ command_text (command.Statement cond) = codes "STATEMENT " ++ cond.items
 command_text (command.Auto true) = codes "AUTO ON"
 command_text (command.Auto false) = codes "AUTO OFF"
 command_text command.Failures = codes "FAILED"
+command_text (command.Pend len) = codes "PEND " ++ decimal len
+command_text (command.Unpend hash) = codes "UNPEND " ++ hash
+command_text (command.Forge key time) = codes "FORGE " ++ (key ++ SPACE ∷ decimal time)
 command_text (command.Ask q) = query_text q
 
 -- the text of some condition
@@ -67,6 +70,9 @@ IsCommand (command.Forget stamp) = IsStamp stamp
 IsCommand (command.Statement cond) = IsCondText cond.items
 IsCommand (command.Auto on) = ⊤
 IsCommand command.Failures = ⊤
+IsCommand (command.Pend len) = IsNumber len
+IsCommand (command.Unpend hash) = is_hash hash ≡ true
+IsCommand (command.Forge key time) = (is_key key ≡ true) × IsNumber time
 IsCommand (command.Ask q) = IsQuery q
 
 -- the line is the spelling of this command

@@ -12,6 +12,7 @@ use dubp_replay::Command;
 pub enum Framed {
     Block { len: u64 },
     Offer { len: u64 },
+    Pend { len: u64 },
 }
 
 impl Framed {
@@ -22,6 +23,7 @@ impl Framed {
         match self {
             Framed::Block { len } => *len,
             Framed::Offer { len } => *len,
+            Framed::Pend { len } => *len,
         }
     }
 
@@ -33,6 +35,7 @@ impl Framed {
         match self {
             Framed::Block { len } => Command::Block { len: *len },
             Framed::Offer { len } => Command::Offer { len: *len },
+            Framed::Pend { len } => Command::Pend { len: *len },
         }
     }
 }
@@ -53,6 +56,9 @@ fn head_of(line: &[u8]) -> Option<Framed>
     if let Some(len) = number_behind(b"BLOCK ", line) {
         return Some(Framed::Block { len });
     }
-    let len = number_behind(b"OFFER ", line)?;
-    Some(Framed::Offer { len })
+    if let Some(len) = number_behind(b"OFFER ", line) {
+        return Some(Framed::Offer { len });
+    }
+    let len = number_behind(b"PEND ", line)?;
+    Some(Framed::Pend { len })
 }

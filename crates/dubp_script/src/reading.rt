@@ -1,12 +1,13 @@
 ghost use Rattle.std.specs.Prelude.{◌≡◌, IfSome, Some, option_map};
 ghost use Rattle.dubp_script.specs.Spelling.{IsCommand, command_text};
-ghost use Rattle.dubp_script.specs.Reading.{command_of, other_of, query_of};
+ghost use Rattle.std.specs.Option.{option_or};
+ghost use Rattle.dubp_script.specs.Reading.{command_of, other_of, pending_of, query_of};
 ghost use Rattle.dubp_replay.specs.declared.command.Command.{Command as CommandValue};
 ghost use Rattle.dubp_replay.specs.declared.command.Command.TheVariants.{Ask as AskCommand};
 
 use crate::words::{
-    SaidVerdict, cond_behind, filled, key_behind, number_behind, stamp_behind, uid_behind,
-    verdict_behind,
+    SaidForging, SaidVerdict, cond_behind, filled, forging_behind, hash_behind, key_behind,
+    number_behind, stamp_behind, uid_behind, verdict_behind,
 };
 use dubp_replay::{Command, Query};
 
@@ -53,6 +54,23 @@ fn command(line: &[u8]) -> Option<Command>
     if let Some(text) = cond_behind(b"STATEMENT ", line) {
         let cond = filled(text);
         return Some(Command::Statement { cond });
+    }
+    pending(line)
+}
+
+// What is said of documents that wait, or what is asked.
+#[tactic(auto, unfolding(crate::specs::Reading::pending_of))]
+fn pending(line: &[u8]) -> Option<Command>
+    ensures { result ≡ option_or (pending_of line.now) (query_of line.now) }
+{
+    if let Some(len) = number_behind(b"PEND ", line) {
+        return Some(Command::Pend { len });
+    }
+    if let Some(hash) = hash_behind(b"UNPEND ", line) {
+        return Some(Command::Unpend { hash });
+    }
+    if let Some(SaidForging { key, time }) = forging_behind(b"FORGE ", line) {
+        return Some(Command::Forge { key, time });
     }
     query(line)
 }

@@ -1,9 +1,9 @@
 ghost use Rattle.std.specs.Prelude.{◌≡◌, ◌≤◌, IfSome, length, option_map};
-ghost use Rattle.dubp_atoms.specs.Letters.{is_key, is_uid};
+ghost use Rattle.dubp_atoms.specs.Letters.{is_hash, is_key, is_uid};
 ghost use Rattle.dubp_atoms.specs.Reading.{number_of, stamp_of, text_if};
 ghost use Rattle.dubp_lines.specs.Taking.{named};
-ghost use Rattle.dubp_script.specs.Reading.{cond_text_if, verdict_of};
-ghost use Rattle.dubp_script.specs.Said.{kept_text, said};
+ghost use Rattle.dubp_script.specs.Reading.{cond_text_if, forging_of, verdict_of};
+ghost use Rattle.dubp_script.specs.Said.{kept_text, said, said_forging};
 
 use arrayvec::ArrayVec;
 use dubp_atoms::{Hash, Key, Sig, Stamp, Uid, cut, read_number};
@@ -28,6 +28,13 @@ pub fn key_behind(word: &[u8], line: &[u8]) -> Option<Key>
     ensures { result ≡ named word.now (text_if is_key) line.now }
 {
     Key::read(line.strip_prefix(word)?)
+}
+
+/// The hash behind this word.
+pub fn hash_behind(word: &[u8], line: &[u8]) -> Option<Hash>
+    ensures { result ≡ named word.now (text_if is_hash) line.now }
+{
+    Hash::read(line.strip_prefix(word)?)
 }
 
 /// The name behind this word.
@@ -91,4 +98,29 @@ pub fn verdict_behind(word: &[u8], line: &[u8]) -> Option<SaidVerdict>
     ensures { option_map said result ≡ named word.now verdict_of line.now }
 {
     read_verdict(line.strip_prefix(word)?)
+}
+
+/// Who forges a block and when, as a line says it.
+#[derive(Clone, Copy)]
+pub struct SaidForging {
+    pub key: Key,
+    pub time: u64,
+}
+
+/// What `FORGE ` and this text say.
+#[tactic(auto, unfolding(crate::specs::Reading::forging_of))]
+pub fn read_forging(text: &[u8]) -> Option<SaidForging>
+    ensures { option_map said_forging result ≡ forging_of text.now }
+{
+    let (key, rest) = cut(text, b' ')?;
+    let key = Key::read(key)?;
+    let time = read_number(rest)?;
+    Some(SaidForging { key, time })
+}
+
+/// What a line that begins with `FORGE ` says.
+pub fn forging_behind(word: &[u8], line: &[u8]) -> Option<SaidForging>
+    ensures { option_map said_forging result ≡ named word.now forging_of line.now }
+{
+    read_forging(line.strip_prefix(word)?)
 }

@@ -6,8 +6,9 @@ use Rattle.dubp_atoms.specs.Letters.{LF}
 use Rattle.dubp_validity.specs.Rules.{longest_block}
 use Rattle.dubp_replay.specs.Answers.{bad_answer, refused_answer}
 use Rattle.dubp_replay.specs.declared.command.Command.{Command}
-use Rattle.dubp_replay.specs.Turns.{State, IsServed, frame_of, left_over}
-use Rattle.dubp_script.specs.Spelling.{Says}
+use Rattle.dubp_replay.specs.declared.command.Command.TheVariants as command
+use Rattle.dubp_replay.specs.Turns.{State, IsServed, IsTimely, frame_of, left_over}
+use Rattle.dubp_script.specs.Spelling.{IsCommand, Says}
 use Rattle.dubp_script.specs.Framed.{framed_command}
 use Rattle.dubp_script.specs.declared.framed.Framed.{Framed}
 use Rattle.dubp_script.specs.declared.framed.Framed.TheVariants as framed
@@ -15,7 +16,18 @@ use Rattle.dubp_session.proofs.Wholes.{heads_framed}
 use Rattle.dubp_session.specs.Entries.{Line, Frame, IsWhole, IsBad, HeadsFrame, longest_line}
 use Rattle.dubp_turns.specs.Acting.{IsHanded, Acts}
 use Rattle.dubp_turns.proofs.Long.{long_block_turn, long_offer_turn}
+use Rattle.dubp_turns.proofs.Pending.{long_pend_turn}
 use Rattle.dubp_session.specs.Turns.{EntryServed}
+
+-- the time of a command that has a line is a number
+pub timely : (c : Command) → IsCommand c → IsTimely c
+timely (command.Forge key time) is = is.1
+timely c is = tt
+
+pub framed_timely : (f : Framed) → IsTimely (framed_command f)
+framed_timely (framed.Block len) = tt
+framed_timely (framed.Offer len) = tt
+framed_timely (framed.Pend len) = tt
 
 abbrev nothing : List ℕ
 nothing = []
@@ -57,6 +69,7 @@ frame_turn old new head frame answer last c ends says of acts = record {
 long_by : (old : State) → left_over old.store old.failures ≡ old.failures → (bytes answer : List ℕ) (f : Framed) → longest_block < length bytes → answer ≡ refused_answer (codes "X01") → IsServed old (Some (framed_command f, bytes)) answer old
 long_by old held bytes answer (framed.Block len) long is = long_block_turn old held len bytes answer long is
 long_by old held bytes answer (framed.Offer len) long is = long_offer_turn old held len bytes answer long is
+long_by old held bytes answer (framed.Pend len) long is = long_pend_turn old len bytes answer long is
 
 pub long_frame_turn : (old : State) → left_over old.store old.failures ≡ old.failures → (head frame answer : List ℕ) (last : ℕ) → last ≡ LF → HeadsFrame head (length frame) → longest_block < length frame → answer ≡ refused_answer (codes "X01") → EntryServed old (Frame head frame last) answer old
 long_frame_turn old held head frame answer last ends h long is =

@@ -60,6 +60,7 @@ whole_frame head payload last t f = (t, len_heads head (length payload) f)
 framed_is : (f : Framed) → frame_of (framed_command f) ≡ Some (framed_len f)
 framed_is (framed.Block len) = refl
 framed_is (framed.Offer len) = refl
+framed_is (framed.Pend len) = refl
 
 pub framed_heads : (line : List ℕ) (f : Framed) → Says line (framed_command f) → HeadsFrame line (framed_len f)
 framed_heads line f says = record { command = framed_command f; says = says; frame_is = framed_is f }
@@ -71,6 +72,7 @@ heads_framed line len h = framed_by h.command h.says h.frame_is
     framed_by : (c : Command) → Says line c → frame_of c ≡ Some len → (f : Framed) × Says line (framed_command f) × (framed_len f ≡ len)
     framed_by (command.Block n) says e = (framed.Block n, says, let same : n ≡ len = cc in same)
     framed_by (command.Offer n) says e = (framed.Offer n, says, let same : n ≡ len = cc in same)
+    framed_by (command.Pend n) says e = (framed.Pend n, says, let same : n ≡ len = cc in same)
     framed_by (command.Verdict key hash sig) says e = absurd cc
     framed_by (command.Revert count) says e = absurd cc
     framed_by (command.Switch stamp) says e = absurd cc
@@ -78,6 +80,8 @@ heads_framed line len h = framed_by h.command h.says h.frame_is
     framed_by (command.Statement cond) says e = absurd cc
     framed_by (command.Auto on) says e = absurd cc
     framed_by command.Failures says e = absurd cc
+    framed_by (command.Unpend hash) says e = absurd cc
+    framed_by (command.Forge key time) says e = absurd cc
     framed_by (command.Ask q) says e = absurd cc
 
 -- what is read of a line tells whether it heads a frame
@@ -91,6 +95,8 @@ short_by line (framed.Block len) says =
     omega (arith, ap length says.text, length-append (codes "BLOCK ") (decimal len), length-decimal-le 16 len (omega arith) (omega (arith, says.is)) (omega (arith, says.is)))
 short_by line (framed.Offer len) says =
     omega (arith, ap length says.text, length-append (codes "OFFER ") (decimal len), length-decimal-le 16 len (omega arith) (omega (arith, says.is)) (omega (arith, says.is)))
+short_by line (framed.Pend len) says =
+    omega (arith, ap length says.text, length-append (codes "PEND ") (decimal len), length-decimal-le 16 len (omega arith) (omega (arith, says.is)) (omega (arith, says.is)))
 
 pub framed_short : (line : List ℕ) (f : Framed) → Says line (framed_command f) → length line ≤ 22
 framed_short line f says = short_by line f says

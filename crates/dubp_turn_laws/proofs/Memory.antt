@@ -1,5 +1,5 @@
 -- No turn has the answer that says that memory ran out.
-use Rattle.std.proofs.Common.{◌≡◌, ◌++◌, ◌&&◌, ◌-◌, ◌+◌, ◌*◌, ◌^◌, ℕ, Bool, true, false, List, [], ◌∷◌, Option, Some, None, map, codes, length, is_some, if◌then◌else◌, nat_le, nat_lt, refl, sym, subst, append_assoc, append-nil, inl, inr, MatchBool}
+use Rattle.std.proofs.Common.{◌≡◌, ◌++◌, ◌&&◌, ◌-◌, ◌+◌, ◌*◌, ◌^◌, ℕ, Bool, true, false, List, [], ◌∷◌, Option, Some, None, map, codes, length, is_some, if◌then◌else◌, nat_le, nat_lt, refl, sym, subst, append_assoc, append-nil, ◌⊎◌, inl, inr, MatchBool}
 use Rattle.std.specs.Option.{MatchOption, option_map_or}
 use Rattle.dubp_atoms.specs.Same.{Text}
 use Rattle.dubp_atoms.specs.declared.stamp.Stamp.{Stamp}
@@ -7,13 +7,15 @@ use Rattle.dubp_block.specs.declared.block.Block.{Block}
 use Rattle.dubp_block.specs.declared.block.IdentityLine.{IdentityLine}
 use Rattle.dubp_block.specs.Text.{block_text, stamp_of}
 use Rattle.dubp_rules.specs.declared.rule.Rule.{Rule}
-use Rattle.dubp_rules.specs.declared.rule.Rule.TheVariants.{P01}
+use Rattle.dubp_rules.specs.declared.rule.Rule.TheVariants.{P01, X01}
+use Rattle.dubp_rules.specs.Table.{code_text}
 use Rattle.dubp_chain.specs.Chains.{Chain, params}
 use Rattle.dubp_chain.specs.Distance.{sentry_count}
 use Rattle.dubp_chain.specs.Heads.{difficulty, head_of}
 use Rattle.dubp_chain.specs.Members.{member}
 use Rattle.dubp_chain.specs.People.{Written, identity}
 use Rattle.dubp_chain.specs.declared.head.Head.{Head}
+use Rattle.dubp_validity.specs.Rules.{longest_block}
 use Rattle.dubp_validity.specs.declared.record.Record.{Record}
 use Rattle.dubp_validity.specs.declared.record.Record.TheVariants.{Create}
 use Rattle.dubp_validity.specs.Records.{record_text, records_at}
@@ -22,7 +24,8 @@ use Rattle.dubp_replay.specs.declared.command.Command.{Command}
 use Rattle.dubp_replay.specs.declared.command.Command.TheVariants as command
 use Rattle.dubp_replay.specs.declared.query.Query.{Query}
 use Rattle.dubp_replay.specs.declared.query.Query.TheVariants as query
-use Rattle.dubp_replay.specs.Turns.{AutoTurn, Branches, BranchesTurn, Chooses, Detaches, GoesAlong, OfferGoesOn, OfferTurn, RefusedBy, State, Stores, SwitchesBy, TriesPath, blocks_behind, branches_of, is_known, most_stored, onward, stored}
+use Rattle.dubp_replay.specs.OfForging.{Doc, Forging, IsRead, doc_hash, is_pending, most_pending}
+use Rattle.dubp_replay.specs.Turns.{AutoTurn, Branches, BranchesTurn, Chooses, Detaches, GoesAlong, IsForgeAnswer, IsForgedAnswer, OfferGoesOn, OfferTurn, Only, PendTurn, PendsDoc, RefusedBy, State, Stores, SwitchesBy, TriesPath, UnpendTurn, blocks_behind, branches_of, forging_of, is_known, most_stored, onward, stored}
 use Rattle.dubp_turn_laws.specs.Laws.{TurnsHaveOtherAnswers, is_no_memory}
 use Rattle.dubp_turn_laws.proofs.Queries.{near_or_far}
 
@@ -171,6 +174,9 @@ other_branches old (command.Statement cond) frame answer new p =
     other_is answer (answers.statement_answer old.chain cond.items) p.0 (other_ended answers.move_line _ (λ m rest. refl))
 other_branches old (command.Auto on) frame answer new p = absurd p
 other_branches old command.Failures frame answer new p = absurd p
+other_branches old (command.Pend len) frame answer new p = absurd p
+other_branches old (command.Unpend hash) frame answer new p = absurd p
+other_branches old (command.Forge key time) frame answer new p = absurd p
 other_branches old (command.Ask q) frame answer new p = other_reply old.chain q answer p.0
 
 -- ---- and where the node chooses
@@ -188,9 +194,51 @@ other_auto : (old : State) (on : Bool) (answer : List ℕ) (new : State) → Aut
 other_auto old true answer new p = other_choice answers.auto_on_answer (record old { auto = true }) answer new (λ rest. refl) p
 other_auto old false answer new p = other_is answer answers.auto_off_answer p.0 refl
 
+-- ---- documents that wait
+
+other_pending : (old : State) (d : Doc) (answer : List ℕ) (new : State) → PendsDoc old d answer new → IsOther answer
+other_pending old d answer new =
+    by_test (is_pending old.pool (doc_hash d)) _ _ (λ h. other_is answer (answers.known_document_answer (doc_hash d)) h.0 refl)
+    (by_test (nat_le most_pending (length old.pool)) _ _ (λ h. other_is answer answers.full_answer h.0 refl)
+    (λ h. other_is answer (answers.pending_answer (doc_hash d)) h.0 refl))
+
+abbrev IsPended : State → List ℕ → List ℕ → State → Type 0
+IsPended old bytes answer new =
+    ((d : Doc) × IsRead bytes d × PendsDoc old d answer new)
+    ⊎ (((d : Doc) → IsRead bytes d → ⊥) × Only answers.no_document_answer old answer new)
+
+other_pended : (old : State) (bytes answer : List ℕ) (new : State) → IsPended old bytes answer new → IsOther answer
+other_pended old bytes answer new (inl p) = other_pending old p.0 answer new p.2
+other_pended old bytes answer new (inr p) = other_is answer answers.no_document_answer p.1.0 refl
+
+other_pend : (old : State) (bytes answer : List ℕ) (new : State) → PendTurn old bytes answer new → IsOther answer
+other_pend old bytes answer new =
+    by_test (nat_le (length bytes) longest_block) _ _ (other_pended old bytes answer new)
+    (λ h. other_is answer (answers.refused_answer (code_text X01)) h.0 refl)
+
+other_unpend : (old : State) (hash : Text) (answer : List ℕ) (new : State) → UnpendTurn old hash answer new → IsOther answer
+other_unpend old hash answer new =
+    by_test (is_pending old.pool hash) _ _ (λ h. other_is answer answers.forgotten_answer h.0 refl)
+    (λ h. other_is answer answers.unknown_answer h.0 refl)
+
+block_begins : (b : Block) → BeginsOther (block_text b)
+unfolding block_text
+block_begins b rest = refl
+
+other_forged : (f : Forging) (answer : List ℕ) → IsForgedAnswer f answer → IsOther answer
+other_forged f answer (inl p) = other_is answer (answers.forged_answer p.0 p.1) p.3 (block_begins p.0 _)
+other_forged f answer (inr p) = other_is answer (answers.refused_answer (code_text p.0)) p.2 refl
+
+other_forge : (f : Forging) (c : Chain) (answer : List ℕ) → IsForgeAnswer f c answer → IsOther answer
+other_forge f [] answer p = other_is answer answers.none_answer p refl
+other_forge f (b ∷ c) answer p = other_forged f answer p
+
 pub other_turn : TurnsHaveOtherAnswers
 other_turn old (command.Offer len) frame answer new p = other_offer old frame answer new p
 other_turn old (command.Auto on) frame answer new p = other_auto old on answer new p
 other_turn old command.Failures frame answer new p =
     other_is answer (answers.failures_answer old.failures) p.0 (other_ended answers.failed_line old.failures (λ f rest. refl))
+other_turn old (command.Pend len) frame answer new p = other_pend old frame answer new p
+other_turn old (command.Unpend hash) frame answer new p = other_unpend old hash answer new p
+other_turn old (command.Forge key time) frame answer new p = other_forge (forging_of old key time) old.chain answer p.0
 other_turn old c frame answer new p = other_branches (branches_of old) c frame answer p.0 p.1

@@ -1,17 +1,6 @@
--- Bytes are the text of one block at most, and where they are none, one line is refused.
+-- Where bytes are the text of no block, one line is refused.
 use Rattle.std.proofs.Common.{◌≡◌, ◌<◌, ◌+◌, ℕ, List, ◌++◌, take, drop, sym, ap, subst, ◌∙◌, inl, inr, append_assoc, take-append-drop, take-take, arith}
 use Rattle.dubp_block.specs.RefusedLine.{BeginBlock, IsRefusedLine}
-use Rattle.dubp_block.specs.Text.{block_text}
-use Rattle.dubp_block.specs.declared.block.Block.{Block}
-use Rattle.dubp_block.proofs.Whole.{same_read, text_again}
-use Rattle.dubp_validity.specs.Rules.{IsTextOf}
-
-pub one_block : (bytes : List ℕ) (b d : Block) → IsTextOf bytes b → IsTextOf bytes d → b ≡ d
-one_block bytes b d p q =
-    let same : block_text b ≡ block_text d = sym p.text ∙ q.text in
-    same_read b d _ (text_again b p.is) (rw same (text_again d q.is))
-
--- ---- the refused line
 
 begin_before : (n : ℕ) (lines : List (List ℕ)) → BeginBlock lines → BeginBlock (take n lines)
 begin_before n lines x = record {

@@ -1,28 +1,33 @@
 -- A turn of a command has one answer, and leads to one state.
-use Rattle.std.proofs.Common.{◌≡◌, ◌+◌, ◌-◌, ◌++◌, ◌&&◌, ℕ, Bool, true, false, List, [], ◌∷◌, Option, Some, None, drop, length, is_some, nat_le, nat_lt, sym, ap, subst, ◌∙◌, inl, inr, MatchBool}
+use Rattle.std.proofs.Common.{◌≡◌, ◌+◌, ◌-◌, ◌++◌, ◌&&◌, ℕ, Bool, true, false, List, [], ◌∷◌, Option, Some, None, drop, length, is_some, nat_le, nat_lt, sym, ap, subst, ◌∙◌, ◌⊎◌, inl, inr, MatchBool}
 use Rattle.std.specs.List.{flat_map}
 use Rattle.std.specs.Option.{MatchOption}
+use Rattle.dubp_atoms.specs.Same.{Text}
 use Rattle.dubp_atoms.specs.declared.stamp.Stamp.{Stamp}
 use Rattle.dubp_block.specs.declared.block.Block.{Block}
 use Rattle.dubp_block.specs.Text.{stamp_of}
 use Rattle.dubp_rules.specs.declared.rule.Rule.{Rule}
-use Rattle.dubp_rules.specs.declared.rule.Rule.TheVariants.{P01}
+use Rattle.dubp_rules.specs.declared.rule.Rule.TheVariants.{P01, X01}
 use Rattle.dubp_rules.specs.First.{IsFirst}
 use Rattle.dubp_rules.specs.Table.{code_text, table_rules}
 use Rattle.dubp_rules.proofs.FirstLaws.{FirstOf_determined, FirstOf_from_IsFirst}
 use Rattle.dubp_verdict.specs.Verdicts.{Verdicts}
 use Rattle.dubp_chain.specs.Chains.{Chain}
-use Rattle.dubp_validity.specs.Rules.{HoldsRaw}
+use Rattle.dubp_validity.specs.Rules.{HoldsRaw, longest_block}
+use Rattle.dubp_forging_laws.proofs.Forging.{one_forging}
+use Rattle.dubp_forging_laws.proofs.Texts.{one_block, one_document}
+use Rattle.dubp_forging_laws.proofs.Tried.{one_trial}
 use Rattle.dubp_resolve.proofs.Resolving.{determined}
-use Rattle.dubp_replay.specs.Answers.{accepted_answer, auto_on_answer, branch_refused_answer, detached_answer, forgotten_answer, full_answer, known_answer, reverted_answer, stored_answer, too_deep_answer, unknown_answer, unread_answer}
+use Rattle.dubp_replay.specs.Answers.{accepted_answer, auto_on_answer, branch_refused_answer, detached_answer, forged_answer, forgotten_answer, full_answer, known_answer, known_document_answer, no_document_answer, pending_answer, refused_answer, reverted_answer, stored_answer, too_deep_answer, unknown_answer, unread_answer}
 use Rattle.dubp_replay.specs.declared.command.Command.{Command}
 use Rattle.dubp_replay.specs.declared.command.Command.TheVariants as command
 use Rattle.dubp_replay.specs.declared.failure.Failure.{Failure}
-use Rattle.dubp_replay.specs.Turns.{Accepts, AutoTurn, BlockTurn, Branches, BranchesTurn, Chooses, Detaches, Fails, GoesAlong, OfferGoesOn, OfferTurn, Only, RefusedBy, State, Stores, Succeeds, SwitchTurn, SwitchesBy, TriesPath, accepted, blocks_behind, branches_of, choice_line, choices_of, is_known, most_stored, offer_rules, onward, stored, without}
+use Rattle.dubp_replay.specs.OfForging.{Doc, Forging, IsRead, doc_hash, is_pending, most_pending, without as without_document}
+use Rattle.dubp_replay.specs.Turns.{Accepts, AutoTurn, BlockTurn, Branches, BranchesTurn, Chooses, Detaches, Fails, GoesAlong, IsForgeAnswer, IsForgedAnswer, OfferGoesOn, OfferTurn, Only, PendTurn, PendsDoc, RefusedBy, State, Stores, Succeeds, SwitchTurn, SwitchesBy, TriesPath, UnpendTurn, accepted, blocks_behind, branches_of, choice_line, choices_of, forging_of, is_known, most_stored, offer_rules, onward, stored, without}
 use Rattle.dubp_turn_laws.specs.Laws.{TurnsHaveOneAnswer}
 use Rattle.dubp_turn_laws.proofs.Once.{down, not_accepted, one_break, one_path, switches_once}
 use Rattle.dubp_turn_laws.proofs.Queries.{one_reply}
-use Rattle.dubp_turn_laws.proofs.Texts.{one_block, one_line}
+use Rattle.dubp_turn_laws.proofs.Texts.{one_line}
 
 abbrev Same : {X : Type 0} → List ℕ → List ℕ → X → X → Type 0
 Same a a' x x' = (a ≡ a') × (x ≡ x')
@@ -146,6 +151,9 @@ one_of_branches old (command.Forget stamp) frame a a' new new' p q =
 one_of_branches old (command.Statement cond) frame a a' new new' p q = (p.0 ∙ sym q.0, p.1 ∙ sym q.1)
 one_of_branches old (command.Auto on) frame a a' new new' p q = absurd p
 one_of_branches old command.Failures frame a a' new new' p q = absurd p
+one_of_branches old (command.Pend len) frame a a' new new' p q = absurd p
+one_of_branches old (command.Unpend hash) frame a a' new new' p q = absurd p
+one_of_branches old (command.Forge key time) frame a a' new new' p q = absurd p
 one_of_branches old (command.Ask ask) frame a a' new new' p q = (one_reply old.chain ask a a' p.0 q.0, p.1 ∙ sym q.1)
 
 -- ---- and where the node chooses
@@ -171,10 +179,61 @@ one_auto : (old : State) (on : Bool) (a a' : List ℕ) (new new' : State) → Au
 one_auto old true a a' new new' p q = one_choice auto_on_answer (record old { auto = true }) a a' new new' p q
 one_auto old false a a' new new' p q = (p.0 ∙ sym q.0, p.1 ∙ sym q.1)
 
+-- ---- documents that wait
+
+one_pending : (old : State) (d : Doc) (a a' : List ℕ) (new new' : State) → PendsDoc old d a new → PendsDoc old d a' new' → Same a a' new new'
+one_pending old d a a' new new' =
+    two_by_test (is_pending old.pool (doc_hash d)) _ _ _ _ (said (known_document_answer (doc_hash d)) old a a' new new')
+    (two_by_test (nat_le most_pending (length old.pool)) _ _ _ _ (said full_answer old a a' new new')
+    (said (pending_answer (doc_hash d)) (record old { pool = old.pool ++ d ∷ [] }) a a' new new'))
+
+-- bytes are the text of one document, or of none
+abbrev IsPended : State → List ℕ → List ℕ → State → Type 0
+IsPended old bytes a new =
+    ((d : Doc) × IsRead bytes d × PendsDoc old d a new)
+    ⊎ (((d : Doc) → IsRead bytes d → ⊥) × Only no_document_answer old a new)
+
+one_pended : (old : State) (bytes a a' : List ℕ) (new new' : State) → IsPended old bytes a new → IsPended old bytes a' new' → Same a a' new new'
+one_pended old bytes a a' new new' (inl p) (inl q) =
+    one_pending old p.0 a a' new new' p.2 (subst (λ (d : Doc). PendsDoc old d a' new') (one_document bytes q.0 p.0 q.1 p.1) q.2)
+one_pended old bytes a a' new new' (inl p) (inr q) = absurd (q.0 p.0 p.1)
+one_pended old bytes a a' new new' (inr p) (inl q) = absurd (p.0 q.0 q.1)
+one_pended old bytes a a' new new' (inr p) (inr q) = said no_document_answer old a a' new new' p.1 q.1
+
+one_pend : (old : State) (bytes a a' : List ℕ) (new new' : State) → PendTurn old bytes a new → PendTurn old bytes a' new' → Same a a' new new'
+one_pend old bytes a a' new new' =
+    two_by_test (nat_le (length bytes) longest_block) _ _ _ _ (one_pended old bytes a a' new new') (said (refused_answer (code_text X01)) old a a' new new')
+
+one_unpend : (old : State) (hash : Text) (a a' : List ℕ) (new new' : State) → UnpendTurn old hash a new → UnpendTurn old hash a' new' → Same a a' new new'
+one_unpend old hash a a' new new' =
+    two_by_test (is_pending old.pool hash) _ _ _ _ (said forgotten_answer (record old { pool = without_document hash old.pool }) a a' new new')
+    (said unknown_answer old a a' new new')
+
+-- a block is forged, or the draft without documents breaks a rule, and not both
+one_forged : (f : Forging) (a a' : List ℕ) → IsForgedAnswer f a → IsForgedAnswer f a' → a ≡ a'
+one_forged f a a' (inl p) (inl q) =
+    let same = one_forging f p.0 q.0 p.1 q.1 p.2 q.2 in
+    let block = same.0 in
+    let left = same.1 in
+    p.3 ∙ (λ i. forged_answer (block i) (left i)) ∙ sym q.3
+one_forged f a a' (inl p) (inr q) = let e : None ≡ Some q.0 = one_trial f [] None (Some q.0) p.2.begins q.1 in absurd cc
+one_forged f a a' (inr p) (inl q) = let e : None ≡ Some p.0 = one_trial f [] None (Some p.0) q.2.begins p.1 in absurd cc
+one_forged f a a' (inr p) (inr q) =
+    let e : Some p.0 ≡ Some q.0 = one_trial f [] (Some p.0) (Some q.0) p.1 q.1 in
+    let rule : p.0 ≡ q.0 = cc in
+    p.2 ∙ ap (λ r. refused_answer (code_text r)) rule ∙ sym q.2
+
+one_forge_answer : (f : Forging) (c : Chain) (a a' : List ℕ) → IsForgeAnswer f c a → IsForgeAnswer f c a' → a ≡ a'
+one_forge_answer f [] a a' p q = p ∙ sym q
+one_forge_answer f (b ∷ c) a a' p q = one_forged f a a' p q
+
 pub one_turn : TurnsHaveOneAnswer
 one_turn old (command.Offer len) frame a a' new new' p q = one_offer old frame a a' new new' p q
 one_turn old (command.Auto on) frame a a' new new' p q = one_auto old on a a' new new' p q
 one_turn old command.Failures frame a a' new new' p q = (p.0 ∙ sym q.0, p.1 ∙ sym q.1)
+one_turn old (command.Pend len) frame a a' new new' p q = one_pend old frame a a' new new' p q
+one_turn old (command.Unpend hash) frame a a' new new' p q = one_unpend old hash a a' new new' p q
+one_turn old (command.Forge key time) frame a a' new new' p q = (one_forge_answer (forging_of old key time) old.chain a a' p.0 q.0, p.1 ∙ sym q.1)
 one_turn old c frame a a' new new' p q =
     let same = one_of_branches (branches_of old) c frame a a' p.0 q.0 p.1 q.1 in
     (same.0, p.2 ∙ ap (onward old) same.1 ∙ sym q.2)

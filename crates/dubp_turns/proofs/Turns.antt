@@ -19,18 +19,19 @@ use Rattle.dubp_choosing.specs.States.{state_with}
 use Rattle.dubp_choosing.proofs.Failures.{left_more, left_twice, onward_same}
 use Rattle.dubp_choosing.proofs.Offering.{goes_aside, goes_choosing, goes_quietly, without_last}
 use Rattle.dubp_choosing.proofs.Turns.{IsPlain, held_same, plain_acts}
+use Rattle.dubp_choosing.proofs.Waiting.{chooses_waiting}
 use Rattle.dubp_turns.specs.Acting.{Acts, OfferActs}
 use Rattle.dubp_turns.specs.Choosing.{ChoosesBehind}
 
 -- where failures are let go of
 pub acts_on : (old : State) (c : Command) (frame answer : List ℕ) (b : Branches) (left : List Failure) → IsPlain c → left_over old.store old.failures ≡ old.failures → left ≡ left_over b.store old.failures
-    → BranchesActs (branches_of old) c frame answer b → Acts old c frame answer (state_with b old.auto left)
+    → BranchesActs (branches_of old) c frame answer b → Acts old c frame answer (state_with old.pool b old.auto left)
 acts_on old c frame answer b left plain held is acts = λ bytes handed.
-    plain_acts old c bytes answer b (state_with b old.auto left) plain held (ap (state_with b old.auto) is) (acts bytes handed)
+    plain_acts old c bytes answer b (state_with old.pool b old.auto left) plain held (ap (state_with old.pool b old.auto) is) (acts bytes handed)
 
 -- where the store is as before
 pub acts_aside : (old : State) (c : Command) (frame answer : List ℕ) (b : Branches) → IsPlain c → left_over old.store old.failures ≡ old.failures → b.store ≡ old.store
-    → BranchesActs (branches_of old) c frame answer b → Acts old c frame answer (state_with b old.auto old.failures)
+    → BranchesActs (branches_of old) c frame answer b → Acts old c frame answer (state_with old.pool b old.auto old.failures)
 acts_aside old c frame answer b plain held same acts =
     acts_on old c frame answer b old.failures plain held (sym (held_same old.store b.store old.failures held same)) acts
 
@@ -45,14 +46,14 @@ none_of test store chain e = or_left (list_any test store) (list_any test chain)
 module _ (old : State) (held : left_over old.store old.failures ≡ old.failures) (frame : List ℕ) where
   -- nothing was stored
   pub offer_refused : (answer : List ℕ) (refusal : OfferRefusal) (b : Branches) → Offered (branches_of old) frame (Err refusal) b.store → b ≡ with_store (branches_of old) b.store
-      → answer ≡ offer_text (Err refusal) → OfferActs old frame answer (state_with b old.auto old.failures)
+      → answer ≡ offer_text (Err refusal) → OfferActs old frame answer (state_with old.pool b old.auto old.failures)
   offer_refused answer refusal b offered is e =
       let same : b.store ≡ old.store = offered_none (branches_of old) frame refusal b.store offered in
       let kept : old.failures ≡ left_over b.store old.failures = sym (held_same old.store b.store old.failures held same) in
       let all : b ≡ branches_of old = is ∙ ap (with_store (branches_of old)) same in
-      elim (offered_acts (branches_of old) frame answer (Err refusal) b.store offered e) as (λ _. OfferActs old frame answer (state_with b old.auto old.failures)) [
-        | inl turn ↦ inl (goes_aside old (state_with b old.auto old.failures) frame answer b (subst (OfferTurn (branches_of old) frame answer) (sym is) turn) same (ap (state_with b old.auto) kept))
-        | inr lack ↦ inr (lack.0, ap (λ (x : Branches). state_with x old.auto old.failures) all)
+      elim (offered_acts (branches_of old) frame answer (Err refusal) b.store offered e) as (λ _. OfferActs old frame answer (state_with old.pool b old.auto old.failures)) [
+        | inl turn ↦ inl (goes_aside old (state_with old.pool b old.auto old.failures) frame answer b (subst (OfferTurn (branches_of old) frame answer) (sym is) turn) same (ap (state_with old.pool b old.auto) kept))
+        | inr lack ↦ inr (lack.0, ap (λ (x : Branches). state_with old.pool x old.auto old.failures) all)
       ]
 
   module _ (stamp : Stamp) (b : Branches) (offered : Offered (branches_of old) frame (Ok stamp) b.store) (is : b ≡ with_store (branches_of old) b.store) where
@@ -69,11 +70,11 @@ module _ (old : State) (held : left_over old.store old.failures ≡ old.failures
     more : length old.store < length b.store
     more = let l = length-append old.store (offered.0 ∷ []) in let n : length b.store ≡ length (old.store ++ offered.0 ∷ []) = ap length grows in omega arith
 
-    onward_is : state_with b old.auto old.failures ≡ onward old b
-    onward_is = ap (state_with b old.auto) (sym kept_behind)
+    onward_is : state_with old.pool b old.auto old.failures ≡ onward old b
+    onward_is = ap (state_with old.pool b old.auto) (sym kept_behind)
 
-    pub offer_quietly : (answer : List ℕ) → answer ≡ offer_text (Ok stamp) → old.auto ≡ false → OfferActs old frame answer (state_with b old.auto old.failures)
-    offer_quietly answer e off = inl (goes_quietly old (state_with b old.auto old.failures) frame answer b (turn answer e) off onward_is)
+    pub offer_quietly : (answer : List ℕ) → answer ≡ offer_text (Ok stamp) → old.auto ≡ false → OfferActs old frame answer (state_with old.pool b old.auto old.failures)
+    offer_quietly answer e off = inl (goes_quietly old (state_with old.pool b old.auto old.failures) frame answer b (turn answer e) off onward_is)
 
     -- what was stored is taken out again
     pub taken_out : without stamp b.store ≡ old.store
@@ -81,14 +82,15 @@ module _ (old : State) (held : left_over old.store old.failures ≡ old.failures
         ap (without stamp) grows
         ∙ without_last stamp old.store offered.0 offered.2 (none_of (is_stamped stamp) old.store old.chain offered.3)
 
-    pub offer_chooses : (answer : List ℕ) (after : Branches) (left : List Failure) → ChoosesBehind stamp b old.failures answer after left → old.auto ≡ true → OfferActs old frame answer (state_with after old.auto left)
+    pub offer_chooses : (answer : List ℕ) (after : Branches) (left : List Failure) → ChoosesBehind stamp b old.failures answer after left → old.auto ≡ true → OfferActs old frame answer (state_with old.pool after old.auto left)
     offer_chooses answer after left (inl chosen) on =
-        inl (goes_choosing old (state_with after old.auto left) frame (stored_answer stamp) answer b (turn (stored_answer stamp) refl) on more
-        (subst (λ (x : State). Chooses (stored_answer stamp) x answer (state_with after old.auto left)) onward_is
-        (subst (λ a. Chooses (stored_answer stamp) (state_with b a old.failures) answer (state_with after a left)) (sym on) chosen.0)))
+        inl (goes_choosing old (state_with old.pool after old.auto left) frame (stored_answer stamp) answer b (turn (stored_answer stamp) refl) on more
+        (subst (λ (x : State). Chooses (stored_answer stamp) x answer (state_with old.pool after old.auto left)) onward_is
+        (subst (λ a. Chooses (stored_answer stamp) (state_with old.pool b a old.failures) answer (state_with old.pool after a left)) (sym on)
+        (chooses_waiting old.pool (stored_answer stamp) answer b after old.failures left chosen.0))))
     offer_chooses answer after left (inr lack) on =
         let back : after ≡ branches_of old = lack.1 ∙ ap (λ s. with_store b s) taken_out ∙ ap (λ (x : Branches). with_store x old.store) is in
-        inr (lack.0, λ i. state_with (back i) old.auto (lack.2 i))
+        inr (lack.0, λ i. state_with old.pool (back i) old.auto (lack.2 i))
 
     pub held_behind : (answer : List ℕ) (after : Branches) (left : List Failure) → ChoosesBehind stamp b old.failures answer after left → left_over after.store left ≡ left
     held_behind answer after left (inl chosen) = chosen.1

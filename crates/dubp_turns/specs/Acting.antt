@@ -3,7 +3,7 @@ use Rattle.std.specs.Prelude.{◌⊎◌, ℕ, List, Some}
 pub use Rattle.dubp_branches.specs.Acting.{IsHanded}
 use Rattle.dubp_replay.specs.Answers.{no_memory_answer}
 use Rattle.dubp_replay.specs.declared.command.Command.{Command}
-use Rattle.dubp_replay.specs.Turns.{State, IsServed, OfferGoesOn, Only}
+use Rattle.dubp_replay.specs.Turns.{State, IsServed, OfferGoesOn, Only, PendTurn}
 
 -- the node takes one turn: whatever the bytes are of which it was handed these
 abbrev pub Acts : State → Command → List ℕ → List ℕ → State → Type 0
@@ -12,3 +12,7 @@ Acts old command frame answer new = (bytes : List ℕ) → IsHanded command byte
 -- OFFER with these raw bytes, which are not too many, or memory ran out
 abbrev pub OfferActs : State → List ℕ → List ℕ → State → Type 0
 OfferActs old frame answer new = OfferGoesOn old frame answer new ⊎ Only no_memory_answer old answer new
+
+-- PEND with these raw bytes, which are not too many, or memory ran out
+abbrev pub PendActs : State → List ℕ → List ℕ → State → Type 0
+PendActs old frame answer new = PendTurn old frame answer new ⊎ Only no_memory_answer old answer new

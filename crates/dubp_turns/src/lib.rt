@@ -1,8 +1,8 @@
 //! A node of a currency: the state that commands change, and the turn of each command.
 //!
 //! Contracts see a node as its verdicts, the chain of accepted blocks, how many of them can be reversed, the stored blocks of branches, whether
-//! it chooses among these by itself, and the branches that it chose and that failed. Its chapters are commands and answers, choice, and the
-//! generator, of `docs/protocol`.
+//! it chooses among these by itself, the branches that it chose and that failed, and the documents that wait. Its chapters are commands and
+//! answers, choice, documents that wait, forging, and the generator, of `docs/protocol`.
 //!
 //! ```text
 //! let mut node = Node::<Books>::new(alloc);

@@ -1,20 +1,22 @@
 ghost use Rattle.std.specs.Prelude.{◌≡◌, length, ◌≤◌, ℕ, List, [], ◌∷◌, None, OnOk, OnErr, true};
-ghost use Rattle.dubp_turns.specs.Acting.{Acts, OfferActs};
+ghost use Rattle.dubp_atoms.specs.Spelling.{IsNumber};
+ghost use Rattle.dubp_turns.specs.Acting.{Acts, OfferActs, PendActs};
 ghost use Rattle.dubp_turns.specs.OfQuery.{answer_bytes};
 ghost use Rattle.dubp_block.specs.Text.{IsBlock, block_text};
 ghost use Rattle.dubp_validity.specs.Rules.{longest_block};
 ghost use Rattle.dubp_turns.specs.Given.{IsGivenAll, block_given, verdict_given};
-ghost use Rattle.dubp_replay.specs.Turns.{left_over, start};
-ghost use Rattle.dubp_replay.specs.declared.command.Command.TheVariants.{Ask as AskCommand, Auto as AutoCommand, Block as BlockCommand, Failures as FailuresCommand, Forget as ForgetCommand, Offer as OfferCommand, Revert as RevertCommand, Statement as StatementCommand, Switch as SwitchCommand, Verdict as VerdictCommand};
+ghost use Rattle.dubp_replay.specs.Turns.{IsTimely, left_over, start};
+ghost use Rattle.dubp_replay.specs.declared.command.Command.TheVariants.{Ask as AskCommand, Auto as AutoCommand, Block as BlockCommand, Failures as FailuresCommand, Forge as ForgeCommand, Forget as ForgetCommand, Offer as OfferCommand, Pend as PendCommand, Revert as RevertCommand, Statement as StatementCommand, Switch as SwitchCommand, Unpend as UnpendCommand, Verdict as VerdictCommand};
 
 use crate::choosing::{choose_behind, let_go, resolve};
-use crate::texts::failures_text;
+use crate::texts::{failures_text, pend_answer};
 use dubp_atoms::{Hash, Key, NoMemory, Secret, Sig, Stamp, Steps};
 use dubp_block::Block;
 use dubp_branches::{
-    Answer, Branches, CondText, LONGEST_BLOCK, Ledger, PeopleAndMoney, Query, no_memory,
-    offer_answer, one, refused,
+    Answer, Branches, CondText, LONGEST_BLOCK, Ledger, PeopleAndMoney, Query, forgotten, no_memory,
+    offer_answer, one, refused, unknown,
 };
+use dubp_pool::Pool;
 use dubp_replay::{Command, Failure};
 use std::alloc::Global;
 use std::marker::Model;
@@ -23,14 +25,15 @@ use std::sync::ledger::Ledger as StepBook;
 /// The node: it answers commands, one after another.
 ///
 /// Contracts see the state that its answers depend on: the verdicts, the chain of accepted blocks, how many of them can be reversed, the
-/// stored blocks of branches, none of which is in the chain, whether it chooses among these by itself, and the branches that it chose and that
-/// failed. A failure is kept as long as the block at which it came is stored.
+/// stored blocks of branches, none of which is in the chain, whether it chooses among these by itself, the branches that it chose and that
+/// failed, and the documents that wait for a block. A failure is kept as long as the block at which it came is stored.
 #[derive(Drop)]
 pub struct Node<T: PeopleAndMoney> {
     alloc: Global,
     branches: Branches<T>,
     auto: bool,
     failures: Vec<Failure>,
+    pool: Pool,
 }
 
 impl<T: PeopleAndMoney> Model for Node<T> {
@@ -40,12 +43,13 @@ impl<T: PeopleAndMoney> Model for Node<T> {
 
     ghost use Rattle.std.specs.Coded.{codes};
     ghost use Rattle.dubp_block.specs.contracts.block.Block as block;
+    ghost use Rattle.dubp_pool.specs.contracts.pool.Pool as documents;
 
-    ghost coded = { Prim.hlevel (codes, block.the_row.coded) };
+    ghost coded = { Prim.hlevel (codes, block.the_row.coded, documents.the_row.coded) };
 
     ghost use Rattle.dubp_choosing.specs.States.{state_with};
 
-    ghost view = { λ n. state_with n.branches n.auto n.failures.items };
+    ghost view = { λ n. state_with n.pool n.branches n.auto n.failures.items };
 
     ghost use Rattle.std.specs.Prelude.{◌≡◌};
 
@@ -53,15 +57,15 @@ impl<T: PeopleAndMoney> Model for Node<T> {
 }
 
 impl<T: PeopleAndMoney> Node<T> {
-    /// The node of the empty chain, for who chooses its verdicts. It takes no memory.
+    /// The node of the empty chain, for who chooses its verdicts and its documents. It takes no memory.
     pub fn new(alloc: Global) -> Node<T>
         ensures { result ≡ start }
     {
         Node::with_secret(alloc, Secret::known())
     }
 
-    /// The node of the empty chain, for verdicts that strangers choose: who does not know the secret makes none that are slower to keep
-    /// than others. It takes no memory.
+    /// The node of the empty chain, for verdicts and documents that strangers choose: who does not know the secret makes none that are slower to
+    /// keep than others. It takes no memory.
     pub fn with_secret(alloc: Global, secret: Secret) -> Node<T>
         ensures { result ≡ start }
     {
@@ -70,19 +74,22 @@ impl<T: PeopleAndMoney> Node<T> {
             branches: Branches::with_secret(alloc, secret),
             auto: false,
             failures: Vec::new(alloc),
+            pool: Pool::with_secret(alloc, secret),
         }
     }
 
     /// One turn: the answer to a command, and what it changes.
     ///
-    /// `frame` has the raw bytes that follow a BLOCK or an OFFER whose LEN is at most 1,048,576, and is empty otherwise. A BLOCK or an OFFER
-    /// of a greater LEN is answered `REFUSED X01`. `NOMEM` leaves the node as before; only a command that takes memory is answered so.
+    /// `frame` has the raw bytes that follow a BLOCK, an OFFER or a PEND whose LEN is at most 1,048,576, and is empty otherwise. One of these of a
+    /// greater LEN is answered `REFUSED X01`. The time of a FORGE is below 2^53. `NOMEM` leaves the node as before; only a command that takes
+    /// memory is answered so.
     pub fn act<L: StepBook>(
         &mut self,
         command: &Command,
         frame: &[u8],
         steps: &mut Steps<L>,
     ) -> Answer
+        requires { IsTimely command.now }
         ensures { Acts self.old command.now frame.now (answer_bytes result) self.new }
     {
         match command {
@@ -95,6 +102,9 @@ impl<T: PeopleAndMoney> Node<T> {
             Command::Statement { cond } => self.statement(cond),
             Command::Auto { on } => self.set_auto(*on, steps),
             Command::Failures => self.failed(),
+            Command::Pend { len } => self.act_pend(*len, frame),
+            Command::Unpend { hash } => self.unpend(*hash),
+            Command::Forge { key, time } => self.forge(*key, *time),
             Command::Ask(query) => self.ask(query),
         }
     }
@@ -233,6 +243,42 @@ impl<T: PeopleAndMoney> Node<T> {
             Ok(text) => Answer::Many(text),
             Err(NoMemory) => no_memory(),
         }
+    }
+
+    // The document of these bytes waits from now on, or the first reason against it is named.
+    fn act_pend(&mut self, len: u64, frame: &[u8]) -> Answer
+        ensures { Acts self.old (PendCommand len) frame.now (answer_bytes result) self.new }
+    {
+        if len > LONGEST_BLOCK as u64 {
+            return refused(b"X01");
+        }
+        self.pend(frame)
+    }
+
+    // The same, where the bytes are not too many.
+    fn pend(&mut self, frame: &[u8]) -> Answer
+        ensures { length frame.now ≤ longest_block → PendActs self.old frame.now (answer_bytes result) self.new }
+    {
+        pend_answer(self.pool.add(frame))
+    }
+
+    // The document whose text has this hash waits no longer.
+    fn unpend(&mut self, hash: Hash) -> Answer
+        ensures { (frame : List ℕ) → Acts self.old (UnpendCommand hash) frame (answer_bytes result) self.new }
+    {
+        if self.pool.remove(hash) {
+            forgotten()
+        } else {
+            unknown()
+        }
+    }
+
+    // A block is forged of the documents that wait, and nothing changes.
+    fn forge(&self, key: Key, time: u64) -> Answer
+        requires { IsNumber time }
+        ensures { (frame : List ℕ) → Acts self.now (ForgeCommand key time) frame (answer_bytes result) self.now }
+    {
+        self.branches.forge(&self.pool, key, time)
     }
 
     fn act_offer<L: StepBook>(&mut self, len: u64, frame: &[u8], steps: &mut Steps<L>) -> Answer

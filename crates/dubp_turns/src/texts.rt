@@ -1,10 +1,13 @@
-ghost use Rattle.std.specs.Prelude.{◌≡◌, ◌++◌, IfOk, OnOk};
+ghost use Rattle.std.specs.Prelude.{◌≡◌, ◌++◌, ◌≤◌, Err, IfOk, OnOk, length};
 ghost use Rattle.dubp_atoms.specs.Spelling.{stamp_text};
-ghost use Rattle.dubp_replay.specs.Answers.{ended, failed_line, failures_answer, switched_answer};
-ghost use Rattle.dubp_turns.specs.Texts.{failed_lines};
+ghost use Rattle.dubp_replay.specs.Answers.{answer_line, ended, failed_line, failures_answer, switched_answer};
+ghost use Rattle.dubp_turns.specs.OfQuery.{answer_bytes};
+ghost use Rattle.dubp_turns.specs.Texts.{failed_lines, pend_text};
 
 use arrayvec::ArrayVec;
-use dubp_atoms::{Line, NoMemory, Stamp, put_bytes};
+use dubp_atoms::{Hash, Line, NoMemory, Stamp, put_bytes};
+use dubp_branches::{Answer, full, no_memory, refused};
+use dubp_pool::PendRefusal;
 use dubp_replay::Failure;
 use dubp_rules::code;
 use std::alloc::Global;
@@ -54,6 +57,40 @@ pub(crate) fn switched_text(stamp: &Stamp) -> Line
     stamp.put(&mut line);
     put_bytes(&mut line, b"\n");
     line
+}
+
+/// `PENDING` and the hash of the document, or why it does not wait. It takes no memory.
+pub(crate) fn pend_answer(outcome: Result<Hash, PendRefusal>) -> Answer
+    ensures { answer_bytes result ≡ pend_text outcome }
+{
+    match outcome {
+        Ok(hash) => hashed(b"PENDING ", hash),
+        Err(refusal) => pend_refused(refusal),
+    }
+}
+
+// Why a document does not wait.
+fn pend_refused(refusal: PendRefusal) -> Answer
+    ensures { answer_bytes result ≡ pend_text (Err refusal) }
+{
+    match refusal {
+        PendRefusal::Unread => refused(b"D01"),
+        PendRefusal::Known(hash) => hashed(b"KNOWN ", hash),
+        PendRefusal::Full { held: _ } => full(),
+        PendRefusal::NoMemory => no_memory(),
+    }
+}
+
+// A word and a hash.
+fn hashed(word: &[u8], hash: Hash) -> Answer
+    requires { length word.now ≤ 64 }
+    ensures { answer_bytes result ≡ answer_line (word.now ++ hash) }
+{
+    let mut line: Line = ArrayVec::new();
+    put_bytes(&mut line, word);
+    put_bytes(&mut line, hash.as_bytes());
+    put_bytes(&mut line, b"\n");
+    Answer::One(line)
 }
 
 /// Adds bytes to a text. `NoMemory` where there is no room for them; then the text is as before.

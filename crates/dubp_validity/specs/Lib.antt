@@ -3,6 +3,7 @@ pub mod HeadRules
 pub mod PeopleRules
 pub mod MoneyRules
 pub mod Rules
+pub mod Drafts
 pub mod Records
 pub mod Reduced
 pub mod OfChain

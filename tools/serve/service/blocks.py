@@ -165,10 +165,14 @@ class BlockText:
         value = self.fields.get("UniversalDividend")
         return None if value is None else int(value)
 
+    def paid(self) -> int | None:
+        """The units that each member gets by it."""
+        value, base = self.dividend(), 10 ** int(self.fields["UnitBase"])
+        return None if value is None else value * int(base)
+
     def issued(self) -> int:
         """The units that its dividend makes."""
-        base: int = 10 ** int(self.fields["UnitBase"])
-        return (self.dividend() or 0) * base * int(self.fields["MembersCount"])
+        return (self.paid() or 0) * int(self.fields["MembersCount"])
 
     @cached_property
     def transactions(self) -> list[Transaction]:

@@ -19,11 +19,13 @@ async def lookup(turn: Turn, word: str) -> dict[str, Any]:
 
 async def _looked_up(turn: Turn, identity: Identity) -> dict[str, Any]:
     received, issued = await people.certifications_of(turn, identity.key)
-    others = [await _other(turn, each) for each in received]
-    others += [await _other_pending(turn, each) for each in _waiting_for(turn, identity)]
+    waiting = _waiting_for(turn, identity)
+    keys = [*(each.issuer for each in received), *(each.receiver for each in issued), *(each.issuer for each in waiting)]
+    members = await people.members_among(turn, keys)
+    others = [_other(turn, each, members) for each in received] + [_other_pending(turn, each, members) for each in waiting]
     # the wallet takes them to be in the order of expiry
     others.sort(key=lambda each: (each["meta"]["block_number"], each["pubkey"]))
-    signed = [await _signed(turn, each) for each in issued]
+    signed = [_signed(turn, each, members) for each in issued]
     uid = {
         "uid": identity.uid, "meta": {"timestamp": identity.stamp}, "self": identity.signature, **_revoked(turn, identity), "others": others,
     }
@@ -48,22 +50,21 @@ def _revoked(turn: Turn, identity: Identity) -> dict[str, Any]:
     return {"revoked": True, "revoked_on": turn.index.median_time(revocation[0]), "revocation_sig": revocation[1]}
 
 
-async def _other(turn: Turn, live: LiveCertification) -> dict[str, Any]:
+def _other(turn: Turn, live: LiveCertification, members: set[str]) -> dict[str, Any]:
     written = turn.index.certification(live.issuer, live.receiver, live.written)
     assert written is not None, "a live certification stands in the block that wrote it"
-    member = await people.is_member(turn, live.issuer)
     meta = {"block_number": written.number, "block_hash": turn.index.hash_of(written.number)}
     return {
-        "pubkey": live.issuer, "meta": meta, "uids": _uids(turn, live.issuer), "isMember": member,
+        "pubkey": live.issuer, "meta": meta, "uids": _uids(turn, live.issuer), "isMember": live.issuer in members,
         "wasMember": turn.index.has_joined(live.issuer), "signature": written.signature,
     }
 
 
-async def _other_pending(turn: Turn, pending: Pending) -> dict[str, Any]:
+def _other_pending(turn: Turn, pending: Pending, members: set[str]) -> dict[str, Any]:
     number, block_hash = pending.fields()["CertTimestamp"].split("-")
     return {
         "pubkey": pending.issuer, "meta": {"block_number": int(number), "block_hash": block_hash}, "uids": _uids(turn, pending.issuer),
-        "isMember": await people.is_member(turn, pending.issuer), "wasMember": turn.index.has_joined(pending.issuer),
+        "isMember": pending.issuer in members, "wasMember": turn.index.has_joined(pending.issuer),
         "signature": pending.signature(),
     }
 
@@ -73,7 +74,7 @@ def _uids(turn: Turn, key: str) -> list[str]:
     return [] if identity is None else [identity.uid]
 
 
-async def _signed(turn: Turn, live: LiveCertification) -> dict[str, Any] | None:
+def _signed(turn: Turn, live: LiveCertification, members: set[str]) -> dict[str, Any] | None:
     identity = turn.index.identity(live.receiver)
     written = turn.index.certification(live.issuer, live.receiver, live.written)
     if identity is None or written is None:
@@ -81,7 +82,7 @@ async def _signed(turn: Turn, live: LiveCertification) -> dict[str, Any] | None:
     return {
         "uid": identity.uid, "pubkey": identity.key, "meta": {"timestamp": identity.stamp},
         "cert_time": {"block": written.number, "block_hash": turn.index.hash_of(written.number)},
-        "isMember": await people.is_member(turn, identity.key), "wasMember": turn.index.has_joined(identity.key),
+        "isMember": identity.key in members, "wasMember": turn.index.has_joined(identity.key),
         "signature": written.signature, **_revoked(turn, identity),
     }
 
@@ -96,7 +97,9 @@ async def identity_of(turn: Turn, word: str) -> dict[str, Any]:
 
 async def members(turn: Turn) -> dict[str, Any]:
     """All members."""
-    found = [each for each in turn.index.identities() if await people.is_member(turn, each.key)]
+    everybody = turn.index.identities()
+    members_now = await people.members_among(turn, [each.key for each in everybody])
+    found = [each for each in everybody if each.key in members_now]
     return {"results": [{"pubkey": each.key, "uid": each.uid} for each in found]}
 
 
@@ -115,20 +118,22 @@ async def _certifications(turn: Turn, word: str, is_received: bool) -> dict[str,
     if identity is None:
         raise Refusal(NO_MEMBER_MATCHING, "No member has this key or name")
     received, issued = await people.certifications_of(turn, identity.key)
+    wanted = received if is_received else issued
+    now = await people.members_among(turn, [identity.key, *(key for live in wanted for key in (live.issuer, live.receiver))])
     lines = []
-    for live in received if is_received else issued:
+    for live in wanted:
         other = turn.index.identity(live.issuer if is_received else live.receiver)
         written = turn.index.certification(live.issuer, live.receiver, live.written)
         if other is None or written is None:
             continue
         lines.append({
-            "pubkey": other.key, "uid": other.uid, "isMember": await people.is_member(turn, other.key),
+            "pubkey": other.key, "uid": other.uid, "isMember": other.key in now,
             "wasMember": turn.index.has_joined(other.key), "sigDate": other.stamp, "signature": written.signature,
             "cert_time": {"block": written.number, "medianTime": turn.index.median_time(written.number)},
             "written": {"number": live.written, "hash": turn.index.hash_of(live.written)},
         })
     return {
-        "pubkey": identity.key, "uid": identity.uid, "sigDate": identity.stamp, "isMember": await people.is_member(turn, identity.key),
+        "pubkey": identity.key, "uid": identity.uid, "sigDate": identity.stamp, "isMember": identity.key in now,
         "certifications": lines,
     }
 

@@ -38,6 +38,11 @@ class Command:
         """The first word."""
         return self.line.split(" ", 1)[0]
 
+    @property
+    def is_own(self) -> bool:
+        """Whether it is one of the service itself, of which the program is not told."""
+        return self.word in ("WAIT", "LEAVE")
+
     def encoded(self) -> bytes:
         """The bytes that the program reads."""
         line = self.line.encode("ascii") + b"\n"
@@ -89,6 +94,16 @@ def pend(text: bytes) -> Command:
 def unpend(text_hash: str) -> Command:
     """Takes a document out of the pool."""
     return Command(f"UNPEND {_checked(text_hash, spelling.is_hash, 'hash')}", done=("FORGOTTEN",))
+
+
+def wait(text: bytes) -> Command:
+    """Puts a document into the list of the service."""
+    return _framed("WAIT", text, Shape.LINE, "WAITING")
+
+
+def leave(text_hash: str) -> Command:
+    """Takes a document out of the list of the service."""
+    return Command(f"LEAVE {_checked(text_hash, spelling.is_hash, 'hash')}", done=("LEFT",))
 
 
 def revert(count: int) -> Command:
@@ -164,8 +179,8 @@ def read_changing(line: str, frame: bytes | None) -> Command:
     """The command that changes the state, from its line and frame as they stand in a log. Raises BadWord."""
     word, _, rest = line.partition(" ")
     words = rest.split(" ")
-    framed = {"BLOCK": block, "OFFER": offer, "PEND": pend}
-    single = {"UNPEND": unpend, "SWITCH": switch, "FORGET": forget, "AUTO": auto}
+    framed = {"BLOCK": block, "OFFER": offer, "PEND": pend, "WAIT": wait}
+    single = {"UNPEND": unpend, "LEAVE": leave, "SWITCH": switch, "FORGET": forget, "AUTO": auto}
     if word in framed and frame is not None:
         command = framed[word](frame)
     elif word in single:

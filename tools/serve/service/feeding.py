@@ -23,8 +23,10 @@ def changing(path: Path) -> Iterator[Command]:
                     frame = stream.read(int(words[1]))
                     stream.read(1)
                 try:
-                    yield commands.read_changing(line.rstrip(b"\n").decode("latin-1"), frame)
+                    command = commands.read_changing(line.rstrip(b"\n").decode("latin-1"), frame)
                 except BadWord:
                     continue
+                if not command.is_own:
+                    yield command
     except OSError as error:
         raise NoCommands(f"{path} cannot be read: {error.strerror}") from error

@@ -20,6 +20,7 @@ from .writes import clear_pool, forged
 
 _MINER = Path(__file__).resolve().parent / "miner.py"
 _SECONDS_BEHIND_FAILURE = 5.0
+_SECONDS_BETWEEN_LOOKS = 1.0
 
 
 class NoKey(ValueError):
@@ -142,6 +143,9 @@ class Forger:
         """Forges until it is cancelled."""
         said = ""
         while True:
+            if not self._ledger.can_write:
+                await asyncio.sleep(_SECONDS_BETWEEN_LOOKS)
+                continue
             try:
                 if not self._on_request:
                     await self._wait_for_pace()

@@ -86,7 +86,9 @@ def _of_log(path: Path) -> Iterator[Command]:
     try:
         connection = sqlite3.connect(f"file:{path.resolve()}?mode=ro", uri=True, timeout=0.5)
         for line, frame in connection.execute("SELECT line, frame FROM log ORDER BY number"):
-            yield commands.read_changing(line, frame)
+            command = commands.read_changing(line, frame)
+            if not command.is_own:
+                yield command
         connection.close()
     except (sqlite3.Error, commands.BadWord) as error:
         said = "it is in use by a running service: ask that, or take a copy" if "locked" in str(error) else str(error)

@@ -1,154 +1,64 @@
-"""The program, the log and the index as one: a turn asks the program, and what changed is on the disk before the turn ends."""
+"""The program, the log and the index as one: what a turn changed is kept before it ends. A node that follows is given what another wrote."""
 import asyncio
-import sqlite3
-from collections.abc import Awaitable, Callable, Sequence
+import time
+from collections.abc import Awaitable, Callable
 from pathlib import Path
 from typing import TypeVar
 
 from . import commands
-from .blocks import BlockText
 from .commands import BadWord, Command
+from .database import DATABASE_ERRORS, NoDatabase, Place, Server
 from .index import Index
-from .log import Log, LogRefused
+from .log import Entry, Log, LogRefused
+from .opening import Role, copy_index, new_local, open_log
 from .program import Program, ProgramEnded
 from .progress import Progress
+from .storage import Storage
+from .turns import Lacking, OnlyReads, OutOfStep, Turn, Unavailable
+
+__all__ = ["Lacking", "Ledger", "OnlyReads", "Role", "Turn", "Unavailable"]
 
 T = TypeVar("T")
 _BATCH = 500
-_CHAIN_WORDS = ("ACCEPTED", "REVERTED", "SWITCHED")
-
-
-class _OutOfStep(Exception):
-    """What is written does not fit what the program did."""
-
-
-_BROKEN = (ProgramEnded, _OutOfStep, sqlite3.Error, OSError)
-
-
-class Unavailable(Exception):
-    """The question cannot be answered now; ask again."""
-
-
-class Lacking(Exception):
-    """The program lacks a command that this needs; the message is the command."""
-
-
-class Turn:
-    """Questions to the program with nobody else between them."""
-
-    def __init__(self, program: Program, log: Log, index: Index) -> None:
-        self._program, self._log, self.index = program, log, index
-        self.has_changed = False
-        self.gone: list[BlockText] = []
-        """The blocks that this turn took off the chain."""
-
-    def lacks(self, word: str) -> bool:
-        """Whether the program has no such command."""
-        return word in self._program.lacks
-
-    async def ask(self, command: Command) -> list[str]:
-        """The answer to a query. Raises Unavailable at NOMEM, Lacking where the program has no such command."""
-        if command.word in self._program.lacks:
-            raise Lacking(command.word)
-        answer = await self._program.ask(command)
-        if answer == ["NOMEM"]:
-            raise Unavailable("the program has no memory for this now")
-        return answer
-
-    async def ask_all(self, batch: Sequence[Command]) -> list[list[str]]:
-        """The answers to several queries. Raises as `ask` does; none of them may be of a shape that is open."""
-        for command in batch:
-            if command.word in self._program.lacks:
-                raise Lacking(command.word)
-        answers = await self._program.ask_all(batch)
-        if ["NOMEM"] in answers:
-            raise Unavailable("the program has no memory for this now")
-        return answers
-
-    async def change(self, command: Command) -> list[str]:
-        """The answer to a command that may change the state; where it did, it is in the log and the index."""
-        answer = await self.ask(command)
-        await self.keep(command, answer)
-        return answer
-
-    async def keep(self, command: Command, answer: list[str]) -> None:
-        """Writes into log and index that a command got this answer, where it changed the state."""
-        if not command.has_changed(answer[0] if answer else ""):
-            return
-        try:
-            await self._keep(command, answer)
-        except (AssertionError, KeyError, ValueError, Unavailable) as error:
-            raise _OutOfStep(f"{command.line[:60]!r} could not be kept: {error!r}") from error
-
-    async def _keep(self, command: Command, answer: list[str]) -> None:
-        self._log.begin()
-        self.has_changed = True
-        words = [line.split(" ", 1)[0] for line in answer]
-        if command.word == "PEND":
-            assert command.frame is not None
-            self.index.pend(command.frame.decode("ascii"))
-        elif command.word == "UNPEND":
-            self.index.unpend(command.line.split(" ")[1])
-        elif command.word == "FORGET":
-            self.index.forget(command.line.split(" ")[1])
-        elif command.word == "OFFER":
-            assert command.frame is not None
-            self.index.store(BlockText.of(command.frame.decode("ascii")))
-        if any(word in _CHAIN_WORDS for word in words):
-            await self._follow(are_stored="SWITCHED" in words)
-        self._log.append(command.line, command.frame, "\n".join(answer), self.index.head_stamp())
-
-    async def verdict(self, key: str, text_hash: str, signature: str) -> None:
-        """Gives a verdict, where it was not given before."""
-        command = commands.verdict(key, text_hash, signature)
-        if not self._log.has_verdict(command.line):
-            await self.change(command)
-
-    async def _follow(self, are_stored: bool) -> None:
-        """Takes off the index what is no longer in the chain, and puts on what is new."""
-        words = (await self.ask(commands.head()))[0].split(" ")
-        new: list[BlockText] = []
-        number, wanted = -1, None
-        if words[0] == "HEAD":
-            number, wanted = int(words[1].split("-")[0]), words[1].split("-")[1]
-        while number >= 0 and self.index.hash_of(number) != wanted:
-            block = BlockText(await self.ask(commands.show(number)))
-            assert block.hash == wanted, f"block {number} has another hash than the one behind it names"
-            new.append(block)
-            number, wanted = number - 1, block.previous
-        taken_off = self.index.take_off(number + 1)
-        self.gone += taken_off
-        for gone in taken_off if are_stored else []:
-            self.index.store(gone)
-        for block in reversed(new):
-            self.index.put_on(block, await self.ask(commands.records(block.number)))
-            self.index.forget(block.stamp)
+_BROKEN = (ProgramEnded, OutOfStep, NoDatabase, OSError, *DATABASE_ERRORS)
 
 
 class Ledger:
     """A program that is asked by many, with its log. Every use is one turn behind another."""
 
-    def __init__(self, path: Path, log: Log, program: Program) -> None:
-        self._path, self.log, self._program = path, log, program
-        self.index = Index(log.connection)
+    def __init__(self, path: Path, storage: Storage, log: Log, program: Program) -> None:
+        self._path, self._storage, self.log, self._program = path, storage, log, program
+        self.index = Index(storage)
         self._turns = asyncio.Lock()
         self._listeners: list[Callable[[], None]] = []
         self.failure: asyncio.Future[str] = asyncio.get_running_loop().create_future()
+        self.can_write = False
+        self.away: str | None = None
+        """Why nothing is answered now, where a node on a server has to begin again."""
+        self.seconds_of_replay = 0.0
+        self.has_chain_changed = True
+        """Of the last change: whether it was one of chain or branches, and not of what waits alone."""
 
     @classmethod
-    async def open(cls, program: Path, log_path: Path, *, currency: str | None = None, rebuild: bool = False) -> "Ledger":
+    async def open(
+        cls, program: Path, place: Place, *, role: Role = Role.WRITER, currency: str | None = None, rebuild: bool = False
+    ) -> "Ledger":
         """Starts the program and replays the log into it. Raises LogRefused or ProgramEnded."""
-        log = Log(log_path)
+        storage, log, is_old = await open_log(place, role)
         try:
-            ledger = cls(program, log, await Program.start(program))
+            ledger = cls(program, storage, log, await Program.start(program))
             try:
+                await ledger._load(rebuild or is_old)
                 ledger._check_currency(currency)
-                await ledger._replay(rebuild)
+                ledger._write(role is Role.WRITER)
             except BaseException:
                 await ledger._program.stop()
                 raise
+        except (*DATABASE_ERRORS, NoDatabase) as error:
+            await storage.close()
+            raise LogRefused(f"{log.name} cannot be used: {error}") from error
         except BaseException:
-            log.close()
+            await storage.close()
             raise
         return ledger
 
@@ -156,7 +66,7 @@ class Ledger:
         """Ends the program and closes the log."""
         async with self._turns:
             await self._program.stop()
-            self.log.close()
+            await self._storage.close()
 
     def listen(self, listener: Callable[[], None]) -> None:
         """Has a function called behind each turn that changed something."""
@@ -166,22 +76,28 @@ class Ledger:
         """Whether the program has no such command."""
         return word in self._program.lacks
 
+    @property
+    def server(self) -> Server | None:
+        """The server that has the log, where it is no file."""
+        return self._storage.server
+
+    def _write(self, can_write: bool) -> None:
+        self.can_write = self._storage.writes = can_write
+
     async def turn(self, work: Callable[[Turn], Awaitable[T]]) -> T:
         """Does some work as one turn, to its end even where who wanted it is gone. What it changed is on the disk behind it, also where the
-        work raises. Raises Unavailable where the program ended or the disk failed; then both begin again from the log."""
+        work raises. Raises Unavailable where the program ended or the database failed; then both begin again from the log."""
         return await asyncio.shield(asyncio.ensure_future(self._turn(work)))
 
     async def _turn(self, work: Callable[[Turn], Awaitable[T]]) -> T:
         async with self._turns:
-            turn = Turn(self._program, self.log, self.index)
+            if self.away is not None:
+                raise Unavailable(self.away)
+            turn = Turn(self._program, self._storage, self.index, self.log if self.can_write else None)
             try:
                 return await self._work(turn, work)
             except _BROKEN as error:
-                try:
-                    await self._begin_again()
-                except (LogRefused, *_BROKEN) as failure:
-                    if not self.failure.done():
-                        self.failure.set_result(str(failure))
+                await self._break(error)
                 raise Unavailable(f"the service had to begin again: {error}") from error
 
     async def _work(self, turn: Turn, work: Callable[[Turn], Awaitable[T]]) -> T:
@@ -190,95 +106,193 @@ class Ledger:
         except _BROKEN:
             raise
         except Exception:
-            self._finish(turn)
+            await self._finish(turn)
             raise
-        self._finish(turn)
+        await self._finish(turn)
         return done
 
-    def _finish(self, turn: Turn) -> None:
+    async def _finish(self, turn: Turn) -> None:
         if turn.has_changed:
-            self.log.commit()
-            self._tell()
+            await self._storage.commit()
+            self._tell(turn.has_chain_changed)
 
-    def _tell(self) -> None:
+    def _tell(self, has_chain_changed: bool = True) -> None:
+        self.has_chain_changed = has_chain_changed
         for listener in self._listeners:
             listener()
 
+    async def _break(self, error: Exception) -> None:
+        """Begins again from a file at once. Of a server that may not be there, so that it is left to who watches over it."""
+        self._storage.roll_back()
+        if self._storage.server is not None:
+            self.away = f"this node begins again: {error}"
+            return
+        try:
+            await self._begin_again()
+        except (LogRefused, *_BROKEN) as failure:
+            self.fail(str(failure))
+
+    def fail(self, sentence: str) -> None:
+        """Notes why the service cannot go on."""
+        if not self.failure.done():
+            self.failure.set_result(sentence)
+
     async def _begin_again(self) -> None:
-        """Starts a fresh program and replays what is on the disk."""
-        self.log.roll_back()
+        """Starts a fresh program and replays what is kept."""
         await self._program.stop()
         self._program = await Program.start(self._path)
-        await self._replay(False)
+        if self._storage.server is None:
+            await self.log.find_last()
+            await self._replay(False)
+        else:
+            self._storage.local.close()
+            self._storage = Storage(new_local(), self._storage.server)
+            self.index = Index(self._storage)
+            await self._load(False)
         self._tell()
+
+    async def begin_again(self, can_write: bool) -> None:
+        """Replays what a server has, to which there is a connection again. Raises LogRefused and errors of the database."""
+        async with self._turns:
+            self._write(False)
+            await self._begin_again()
+            self._write(can_write)
+            self.away = None
+
+    # a log of others
+
+    async def catch_up(self) -> int:
+        """Gives the program what others wrote behind the last entry that it was given. Gives how many entries. Raises LogRefused where this program
+        answers otherwise or comes to another head, and errors of the database."""
+        count = 0
+        while piece := await self.log.piece(self.log.last):
+            async with self._turns:
+                if self.away is None:
+                    await self._take(piece)
+            if self.away is not None:
+                break
+            count += len(piece)
+        return count
+
+    async def _take(self, piece: list[Entry]) -> None:
+        turn = Turn(self._program, self._storage, self.index, None)
+        self._storage.begin()
+        try:
+            for entry in piece:
+                await self._take_one(turn, entry)
+            await self._storage.commit()
+        except (ProgramEnded, OutOfStep) as error:
+            await self._break(error)
+            return
+        except LogRefused:
+            self._storage.roll_back()
+            raise
+        self.log.pass_on_to((piece[-1].number, piece[-1].sum))
+        self._tell()
+
+    async def _take_one(self, turn: Turn, entry: Entry) -> None:
+        command, lines = self._read(entry), entry.answer.split("\n")
+        if not command.is_own:
+            lines = (await self._program.again([(command, len(lines))]))[0]
+            self._compare(entry, command, lines)
+        await turn.keep(command, lines)
+        if self.index.head_stamp() != entry.head:
+            raise LogRefused(
+                f"{self.log.name}: behind entry {entry.number} the chain ends with {self.index.head_stamp()} here, and with {entry.head} where it "
+                "was written: this node and the one that writes do not agree"
+            )
+
+    async def is_still_that_log(self) -> bool:
+        """Whether the log has the last entry that was taken, as it was."""
+        number, last = self.log.last
+        rows = await self._storage.home.rows("SELECT sum FROM log WHERE number = :number", number=number)
+        return number == 0 or [row[0] for row in rows] == [last]
+
+    async def become_writer(self) -> None:
+        """Begins to write, once this node has the lock. Raises what `catch_up` does."""
+        await self.catch_up()
+        async with self._turns:
+            self._write(self.away is None)
+        self._tell()
+
+    # replay
 
     def _check_currency(self, currency: str | None) -> None:
         first = self.index.block(0)
         if first is None or currency in (None, first[0].fields["Currency"]):
             return
-        raise LogRefused(f"{self.log.path} is the log of the currency {first[0].fields['Currency']}, and not of {currency}")
+        raise LogRefused(f"{self.log.name} is the log of the currency {first[0].fields['Currency']}, and not of {currency}")
+
+    async def _load(self, rebuild: bool) -> None:
+        """Replays the log, with the index that a server has where there is one."""
+        begun = time.monotonic()
+        if self._storage.server is not None:
+            if rebuild:
+                await self.log.find_last()
+            else:
+                await copy_index(self._storage.server, self.index, self.log)
+        await self._replay(rebuild)
+        self.seconds_of_replay = time.monotonic() - begun
 
     async def _replay(self, rebuild: bool) -> None:
-        """Gives every entry to the program. Raises LogRefused where an answer is another than the one in the log."""
-        progress = Progress("replayed")
+        """Gives every entry up to the last to the program. Raises LogRefused where an answer is another than the one in the log."""
+        progress, last = Progress("replayed"), self.log.number
         if rebuild:
-            self.log.begin()
+            self._storage.writes = self._storage.server is None or self._storage.server.is_writer
+            self._storage.begin()
             self.index.clear()
-        batch: list[tuple[Command, str, int]] = []
+        batch: list[Entry] = []
         head = "NONE"
-        for entry in self.log.entries():
-            try:
-                command = commands.read_changing(entry.line, entry.frame)
-            except BadWord as error:
-                raise LogRefused(f"{self.log.path}: entry {entry.number} is {error}") from error
-            batch.append((command, entry.answer, entry.number))
+        async for entry in self.log.entries():
+            if entry.number > last:
+                break
+            batch.append(entry)
             head = entry.head
-            if len(batch) == _BATCH or rebuild:
+            # the index is asked for behind each entry that may change it, and so is the program
+            if len(batch) == _BATCH or (rebuild and not entry.line.startswith("VERDICT ")):
                 await self._replay_batch(batch, rebuild)
                 batch.clear()
-            progress.show(entry.number, self.log.number)
+            progress.show(entry.number, last)
         await self._replay_batch(batch, rebuild)
         progress.end()
         if rebuild:
-            self.log.commit()
+            if self._storage.writes:
+                self.log.note_form()
+            await self._storage.commit()
         await self._compare_head(head)
 
-    async def _replay_batch(self, batch: list[tuple[Command, str, int]], rebuild: bool) -> None:
-        answers = await self._program.again([(command, answer.count("\n") + 1) for command, answer, _ in batch])
-        for (command, logged, number), lines in zip(batch, answers):
-            if lines == ["NOMEM"]:
-                raise LogRefused(f"{self.log.path}: the program has no memory for entry {number} of {self.log.number}")
-            if "\n".join(lines) != logged:
-                raise LogRefused(
-                    f"{self.log.path} is the log of another version of the program: {command.line[:60]!r}, entry {number}, was answered "
-                    f"{logged.splitlines()[0]!r}, and now {lines[0]!r}"
-                )
+    def _read(self, entry: Entry) -> Command:
+        try:
+            return commands.read_changing(entry.line, entry.frame)
+        except BadWord as error:
+            raise LogRefused(f"{self.log.name}: entry {entry.number} is {error}") from error
+
+    async def _replay_batch(self, batch: list[Entry], rebuild: bool) -> None:
+        given = [(self._read(entry), entry) for entry in batch]
+        asked = [(command, entry.answer.count("\n") + 1) for command, entry in given if not command.is_own]
+        answers = iter(await self._program.again(asked))
+        for command, entry in given:
+            lines = entry.answer.split("\n")
+            if not command.is_own:
+                lines = next(answers)
+                self._compare(entry, command, lines)
             if rebuild:
-                await _Rebuilding(self._program, self.log, self.index).keep(command, lines)
+                await Turn(self._program, self._storage, self.index, None).keep(command, lines)
+
+    def _compare(self, entry: Entry, command: Command, lines: list[str]) -> None:
+        if lines == ["NOMEM"]:
+            raise LogRefused(f"{self.log.name}: the program has no memory for entry {entry.number} of {self.log.number}")
+        if "\n".join(lines) != entry.answer:
+            raise LogRefused(
+                f"{self.log.name} is the log of another version of the program: {command.line[:60]!r}, entry {entry.number}, was answered "
+                f"{entry.answer.splitlines()[0]!r}, and now {lines[0]!r}"
+            )
 
     async def _compare_head(self, logged: str) -> None:
         words = (await self._program.ask(commands.head()))[0].split(" ")
         now = words[1] if words[0] == "HEAD" else "NONE"
         if now != logged or self.index.head_stamp() != logged:
             raise LogRefused(
-                f"{self.log.path}: the chain ends with {now} now, by the log with {logged}, by the index with {self.index.head_stamp()}"
+                f"{self.log.name}: the chain ends with {now} now, by the log with {logged}, by the index with {self.index.head_stamp()}"
                 " (the index is made anew by --rebuild)"
             )
-
-
-class _Rebuilding(Turn):
-    """A turn over entries that stand in the log already."""
-
-    def __init__(self, program: Program, log: Log, index: Index) -> None:
-        super().__init__(program, log, index)
-        self._log = _Silent(log)  # type: ignore[assignment]
-
-
-class _Silent:
-    """A log to which nothing is added."""
-
-    def __init__(self, log: Log) -> None:
-        self.begin = log.begin
-
-    def append(self, *_: object) -> None:
-        """Adds nothing."""

@@ -1,19 +1,19 @@
-"""The log of every command that changed the state, in a SQLite file. The index stands in the same file and is written in the same transaction."""
+"""The log of every command that changed the state, with the facts that are noted beside it, in a SQLite file or on a PostgreSQL server."""
 import hashlib
-import sqlite3
-from collections.abc import Iterator
+from collections.abc import AsyncIterator
 from dataclasses import dataclass
-from pathlib import Path
+from typing import Any
 
-FORMAT = "1"
-"""The form of the log and of the index; a file of another form is refused."""
+from .database import DATABASE_ERRORS, File, Server, said_by, statement
+from .schema import LOG
 
-_SCHEMA = """
-CREATE TABLE IF NOT EXISTS fact (name TEXT PRIMARY KEY, value TEXT NOT NULL) WITHOUT ROWID;
-CREATE TABLE IF NOT EXISTS log (
-    number INTEGER PRIMARY KEY, line TEXT NOT NULL, frame BLOB, answer TEXT NOT NULL, head TEXT NOT NULL, sum TEXT NOT NULL);
-CREATE INDEX IF NOT EXISTS log_verdicts ON log (line) WHERE substr(line, 1, 8) = 'VERDICT ';
-"""
+FORMAT = "2"
+"""The form of the log and of the index; a file of another form is refused, but for one that differs in the index alone."""
+
+_WITH_ANOTHER_INDEX = "1"
+_AT_ONCE, _MOST_AT_ONCE = 100, 5000
+_BYTES_OF_A_PIECE = 4_000_000
+_ENTRIES = "SELECT number, line, frame, answer, head, sum FROM log WHERE number > :whole ORDER BY number LIMIT :count"
 
 
 class LogRefused(Exception):
@@ -39,104 +39,104 @@ def _sum(before: str, line: str, frame: bytes | None, answer: str, head: str) ->
 
 
 class Log:
-    """An open log. Nothing is on the disk before `commit`."""
+    """An open log. Nothing is kept before its database commits."""
 
-    def __init__(self, path: Path) -> None:
-        """Opens the file, which is made where there is none. Raises LogRefused."""
-        self.path = path
-        if not path.parent.is_dir():
-            raise LogRefused(f"{path} cannot be made, since there is no folder {path.parent}")
-        try:
-            self.connection = sqlite3.connect(path, isolation_level=None, timeout=0.5)
-            self._prepare()
-        except sqlite3.Error as error:
-            if "locked" in str(error):
-                raise LogRefused(f"{path} is in use by another process") from error
-            raise LogRefused(f"{path} cannot be used as a log: {error}{self._whole_part()}") from error
+    def __init__(self, home: File | Server, name: str) -> None:
+        self._home, self.name = home, name
+        self._number, self._last_sum = 0, ""
 
-    def _prepare(self) -> None:
-        # one writer: the lock is held as long as the file is open
-        self.connection.execute("PRAGMA locking_mode = EXCLUSIVE")
-        self.connection.execute("PRAGMA journal_mode = WAL")
-        self.connection.execute("PRAGMA synchronous = FULL")
-        self.connection.executescript(f"BEGIN IMMEDIATE; {_SCHEMA} COMMIT;")
-        if self.fact("format") not in (None, FORMAT):
-            raise LogRefused(f"{self.path} has the form {self.fact('format')} of a log; this service reads {FORMAT}")
-        check = self.connection.execute("PRAGMA quick_check(1)").fetchone()[0]
-        if check != "ok":
-            raise LogRefused(f"{self.path} is damaged: {check.splitlines()[0]}{self._whole_part()}")
+    async def is_of_this_form(self) -> bool:
+        """Notes the form in a log that has none. Gives whether the index is of this form too. Raises LogRefused at another form of the log."""
+        form = await self.fact("format")
+        if form not in (None, FORMAT, _WITH_ANOTHER_INDEX):
+            raise LogRefused(f"{self.name} has the form {form} of a log; this service reads {FORMAT}")
+        return form != _WITH_ANOTHER_INDEX
+
+    def note_form(self) -> None:
+        """Notes the form, in the transaction that is open."""
         self.set_fact("format", FORMAT)
-        self._find_last()
 
-    def _find_last(self) -> None:
-        last = self.connection.execute("SELECT number, sum FROM log ORDER BY number DESC LIMIT 1").fetchone() or (0, "")
-        self._number, self._last_sum = int(last[0]), str(last[1])
+    async def find_last(self) -> None:
+        """Reads which entry is the last."""
+        rows = await self._home.rows("SELECT number, sum FROM log ORDER BY number DESC LIMIT 1")
+        self._number, self._last_sum = (int(rows[0][0]), str(rows[0][1])) if rows else (0, "")
 
-    def _whole_part(self) -> str:
+    async def whole_part(self) -> str:
         """How far the entries can be read and have their sums, as an end of a sentence."""
         whole = 0
         try:
-            for entry in self.entries():
+            async for entry in self.entries():
                 whole = entry.number
-        except (sqlite3.Error, LogRefused, AttributeError):
+        except (*DATABASE_ERRORS, LogRefused, AttributeError):
             pass
         return f"; entries up to {whole} are whole" if whole else "; no entry is whole"
 
-    def close(self) -> None:
-        """Closes the file."""
-        self.connection.close()
-
-    def fact(self, name: str) -> str | None:
+    async def fact(self, name: str) -> str | None:
         """What is noted under a name."""
-        row = self.connection.execute("SELECT value FROM fact WHERE name = ?", (name,)).fetchone()
-        return None if row is None else str(row[0])
+        rows = await self._home.rows("SELECT value FROM fact WHERE name = :name", name=name)
+        return str(rows[0][0]) if rows else None
 
     def set_fact(self, name: str, value: str) -> None:
         """Notes a value under a name."""
-        self.connection.execute("INSERT OR REPLACE INTO fact VALUES (?, ?)", (name, value))
+        text = "INSERT INTO fact (name, value) VALUES (:name, :value) ON CONFLICT (name) DO UPDATE SET value = excluded.value"
+        self._home.put(statement(text), {"name": name, "value": value})
 
     @property
     def number(self) -> int:
         """The number of the last entry, 0 where there is none."""
         return self._number
 
-    def has_verdict(self, line: str) -> bool:
+    @property
+    def last(self) -> tuple[int, str]:
+        """Number and sum of the last entry."""
+        return self._number, self._last_sum
+
+    async def has_verdict(self, line: str) -> bool:
         """Whether a VERDICT of this line stands in the log."""
-        found = self.connection.execute("SELECT 1 FROM log WHERE line = ? AND substr(line, 1, 8) = 'VERDICT '", (line,))
-        return found.fetchone() is not None
+        text = "SELECT 1 FROM log WHERE line = :line AND substr(line, 1, 8) = 'VERDICT '"
+        return bool(await self._home.rows(text, line=line))
 
     def append(self, line: str, frame: bytes | None, answer: str, head: str) -> None:
         """Puts an entry behind the others, in the transaction that is open."""
         self._number += 1
         self._last_sum = _sum(self._last_sum, line, frame, answer, head)
-        self.connection.execute("INSERT INTO log VALUES (?, ?, ?, ?, ?, ?)", (self._number, line, frame, answer, head, self._last_sum))
+        row: dict[str, Any] = {"number": self._number, "line": line, "frame": frame, "answer": answer, "head": head, "sum": self._last_sum}
+        self._home.put(LOG.insert(), row)
 
-    def begin(self) -> None:
-        """Begins a transaction where none is open."""
-        if not self.connection.in_transaction:
-            self.connection.execute("BEGIN IMMEDIATE")
+    def pass_on_to(self, last: tuple[int, str]) -> None:
+        """Goes on behind an entry that another node wrote."""
+        self._number, self._last_sum = last
 
-    def commit(self) -> None:
-        """Puts what was written since `begin` on the disk."""
-        if self.connection.in_transaction:
-            self.connection.execute("COMMIT")
-
-    def roll_back(self) -> None:
-        """Drops what was written since `begin`."""
-        if self.connection.in_transaction:
-            self.connection.execute("ROLLBACK")
-        self._find_last()
-
-    def entries(self, after: tuple[int, str] = (0, "")) -> Iterator[Entry]:
-        """The entries behind that of a number and sum, else all, in order. Raises LogRefused where one is missing or has another sum, with the
-        number of the last that is whole."""
+    async def piece(self, after: tuple[int, str], count: int = _AT_ONCE) -> list[Entry]:
+        """At most so many entries behind that of a number and sum. Raises LogRefused where one is missing or has another sum, with the number of
+        the last that is whole."""
         whole, before = after
         try:
-            for row in self.connection.execute("SELECT number, line, frame, answer, head, sum FROM log WHERE number > ? ORDER BY number", (whole,)):
+            found = []
+            for row in await self._home.rows(_ENTRIES, whole=whole, count=count):
                 entry = Entry(*row)
                 if entry.number != whole + 1 or entry.sum != _sum(before, entry.line, entry.frame, entry.answer, entry.head):
-                    raise LogRefused(f"{self.path} is damaged: entry {whole + 1} is not as it was written; entries up to {whole} are whole")
+                    raise self._damaged(f"entry {whole + 1} is not as it was written", whole)
                 before, whole = entry.sum, entry.number
+                found.append(entry)
+            return found
+        except (TypeError, AttributeError) as error:
+            raise self._damaged(str(error), whole) from error
+        except DATABASE_ERRORS as error:
+            if isinstance(self._home, Server):
+                raise
+            raise self._damaged(said_by(error), whole) from error
+
+    def _damaged(self, what: str, whole: int) -> LogRefused:
+        return LogRefused(f"{self.name} is damaged: {what}; entries up to {whole} are whole")
+
+    async def entries(self, after: tuple[int, str] = (0, "")) -> AsyncIterator[Entry]:
+        """The entries behind that of a number and sum, else all, in order. Raises LogRefused as `piece` does."""
+        count = _AT_ONCE
+        while piece := await self.piece(after, count):
+            for entry in piece:
                 yield entry
-        except (sqlite3.Error, TypeError, AttributeError) as error:
-            raise LogRefused(f"{self.path} is damaged: {error}; entries up to {whole} are whole") from error
+            after = piece[-1].number, piece[-1].sum
+            # a piece is as long as memory is not noticed for it
+            length = sum(len(entry.frame or b"") + len(entry.answer) for entry in piece)
+            count = min(2 * count, _MOST_AT_ONCE) if length < _BYTES_OF_A_PIECE else max(1, count // 2)

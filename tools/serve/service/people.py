@@ -1,6 +1,8 @@
 """What is asked of people by several pages: who a word means, who is a member, which certifications live."""
+from collections.abc import Iterable
 from dataclasses import dataclass
 from typing import Any
+from weakref import WeakKeyDictionary
 
 from . import commands, spelling
 from .index import Identity, Index
@@ -69,6 +71,13 @@ async def is_member(turn: Turn, key: str) -> bool:
     return await turn.ask(commands.of_key("DIFF", key)) != ["NONE"]
 
 
+async def members_among(turn: Turn, keys: Iterable[str]) -> set[str]:
+    """Those of some keys that are members', asked for all at once."""
+    asked = list(dict.fromkeys(keys))
+    answers = await turn.ask_all([commands.of_key("DIFF", key) for key in asked])
+    return {key for key, answer in zip(asked, answers) if answer != ["NONE"]}
+
+
 async def difficulty_of(turn: Turn, key: str) -> int | None:
     """The difficulty of a member for the next block."""
     words = (await turn.ask(commands.of_key("DIFF", key)))[0].split(" ")
@@ -86,10 +95,18 @@ async def certifications_of(turn: Turn, key: str) -> tuple[list[LiveCertificatio
 
 def parameters(index: Index) -> dict[str, Any]:
     """The parameters of the currency. Raises a refusal where the chain is empty."""
+    first_hash, kept = index.hash_of(0), _KEPT.get(index)
+    if kept is not None and kept[0] == first_hash:
+        return kept[1]
     first = index.block(0)
-    if first is None:
+    if first is None or first_hash is None:
         raise Refusal(NO_CURRENT_BLOCK, "There is no block yet")
-    return first[0].parameters()
+    found = first[0].parameters()
+    _KEPT[index] = (first_hash, found)
+    return found
+
+
+_KEPT: "WeakKeyDictionary[Index, tuple[str, dict[str, Any]]]" = WeakKeyDictionary()
 
 
 def least_sentry_degree(members: int, steps: int) -> int:
@@ -128,9 +145,9 @@ def written_identity(index: Index, word: str) -> Identity | None:
 
 def found_identities(index: Index, word: str) -> list[Identity]:
     """Written and pending identities that a word finds: a key alone, or names with this part, whole matches first."""
-    pending = index.pending_identities()
     if spelling.is_key(word):
         written = index.identity(word)
-        return ([] if written is None else [written]) + [each for each in pending if each.key == word]
+        return ([] if written is None else [written]) + index.pending_identities(word)
+    pending = index.pending_identities()
     found = index.identities(word) + [each for each in pending if word.lower() in each.uid.lower()]
     return sorted(found, key=lambda each: (each.uid != word, each.uid.lower() != word.lower()))

@@ -85,6 +85,7 @@ _OTHERS = {
     "/node/forge": ("post", "Forges a block now, where the service was started with --forge-on-request."),
     "/node/events": ("get", "Server-sent events: block and pool."),
     "/ws/block": ("get", "A websocket with each new block, the last one first."),
+    "/metrics": ("get", "Numbers of the service, in the text form of Prometheus."),
 }
 
 

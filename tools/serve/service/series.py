@@ -1,8 +1,10 @@
 """Values over time: of each block those that a picture of the currency shows. They are kept in memory, and follow the chain."""
 from dataclasses import dataclass
+from typing import Any
 from weakref import WeakKeyDictionary
 
 from .index import Index, units
+from .people import parameters
 
 MOST_POINTS = 240
 
@@ -44,20 +46,19 @@ class Series:
         if start < index.length():
             for block, source in index.cleared(start):
                 cleared[block] = cleared.get(block, 0) + units(source)
-        for row in index.heads(start):
-            points.append(_point(row, points[-1] if points else None, cleared.get(row[0], 0)))
+        for row in index.values(start):
+            points.append(_point(row, points[-1] if points else None, cleared.get(row[0], 0), index))
         return points
 
 
-def _point(row: tuple[int, str, int, int, str, str], before: Point | None, cleared: int) -> Point:
-    number, block_hash, time, median_time, mass, head = row
-    fields = dict(line.split(": ", 1) for line in head.split("\n") if line)
-    if "UniversalDividend" in fields:
-        dividend = int(fields["UniversalDividend"]) * 10 ** int(fields["UnitBase"])
-    else:
-        dividend = before.dividend if before else int(fields["Parameters"].split(":")[2])
-    of = fields["Issuer"], time, median_time, int(fields["MembersCount"]), int(fields["PoWMin"]), dividend, int(mass)
-    return Point(number, block_hash, *of, cleared + (before.cleared if before else 0))
+def _point(row: tuple[Any, ...], before: Point | None, cleared: int, index: Index) -> Point:
+    dividend, mass = row[-2:]
+    if dividend is None:
+        dividend = before.dividend if before else parameters(index)["ud0"]
+    number, block_hash, issuer, *values = row[:-2]
+    time, median_time, members, pow_min = map(int, values)
+    behind = cleared + (before.cleared if before else 0)
+    return Point(number, block_hash, issuer, time, median_time, members, pow_min, int(dividend), int(mass), behind)
 
 
 _KEPT: "WeakKeyDictionary[Index, Series]" = WeakKeyDictionary()

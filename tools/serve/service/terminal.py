@@ -12,7 +12,8 @@ from urllib.parse import quote
 
 from . import spelling
 from .commands import BadWord
-from .ledger import Lacking, Ledger, Turn, Unavailable
+from .database import is_server, place_of
+from .ledger import Lacking, Ledger, Role, Turn, Unavailable
 from .log import LogRefused
 from .main import PORT
 from .places import FAILED, PROGRAM
@@ -80,13 +81,15 @@ class OverHttp:
 class OverLog:
     """A log alone, replayed into a program of its own."""
 
-    def __init__(self, log: Path, program: Path) -> None:
-        if not log.is_file():
+    def __init__(self, word: str, program: Path) -> None:
+        log = place_of(word)
+        if isinstance(log, Path) and not log.is_file():
             raise Failure(f"{log}: there is no such log")
         self._loop, self._program = asyncio.new_event_loop(), program
         self._pages = {tuple(read.path.strip("/").split("/")): read for read in READS}
         try:
-            self._ledger = self._loop.run_until_complete(Ledger.open(program, log))
+            self._ledger = self._loop.run_until_complete(
+                Ledger.open(program, log, role=Role.FOLLOWER if is_server(log) else Role.WRITER))
         except (LogRefused, ProgramEnded) as error:
             self._loop.close()
             raise Failure(str(error)) from error
@@ -248,7 +251,7 @@ def words(given: list[str] | None = None) -> argparse.Namespace:
     parser = argparse.ArgumentParser(prog="dubp", description=__doc__, epilog=_EPILOG, formatter_class=argparse.RawDescriptionHelpFormatter)
     where = argparse.ArgumentParser(add_help=False)
     where.add_argument("--at", default=f"127.0.0.1:{PORT}", metavar="HOST:PORT", help="the service that is asked (default: %(default)s)")
-    where.add_argument("--log", type=Path, help="ask this log, without a service")
+    where.add_argument("--log", help="ask this log, a file or a database on a server, without a service")
     where.add_argument("--program", type=Path, default=PROGRAM, help="with --log: the built dubp_node (default: that of this repository)")
     where.add_argument("--json", action="store_true", help="write JSON, for scripts")
     asked = parser.add_subparsers(dest="asked", required=True, metavar="QUESTION")

@@ -2,26 +2,28 @@
 import asyncio
 import contextlib
 import time
-from collections.abc import AsyncIterator
-from itertools import islice
+from collections.abc import AsyncIterator, Sequence
 from pathlib import Path
 from typing import Any
 
 from . import commands, people
 from .branch import Branch
+from .index import read_pending
 from .ledger import Lacking, Ledger, Turn, Unavailable
 from .log import Entry, LogRefused
 from .program import Program
 from .refusals import UNHANDLED, Refusal, chapter, sentence
+from .shares import is_of_newcomer, listed_about, newcomer_of
 from .verdicts import Claim, Unreadable, digest, document_claims, is_true, read_block
 from .why_values import values_of
-from .writes import forging_time
+from .writes import forging_time, has_too_many_lines
 
 MOST_WAITING = 8
 """Questions at once; one more is refused for now."""
 
 _BATCH = 200
 _SECONDS_KEPT = 120.0
+_CLAIMS_AT_ONCE = 20
 
 
 class Trial:
@@ -50,23 +52,27 @@ class Trial:
                 await self._stop()
                 raise
 
-    async def document(self, claims: list[commands.Command], raw: bytes, key: str, second: int) -> tuple[str | None, bool]:
+    async def document(
+        self, claims: list[commands.Command], raw: bytes, key: str, second: int, beside: Sequence[bytes] = ()
+    ) -> tuple[str | None, bool]:
         """The rule that refuses a document, or by which the block that the key would forge leaves it out; and whether that block has it.
-        Raises Unavailable where many wait."""
+        `beside` are documents of which the program knows nothing yet, with `claims` of them too. Raises Unavailable where many wait."""
         async with self._place():
             program = await self._ready()
             if program.lacks & {"PEND", "FORGE"}:
                 raise Lacking("PEND" if "PEND" in program.lacks else "FORGE")
             try:
-                return await self._tried(program, claims, raw, key, second)
+                await program.ask_all(claims)
+                added = [text for text in beside if (await program.ask(commands.pend(text)))[0].startswith("PENDING ")]
+                found = await self._tried(program, raw, key, second)
+                for text in added:
+                    await program.ask(commands.unpend(digest(text.decode("latin-1"))))
+                return found
             except BaseException:
                 await self._stop()
                 raise
 
-    async def _tried(
-        self, program: Program, claims: list[commands.Command], raw: bytes, key: str, second: int
-    ) -> tuple[str | None, bool]:
-        await program.ask_all(claims)
+    async def _tried(self, program: Program, raw: bytes, key: str, second: int) -> tuple[str | None, bool]:
         answer = (await program.ask(commands.pend(raw)))[0].split(" ")
         if answer[0] == "REFUSED":
             return answer[1], False
@@ -125,13 +131,14 @@ class Trial:
         the answers are those of the log."""
 
         async def read(_: Turn) -> list[Entry]:
-            return list(islice(self._ledger.log.entries(self._at), _BATCH))
+            return await self._ledger.log.piece(self._at, _BATCH)
 
         try:
             while piece := await self._ledger.turn(read):
-                batch = [(commands.read_changing(entry.line, entry.frame), entry.answer.count("\n") + 1) for entry in piece]
-                answers = await program.again(batch)
-                if ["\n".join(lines) for lines in answers] != [entry.answer for entry in piece]:
+                batch = [(commands.read_changing(entry.line, entry.frame), entry.answer) for entry in piece]
+                told = [(command, answer) for command, answer in batch if not command.is_own]
+                answers = await program.again([(command, answer.count("\n") + 1) for command, answer in told])
+                if ["\n".join(lines) for lines in answers] != [answer for _, answer in told]:
                     return False
                 self._at = (piece[-1].number, piece[-1].sum)
         except LogRefused:
@@ -158,7 +165,7 @@ async def why(ledger: Ledger, trial: Trial, raw: bytes) -> dict[str, Any]:
 
 
 async def _why_block(ledger: Ledger, trial: Trial, raw: bytes) -> dict[str, Any]:
-    claims, false = await ledger.turn(lambda turn: _claims_of(turn, raw))
+    claims, false = await _claims_of(ledger, raw)
     answer = await trial.block(claims, raw)
     rule = answer[1] if answer[0] == "REFUSED" else None
     line = int(answer[2]) if rule == "P01" else None
@@ -167,16 +174,30 @@ async def _why_block(ledger: Ledger, trial: Trial, raw: bytes) -> dict[str, Any]
 
 
 async def _why_document(ledger: Ledger, trial: Trial, raw: bytes) -> dict[str, Any]:
+    if has_too_many_lines(raw):
+        broken = "L18" if raw.split(b"\n", 2)[1] == b"Type: Transaction" else "D01"
+        return {"kind": "document", "accepted": False, **_said(broken), "line": None, "false_signatures_in_lines": [], "values": []}
     try:
         found = document_claims(raw)
     except Unreadable as error:
         values = [{"what": "what a library says of it", "value": str(error), "line": None}]
         return {"kind": "document", "accepted": False, **_said("D01"), "line": None, "false_signatures_in_lines": [], "values": values}
-    claims, false = _split(found)
+    claims, false = await _split(found)
     key, second = await ledger.turn(_forger)
-    rule, is_in = await trial.document(claims, raw, key, second)
+    beside = await ledger.turn(lambda turn: _beside(turn, raw))
+    for text in beside:
+        claims += (await _split(document_claims(text)))[0]
+    rule, is_in = await trial.document(claims, raw, key, second, beside)
     values = await ledger.turn(lambda turn: values_of(turn, raw, rule, false, None))
     return {"kind": found[0].kind, "accepted": is_in, **_said(rule), "line": None, "false_signatures_in_lines": false, "values": values}
+
+
+async def _beside(turn: Turn, raw: bytes) -> list[bytes]:
+    """What waits in the list of the service of the newcomer of whom a document speaks."""
+    pending = read_pending(raw.decode("ascii"))
+    if not is_of_newcomer(turn.index, pending):
+        return []
+    return [each.text.encode("ascii") for each in listed_about(turn.index, newcomer_of(pending)) if each.hash != pending.hash]
 
 
 def _said(rule: str | None) -> dict[str, Any]:
@@ -191,18 +212,26 @@ async def _forger(turn: Turn) -> tuple[str, int]:
     raise Refusal(UNHANDLED, "No block can be forged, since nobody is a member")
 
 
-async def _claims_of(turn: Turn, raw: bytes) -> tuple[list[commands.Command], list[int]]:
-    """The verdicts on a block's signatures, and the lines of those that are false."""
+async def _claims_of(ledger: Ledger, raw: bytes) -> tuple[list[commands.Command], list[int]]:
+    """The verdicts on a block's signatures, and the lines of those that are false. They are found by a thread, so that nobody waits for a long
+    block."""
     try:
-        read = read_block(raw)
+        read = await asyncio.to_thread(read_block, raw)
     except Unreadable:
         return [], []
-    return _split(list(read.claims(Branch(turn.index, read.block.number, read.block.prev_hash))))
+
+    async def work(turn: Turn) -> list[Claim]:
+        return list(read.claims(Branch(turn.index, read.block.number, read.block.prev_hash)))
+
+    return await _split(await ledger.turn(work))
 
 
-def _split(claims: list[Claim]) -> tuple[list[commands.Command], list[int]]:
+async def _split(claims: list[Claim]) -> tuple[list[commands.Command], list[int]]:
+    """The verdicts on true signatures, and the lines of the others. Others are answered meanwhile."""
     true, false = [], []
-    for claim in claims:
+    for place, claim in enumerate(claims):
+        if place % _CLAIMS_AT_ONCE == _CLAIMS_AT_ONCE - 1:
+            await asyncio.sleep(0)
         if is_true(claim):
             assert claim.text is not None
             true.append(commands.verdict(claim.key, digest(claim.text), claim.signature))

@@ -8,8 +8,10 @@ from pathlib import Path
 import generated
 import pytest
 from hypothesis import HealthCheck, settings
+from postgres import Postgres, missing
 from support import PROGRAM, TOOL, Server
 
+from service.copying import copy
 from service.forging import Issuer
 from service.history import entries
 from service.wallet import Wallet
@@ -90,6 +92,40 @@ def forging(serve: Callable[..., Server], currency: Path) -> Server:
 def people(currency: Path) -> dict[str, Wallet]:
     """The four people of the demonstration."""
     return {uid: Wallet(Issuer.from_file(currency / f"{uid}.key"), uid, "demo") for uid in ("alice", "bob", "carol", "dora")}
+
+
+@pytest.fixture(scope="session")
+def postgres(tmp_path_factory: pytest.TempPathFactory) -> Iterator[Postgres]:
+    """A PostgreSQL server of the tests' own."""
+    reason = missing()
+    if reason is not None:
+        pytest.skip(reason)
+    server = Postgres(tmp_path_factory.mktemp("postgres"))
+    yield server
+    server.stop()
+
+
+@pytest.fixture
+def database(postgres: Postgres, currency: Path) -> str:
+    """The address of a database with a copy of the demonstration currency."""
+    address = postgres.make(currency.parent.name)
+    asyncio.run(copy(currency / "log.sqlite", address))
+    return address
+
+
+@pytest.fixture
+def nodes() -> Iterator[Callable[..., Server]]:
+    """Starts servers of any log, and ends them."""
+    started: list[Server] = []
+
+    def start(log: Path | str, *words: str, program: Path = PROGRAM) -> Server:
+        started.append(Server(log, *words, program=program))
+        return started[-1]
+
+    yield start
+    for server in started:
+        if server.process.poll() is None:
+            server.kill()
 
 
 @pytest.fixture

@@ -1,5 +1,4 @@
 """Views over an index of strangers' texts, with a stand-in for the program."""
-import sqlite3
 from collections.abc import Awaitable
 from typing import Any
 
@@ -9,12 +8,15 @@ from support import TOOL
 
 from service import node_pages, trust
 from service.index import Index
+from service.opening import new_local
 from service.ledger import Turn
 from service.page import persons, views, waiting
 from service.page.frame import View, framed
 from service.page.markup import written
 from service.people import State
 from service.refusals import Refusal
+from service.schema import BLOCK, IDENTITY, PENDING
+from service.storage import Storage
 
 EXAMPLE = TOOL.parent / "verdicts" / "example"
 
@@ -23,20 +25,22 @@ class StandIn:
     """A turn over an index of its own, with people, texts and conditions as a test says, and no program."""
 
     def __init__(self, names: list[str], monkeypatch: pytest.MonkeyPatch) -> None:
-        self.index = Index(sqlite3.connect(":memory:", isolation_level=None))
+        local = new_local()
+        self.index = Index(Storage(local))
         self.keys = [generated.key(each) for each in range(len(names))]
-        connection = self.index._connection
         for key, name in zip(self.keys, names):
-            connection.execute("INSERT INTO identity VALUES (?, ?, ?, ?, 0)", (key, name, name, name))
+            local.put(IDENTITY.insert(), {"key": key, "uid": name, "stamp": name, "signature": name, "block": 0})
         lines = (EXAMPLE / "block-0").read_text().split("\n")
         place = lines.index("Transactions:") + 1
         payment = ["TX:10:1:1:1:1:1:0", "0-" + "0" * 64, self.keys[0], "1:0:D:x:1", "0:SIG(0)"]
         body = [line for name in names for line in (*payment, f"1:0:{name}", name, name)]
         block = "\n".join([*lines[:place], *body, *lines[-4:]])
-        connection.execute("INSERT INTO block VALUES (0, ?, ?, 1, 1, '5', ?)", ("0" * 64, self.keys[0], block))
+        values = {"time": 1, "median_time": 1, "members": 1, "pow_min": 0, "dividend": None, "mass": "5"}
+        local.put(BLOCK.insert(), {"number": 0, "hash": "0" * 64, "issuer": self.keys[0], **values, "text": block})
         for place, name in enumerate(names):
-            row = (f"{place:064X}", place, "identity", self.keys[place], name, f"Version: 10\nType: Identity\nComment: {name}\n")
-            connection.execute("INSERT INTO pending VALUES (?, ?, ?, ?, ?, ?)", row)
+            text = f"Version: 10\nType: Identity\nComment: {name}\n"
+            row = {"hash": f"{place:064X}", "place": place, "kind": "identity", "issuer": self.keys[place], "subject": name}
+            local.put(PENDING.insert(), {**row, "stage": "pooled", "text": text})
         states = {key: State(key, name, 0, "MEMBER", 7, 1, 1) for key, name in zip(self.keys, names)}
         received = {key: [trust.LiveCertification(self.keys[place - 1], key, 1, 2, 0)] for place, key in enumerate(self.keys)}
         self.web = trust.Web(states, set(self.keys), received, 3, set(self.keys))

@@ -1,11 +1,14 @@
 """Servers that tests start, and what they ask them."""
+import contextlib
 import http.client
 import json
 import os
 import re
 import signal
+import sqlite3
 import subprocess
 import sys
+import threading
 import time
 from pathlib import Path
 from typing import Any
@@ -13,6 +16,10 @@ from urllib.parse import urlencode
 
 TOOL = Path(__file__).resolve().parents[1]
 sys.path.insert(0, str(TOOL))
+from service.database import File  # noqa: E402
+from service.index import Index  # noqa: E402
+from service.storage import Storage  # noqa: E402
+
 PROGRAM = Path(os.environ.get("DUBP_NODE", TOOL.parents[1] / "crates" / "dubp_node" / "out" / "dubp_node"))
 SECONDS_TO_START = 60
 FORM = {"Content-Type": "application/x-www-form-urlencoded"}
@@ -39,7 +46,7 @@ class Answer:
 class Server:
     """A running `tools/serve/serve`."""
 
-    def __init__(self, log: Path, *words: str, program: Path = PROGRAM) -> None:
+    def __init__(self, log: Path | str, *words: str, program: Path = PROGRAM) -> None:
         self.said: list[str] = []
         command = [str(TOOL / "serve"), "--program", str(program), "--log", str(log), "--port", "0", *words]
         self.process = subprocess.Popen(command, stderr=subprocess.PIPE, text=True)
@@ -53,10 +60,15 @@ class Server:
                 break
         else:
             raise AssertionError(f"the service did not start: {self.said}")
+        # what nobody reads would hold it up
+        self._reading = threading.Thread(target=lambda: self.said.extend(self.process.stderr or ()), daemon=True)
+        self._reading.start()
 
-    def ask(self, method: str, path: str, body: bytes | None = None, headers: dict[str, str] | None = None) -> Answer:
-        """One request over a connection of its own."""
-        connection = http.client.HTTPConnection("127.0.0.1", self.port, timeout=60)
+    def ask(
+        self, method: str, path: str, body: bytes | None = None, headers: dict[str, str] | None = None, address: str = "127.0.0.1"
+    ) -> Answer:
+        """One request over a connection of its own, from some address of this machine."""
+        connection = http.client.HTTPConnection("127.0.0.1", self.port, timeout=60, source_address=(address, 0))
         try:
             connection.request(method, path, body, headers or {})
             return Answer(connection.getresponse())
@@ -86,9 +98,14 @@ class Server:
         """Ends it as its manager does. Gives the status."""
         self.process.send_signal(signal.SIGTERM)
         status = self.process.wait(timeout=30)
-        assert self.process.stderr is not None
-        self.said += self.process.stderr.readlines()
+        self._reading.join()
         return status
+
+    def failed(self) -> str:
+        """What it said that ended by itself with status 1."""
+        assert self.process.wait(timeout=30) == 1
+        self._reading.join()
+        return "".join(self.said)
 
     def __enter__(self) -> "Server":
         return self
@@ -98,12 +115,20 @@ class Server:
             self.stop()
 
 
-def fails_to_start(log: Path, *words: str, program: Path = PROGRAM) -> str:
+def fails_to_start(log: Path | str, *words: str, program: Path = PROGRAM) -> str:
     """What a service says that ends with status 1 before it listens."""
     command = [str(TOOL / "serve"), "--program", str(program), "--log", str(log), "--port", "0", *words]
     done = subprocess.run(command, stderr=subprocess.PIPE, text=True, timeout=SECONDS_TO_START, check=False)
     assert done.returncode == 1, (done.returncode, done.stderr)
     return done.stderr
+
+
+def index_of(log: Path) -> Index:
+    """A copy of the index in the file of a log."""
+    local = File()
+    with contextlib.closing(sqlite3.connect(log)) as source:
+        source.backup(local._raw)
+    return Index(Storage(local))
 
 
 def until(condition: Any, seconds: float = 30.0) -> None:

@@ -1,16 +1,13 @@
 """Reversal and switches: the index goes with the program, and what is told is what a service that never knew the other branch tells."""
 import asyncio
-import contextlib
 import shutil
-import sqlite3
 from pathlib import Path
 
-from support import PROGRAM
+from support import PROGRAM, index_of
 
 from service import commands
 from service.blocks import digest
 from service.forging import Issuer, draft, submit_own
-from service.index import Index
 from service.ledger import Ledger, Turn
 from service.miner import search
 from service.wallet import Wallet
@@ -70,7 +67,7 @@ def test_a_switch_there_and_back(currency: Path) -> None:
 
 async def _give(ledger: Ledger, blocks: list[bytes], source: Ledger) -> None:
     """Gives another ledger the verdicts of a first one, and then blocks."""
-    lines = [entry for entry in source.log.entries() if entry.line.startswith("VERDICT ")]
+    lines = [entry async for entry in source.log.entries() if entry.line.startswith("VERDICT ")]
 
     async def work(turn: Turn) -> None:
         for entry in lines:
@@ -118,8 +115,7 @@ def test_work_that_fails_half_way_keeps_log_and_index_in_step(currency: Path) ->
             pass
         assert ledger.index.length() == length - 1
         await ledger.close()
-        with contextlib.closing(sqlite3.connect(currency / "log.sqlite")) as connection:
-            assert Index(connection).length() == length - 1
+        assert index_of(currency / "log.sqlite").length() == length - 1
         again = await Ledger.open(PROGRAM, currency / "log.sqlite")
         assert again.index.length() == length - 1
         await again.close()

@@ -9,16 +9,16 @@ from support import PROGRAM, Server
 
 from service import commands, web
 from service.ledger import Ledger, Turn, Unavailable
+from service.limits import Limits
 from service.web import Service, start
 
 
 def test_slow_bodies_and_many_streams(tmp_path: Path, monkeypatch: pytest.MonkeyPatch) -> None:
-    monkeypatch.setattr(web, "SECONDS_FOR_BODY", 0.3)
     monkeypatch.setattr(web, "MOST_STREAMS", 2)
 
     async def story() -> None:
         ledger = await Ledger.open(PROGRAM, tmp_path / "log.sqlite")
-        runner, port = await start(Service(ledger, PROGRAM), "127.0.0.1", 0)
+        runner, port = await start(Service(ledger, PROGRAM, limits=Limits(seconds_for_body=1)), "127.0.0.1", 0)
         reader, writer = await asyncio.open_connection("127.0.0.1", port)
         writer.write(b"POST /tx/process HTTP/1.1\r\nHost: x\r\nContent-Length: 1000\r\n\r\ntransaction=")
         assert (await asyncio.wait_for(reader.readline(), 30)).startswith(b"HTTP/1.1 408 ")
@@ -53,13 +53,13 @@ def test_a_program_without_memory_is_503(example_log: Path, tmp_path: Path) -> N
 def test_a_disk_that_fails_loses_nothing(example_log: Path, monkeypatch: pytest.MonkeyPatch) -> None:
     async def story() -> None:
         ledger = await Ledger.open(PROGRAM, example_log)
-        before, commit = ledger.index.dump(), ledger.log.commit
+        before, commit = ledger.index.dump(), ledger._storage.commit
 
-        def fails() -> None:
-            monkeypatch.setattr(ledger.log, "commit", commit)
+        async def fails() -> None:
+            monkeypatch.setattr(ledger._storage, "commit", commit)
             raise sqlite3.OperationalError("database or disk is full")
 
-        monkeypatch.setattr(ledger.log, "commit", fails)
+        monkeypatch.setattr(ledger._storage, "commit", fails)
         with pytest.raises(Unavailable):
             await ledger.turn(lambda turn: turn.change(commands.revert(1)))
         # neither the index nor the program has it

@@ -9,9 +9,8 @@ from collections.abc import Callable
 from pathlib import Path
 
 import pytest
-from support import PROGRAM, Server, fails_to_start, until
+from support import PROGRAM, Server, fails_to_start, index_of, until
 
-from service.index import Index
 from service.wallet import Wallet
 
 PAGES = ("/node/head", "/node/money", "/blockchain/current", "/wot/members", "/node/pool", "/node/branches")
@@ -39,8 +38,7 @@ def test_a_start_finds_what_was_there(serve: Callable[..., Server], currency: Pa
 
 def test_the_index_is_a_function_of_the_log(serve: Callable[..., Server], currency: Path) -> None:
     def dump() -> dict[str, list[tuple[object, ...]]]:
-        with contextlib.closing(sqlite3.connect(currency / "log.sqlite")) as connection:
-            return Index(connection).dump()
+        return index_of(currency / "log.sqlite").dump()
 
     before = dump()
     assert len(before["block"]) == 27 and len(before["stored"]) == 2 and before["move"] and before["certification"]
@@ -107,3 +105,26 @@ def test_a_program_that_ends_is_started_again(forging: Server, people: dict[str,
     until(lambda: forging.get(f"/wot/lookup/{people['bob'].uid}").status == 200)
     assert _all(forging, people) == before
     assert forging.forge().startswith("27-")
+
+
+def test_a_log_of_an_earlier_form_gets_a_new_index(serve: Callable[..., Server], currency: Path) -> None:
+    before = index_of(currency / "log.sqlite").dump()
+    with contextlib.closing(sqlite3.connect(currency / "log.sqlite")) as connection:
+        connection.executescript("UPDATE fact SET value = '1'; DROP TABLE move; CREATE TABLE move (condition TEXT, block INTEGER); DROP TABLE block;")
+    with serve() as server:
+        assert server.get("/node/head").json["number"] == 26
+    assert index_of(currency / "log.sqlite").dump() == before
+    with contextlib.closing(sqlite3.connect(currency / "log.sqlite")) as connection:
+        assert connection.execute("SELECT value FROM fact").fetchall() == [("2",)]
+        with connection:
+            connection.execute("UPDATE fact SET value = '3'")
+    assert "has the form 3 of a log" in fails_to_start(currency / "log.sqlite")
+
+
+def test_a_switch_by_hand(serve: Callable[..., Server], currency: Path) -> None:
+    lost = index_of(currency / "log.sqlite").all_stored()
+    with serve("--switch", lost[1].stamp) as server:
+        assert server.get("/node/head").json["stamp"] == lost[1].stamp
+        assert any(f"SWITCHED {lost[1].stamp}" in line for line in server.said)
+    assert "No switch to 5-" in fails_to_start(currency / "log.sqlite", "--switch", f"5-{'0' * 64}")
+    assert "stamp is not spelled so" in fails_to_start(currency / "log.sqlite", "--switch", "5")

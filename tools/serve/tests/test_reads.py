@@ -1,9 +1,7 @@
 """The reads of BMA: their schemas are those of Debian's duniterpy, their values those of the program and of the blocks."""
-import contextlib
 import copy
 import hashlib
 import json
-import sqlite3
 import subprocess
 from collections.abc import Callable, Iterator
 from pathlib import Path
@@ -12,10 +10,9 @@ from typing import Any
 import jsonschema
 import pytest
 from duniterpy.api.bma import blockchain, node, tx, ud, wot
-from support import PROGRAM, TOOL, Server
+from support import PROGRAM, TOOL, Server, index_of
 
 from service.demo import new_wallet
-from service.index import Index
 from service.wallet import Wallet
 
 EXAMPLE = TOOL.parent / "verdicts" / "example"
@@ -237,12 +234,11 @@ def test_moves_of_the_index_are_those_of_the_program(serve: Callable[..., Server
         blocks = server.get("/blockchain/blocks/50/0").json
         keys = [each["pubkey"] for each in server.get("/wot/members").json["results"]]
         told = {key: server.get(f"/node/accounts/{key}").json["moves"] for key in keys}
-    with contextlib.closing(sqlite3.connect(currency / "log.sqlite")) as connection:
-        index = Index(connection)
-        for key, moves in told.items():
-            assert [vars(move) for move in index.moves(f"SIG({key})")] == [
-                {name: move[name] for name in ("block", "kind", "source", "balance")} for move in moves
-            ]
+    index = index_of(currency / "log.sqlite")
+    for key, moves in told.items():
+        assert [vars(move) for move in index.moves(f"SIG({key})")] == [
+            {name: move[name] for name in ("block", "kind", "source", "balance")} for move in moves
+        ]
     made = [each for each in told[keys[0]] if ":D:" in each["source"] and each["kind"] == "MADE"]
     assert sum(block["dividend"] is not None for block in blocks) == len(made)
 

@@ -3,11 +3,10 @@ import asyncio
 import hashlib
 from collections.abc import Awaitable, Callable
 from pathlib import Path
-from urllib.parse import parse_qs
 
 from aiohttp import web
 
-from .. import bma_chain
+from .. import bma_chain, forms
 from ..ledger import Lacking, Ledger, Turn, Unavailable
 from ..refusals import UNHANDLED, Refusal
 from ..series import series
@@ -164,11 +163,11 @@ async def _asked(request: web.Request) -> str:
     if request.content_length is None or request.content_length > _LONGEST_BODY:
         raise Refusal(UNHANDLED, "The text is too long for a block", 413)
     body = await asyncio.wait_for(request.read(), _SECONDS_FOR_BODY)
+
     try:
-        fields = parse_qs(body.decode("ascii"), keep_blank_values=True, encoding="utf-8", errors="replace", max_num_fields=16)
+        return forms.fields(body).get(waiting.FORM_NAME, b"").decode("utf-8", "replace").replace("\r\n", "\n")
     except ValueError as error:
         raise Refusal(UNHANDLED, "The body is no form") from error
-    return fields.get(waiting.FORM_NAME, [""])[0].replace("\r\n", "\n")
 
 
 def _html(status: int, body: bytes) -> web.Response:

@@ -1,5 +1,5 @@
 use Rattle.std.proofs.Common.{reverse, subst}
-use Rattle.dubp_validity.specs.Rules.{Holds}
+use Rattle.dubp_judge.specs.Asking.{Asks}
 use Rattle.dubp_judge.specs.Judged.{Opened}
 use Rattle.dubp_judge.proofs.Orders.{opening_breaks}
 use Rattle.dubp_judge.proofs.judging.judge_over.Goals as goal
@@ -8,4 +8,4 @@ pub returns-in-Breaks : goal.returns-in-Breaks
 returns-in-Breaks g c =
     let v = c.args.verdicts.now in
     let chain = reverse c.args.blocks.now in
-    opening_breaks (Holds v chain c.args.block.now) c.in-Breaks.rule (subst (Opened v chain c.args.block.now) c.in-Breaks.is c.in_ok-rule.ensures)
+    opening_breaks (Asks c.args.asked v chain c.args.block.now) c.in-Breaks.rule (subst (Opened c.args.asked v chain c.args.block.now) c.in-Breaks.is c.in_ok-rule.ensures)

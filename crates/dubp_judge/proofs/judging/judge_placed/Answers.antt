@@ -1,29 +1,31 @@
-use Rattle.std.proofs.Common.{◌≡◌, ◌∙◌, reverse, arith}
-use Rattle.dubp_validity.specs.Rules.{Holds}
+use Rattle.std.proofs.Common.{◌≡◌, ◌∙◌, Some, refl, reverse, arith}
 use Rattle.dubp_head.specs.Laws.{members_with}
+use Rattle.dubp_head.specs.Following.{limit_rules}
+use Rattle.dubp_judge.specs.Asking.{Asks}
 use Rattle.dubp_judge.proofs.Orders.{limit_breaks}
+use Rattle.dubp_judge.proofs.Asking.{others_asked}
 use Rattle.dubp_judge.proofs.Heads.{range_with, over_with, are_heads_with, may_follow_with, limit_found, limits_hold, members_by}
 use Rattle.dubp_judge.proofs.judging.judge_placed.Goals as goal
 
 pub augment_over-requires-clause-valid : goal.augment_over-requires-clause-valid
 augment_over-requires-clause-valid g c =
     let r = c.requires in
-    range_with c.args.verdicts.now (reverse c.args.blocks.now) c.args.block.now c.args.heads.now c.args.params.now r.known r.text r.opening r.params
+    range_with c.args.asked c.args.verdicts.now (reverse c.args.blocks.now) c.args.block.now c.args.heads.now c.args.params.now r.known r.text r.opening r.params
 
 pub augment_over-requires-clause-over : goal.augment_over-requires-clause-over
 augment_over-requires-clause-over g c =
     let r = c.requires in
-    over_with c.args.verdicts.now (reverse c.args.blocks.now) c.args.block.now c.args.heads.now c.args.params.now r.known r.text r.opening r.params
+    over_with c.args.asked c.args.verdicts.now (reverse c.args.blocks.now) c.args.block.now c.args.heads.now c.args.params.now r.known r.text r.opening r.params
 
 pub augment_over-requires-clause-heads : goal.augment_over-requires-clause-heads
 augment_over-requires-clause-heads g c =
     let r = c.requires in
-    are_heads_with c.args.verdicts.now (reverse c.args.blocks.now) c.args.block.now c.args.heads.now c.args.params.now r.known r.text r.opening r.params
+    are_heads_with c.args.asked c.args.verdicts.now (reverse c.args.blocks.now) c.args.block.now c.args.heads.now c.args.params.now r.known r.text r.opening r.params
 
 pub augment_over-requires-clause-block : goal.augment_over-requires-clause-block
 augment_over-requires-clause-block g c =
     let r = c.requires in
-    may_follow_with c.args.verdicts.now (reverse c.args.blocks.now) c.args.block.now c.args.heads.now c.args.params.now r.known r.text r.opening r.params
+    may_follow_with c.args.asked c.args.verdicts.now (reverse c.args.blocks.now) c.args.block.now c.args.heads.now c.args.params.now r.known r.text r.opening r.params
     c.in_ok-members.members r.short (omega (arith, c.if-members-gt-MOST_MEMBERS.false))
 
 pub returns-in-Err : goal.returns-in-Err
@@ -33,8 +35,10 @@ returns-in-Err g c =
     let b = c.args.block.now in
     let r = c.requires in
     let count : c.in_ok-members.members ≡ members_with chain b = c.in_ok-members.ensures chain r.at r.known.sound in
-    limit_breaks (Holds v chain b) c.in-Err.passed.rule r.opening r.place
-    (limit_found v chain b c.args.heads.now c.args.params.now r.known r.text r.opening r.params c.in_ok-members.members count c.in-Err.passed.rule c.in-Err.ensures.passed.first)
+    let asked = c.args.asked in
+    let rule = c.in-Err.passed.rule in
+    let found = limit_found asked v chain b c.args.heads.now c.args.params.now r.known r.text r.opening r.params c.in_ok-members.members count rule c.in-Err.ensures.passed.first in
+    limit_breaks (Asks asked v chain b) rule r.opening r.place (others_asked v chain b asked limit_rules (Some rule) refl found)
 
 pub judge_headed-requires-clause-count : goal.judge_headed-requires-clause-count
 judge_headed-requires-clause-count g c =
@@ -49,11 +53,11 @@ judge_headed-requires-clause-limits g c =
     let b = c.args.block.now in
     let r = c.requires in
     let count : c.in_ok-members.members ≡ members_with chain b = c.in_ok-members.ensures chain r.at r.known.sound in
-    limits_hold v chain b c.args.heads.now c.args.params.now r.known r.text r.opening r.params c.in_ok-members.members count c.in-Ok.ensures.head.1
+    limits_hold c.args.asked v chain b c.args.heads.now c.args.params.now r.known r.text r.opening r.params c.in_ok-members.members count c.in-Ok.ensures.head.1
 
 pub judge_headed-requires-clause-follows : goal.judge_headed-requires-clause-follows
 judge_headed-requires-clause-follows g c =
     let r = c.requires in
     let same = members_by c.args.params.now c.in_ok-members.members c.args.heads.now.list c.args.block.now c.in-Ok.head c.in-Ok.ensures.head.0 in
-    may_follow_with c.args.verdicts.now (reverse c.args.blocks.now) c.args.block.now c.args.heads.now c.args.params.now r.known r.text r.opening r.params
+    may_follow_with c.args.asked c.args.verdicts.now (reverse c.args.blocks.now) c.args.block.now c.args.heads.now c.args.params.now r.known r.text r.opening r.params
     c.in-Ok.head.members r.short (omega (arith, c.if-members-gt-MOST_MEMBERS.false, same))

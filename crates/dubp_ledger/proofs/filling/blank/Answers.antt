@@ -1,6 +1,6 @@
 use Rattle.std.proofs.Common.{refl}
 use Rattle.dubp_atoms.specs.Letters.{is_sig}
-use Rattle.dubp_ledger.specs.Filled.{blank_sig}
+use Rattle.dubp_forging.specs.Filled.{blank_sig}
 use Rattle.dubp_ledger.proofs.Filled.{is_read}
 use Rattle.dubp_ledger.proofs.filling.blank.Goals as goal
 

@@ -1,6 +1,9 @@
 use Rattle.std.proofs.Common.{arith}
-use Rattle.dubp_session.proofs.Items.{line_turn}
+use Rattle.dubp_session.proofs.Items.{line_turn, timely}
 use Rattle.dubp_session.proofs.serving.answer_line.Goals as goal
+
+pub act-requires : goal.act-requires
+act-requires g c = timely c.in-Some.command c.in-Some.ensures.found.0
 
 pub returns-in-Some : goal.returns-in-Some
 returns-in-Some g c = λ whole.

@@ -1,5 +1,5 @@
 use Rattle.std.proofs.Common.{◌∙◌, List, ℕ, subst, sym}
-use Rattle.dubp_replay.specs.OfMoves.{IsStatement, account_of}
+use Rattle.dubp_account.specs.OfReplay.{IsStatement, account_of}
 use Rattle.dubp_account.specs.Tallies.{IsTallyOf}
 use Rattle.dubp_statement.proofs.moves.statement.Goals as goal
 

@@ -1,6 +1,6 @@
 use Rattle.std.proofs.Common.{subst, sym, arith}
 use Rattle.dubp_chain.specs.Chains.{Chain}
-use Rattle.dubp_replay.specs.OfMoves.{account_of}
+use Rattle.dubp_account.specs.OfReplay.{account_of}
 use Rattle.dubp_account.specs.Tallies.{IsTallyOf}
 use Rattle.dubp_statement.proofs.Fronts.{all_first, none_first}
 use Rattle.dubp_statement.proofs.moves.tally_of.Goals as goal

@@ -4,7 +4,7 @@ use Rattle.dubp_atoms.specs.Letters.{is_key}
 use Rattle.dubp_block.specs.Text.{IsBlock}
 use Rattle.dubp_chain.specs.Heads.{heads_of}
 use Rattle.dubp_head.specs.Following.{MayFollow}
-use Rattle.dubp_ledger.specs.Filled.{IsFilled}
+use Rattle.dubp_forging.specs.Filled.{IsFilled}
 use Rattle.dubp_ledger.specs.Filling.{IsStated, hashed, stating}
 use Rattle.dubp_ledger.proofs.Filled.{is_filled, may_follow, last_version, some_head, some_first, first_params, first_currency}
 use Rattle.dubp_ledger.proofs.Excluded.{kicked_are_keys}

@@ -13,6 +13,6 @@ invariant_of-self g c = held_left c.act_block-answer.new.self.store c.self.insid
 pub returns : goal.returns
 returns g c =
     let s = c.self.inside in
-    let old = state_with s.branches s.auto s.failures.items in
-    subst (λ (x : State). Acts x (Block c.args.len) c.args.frame.now (answer_bytes c.act_block-answer.result) (state_with c.act_block-answer.new.self s.auto c.let_go.new.failures.items)) c.self.view_is
+    let old = state_with s.pool s.branches s.auto s.failures.items in
+    subst (λ (x : State). Acts x (Block c.args.len) c.args.frame.now (answer_bytes c.act_block-answer.result) (state_with s.pool c.act_block-answer.new.self s.auto c.let_go.new.failures.items)) c.self.view_is
     (acts_on old (Block c.args.len) c.args.frame.now (answer_bytes c.act_block-answer.result) c.act_block-answer.new.self c.let_go.new.failures.items tt c.self.invariant c.let_go.ensures c.act_block-answer.ensures)

@@ -16,7 +16,7 @@ pub returns-clause-given : goal.returns-clause-given
 returns-clause-given g c =
     let s = c.self.inside in
     let b = c.give_verdict.new.self in
-    let new = state_with b s.auto s.failures.items in
+    let new = state_with s.pool b s.auto s.failures.items in
     let held = held_same s.branches.store b.store s.failures.items c.self.invariant (ap (λ (b : Branches). b.store) c.in_ok-give_verdict.ensures.given) in
     subst (λ (x : State). IsGivenAll (verdict_given c.args.given ∷ []) x new) c.self.view_is
-    (given_one (verdict_given c.args.given) noted_answer (state_with s.branches s.auto s.failures.items) new (b, (refl, c.in_ok-give_verdict.ensures.given), ap (state_with b s.auto) (sym held)))
+    (given_one (verdict_given c.args.given) noted_answer (state_with s.pool s.branches s.auto s.failures.items) new (b, (refl, c.in_ok-give_verdict.ensures.given), ap (state_with s.pool b s.auto) (sym held)))

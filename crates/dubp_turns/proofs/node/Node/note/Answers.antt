@@ -14,6 +14,6 @@ invariant_of-self g c = held_same c.self.inside.branches.store c.note.new.self.s
 pub returns : goal.returns
 returns g c = λ frame.
     let s = c.self.inside in
-    let old = state_with s.branches s.auto s.failures.items in
-    subst (λ (x : State). Acts x (Verdict c.args.key c.args.hash c.args.sig) frame (answer_bytes c.note.result) (state_with c.note.new.self s.auto s.failures.items)) c.self.view_is
+    let old = state_with s.pool s.branches s.auto s.failures.items in
+    subst (λ (x : State). Acts x (Verdict c.args.key c.args.hash c.args.sig) frame (answer_bytes c.note.result) (state_with s.pool c.note.new.self s.auto s.failures.items)) c.self.view_is
     (acts_aside old (Verdict c.args.key c.args.hash c.args.sig) frame (answer_bytes c.note.result) c.note.new.self tt c.self.invariant c.note.ensures.store (c.note.ensures.acts frame))

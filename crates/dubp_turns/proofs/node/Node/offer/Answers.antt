@@ -9,36 +9,36 @@ use Rattle.dubp_turns.proofs.node.Node.offer.Goals as goal
 pub invariant_of-self : goal.invariant_of-self
 invariant_of-self g c =
     let s = c.self.inside in
-    kept_behind (state_with s.branches s.auto s.failures.items) c.self.invariant c.args.frame.now c.in-Ok.stamp c.store_block.new.self c.in-Ok.ensures.offered c.store_block.ensures.same
+    kept_behind (state_with s.pool s.branches s.auto s.failures.items) c.self.invariant c.args.frame.now c.in-Ok.stamp c.store_block.new.self c.in-Ok.ensures.offered c.store_block.ensures.same
 
 pub returns-then-not-self : goal.returns-then-not-self
 returns-then-not-self g c = λ short.
     let s = c.self.inside in
-    subst (λ (x : State). OfferActs x c.args.frame.now (answer_bytes c.offer_answer.result) (state_with c.store_block.new.self s.auto s.failures.items)) c.self.view_is
-    (offer_quietly (state_with s.branches s.auto s.failures.items) c.self.invariant c.args.frame.now c.in-Ok.stamp c.store_block.new.self c.in-Ok.ensures.offered c.store_block.ensures.same
+    subst (λ (x : State). OfferActs x c.args.frame.now (answer_bytes c.offer_answer.result) (state_with s.pool c.store_block.new.self s.auto s.failures.items)) c.self.view_is
+    (offer_quietly (state_with s.pool s.branches s.auto s.failures.items) c.self.invariant c.args.frame.now c.in-Ok.stamp c.store_block.new.self c.in-Ok.ensures.offered c.store_block.ensures.same
     (answer_bytes c.offer_answer.result) c.offer_answer.ensures c.if-not-self.true)
 
 pub choose_behind-requires : goal.choose_behind-requires
 choose_behind-requires g c =
     let s = c.self.inside in
-    kept_behind (state_with s.branches s.auto s.failures.items) c.self.invariant c.args.frame.now c.in-Ok.stamp c.store_block.new.self c.in-Ok.ensures.offered c.store_block.ensures.same
+    kept_behind (state_with s.pool s.branches s.auto s.failures.items) c.self.invariant c.args.frame.now c.in-Ok.stamp c.store_block.new.self c.in-Ok.ensures.offered c.store_block.ensures.same
 
 pub invariant_of-self-in-Ok : goal.invariant_of-self-in-Ok
 invariant_of-self-in-Ok g c =
     let s = c.self.inside in
-    held_behind (state_with s.branches s.auto s.failures.items) c.self.invariant c.args.frame.now c.in-Ok.stamp c.store_block.new.self c.in-Ok.ensures.offered c.store_block.ensures.same
+    held_behind (state_with s.pool s.branches s.auto s.failures.items) c.self.invariant c.args.frame.now c.in-Ok.stamp c.store_block.new.self c.in-Ok.ensures.offered c.store_block.ensures.same
     (answer_bytes c.choose_behind.result) c.choose_behind.new.branches c.choose_behind.new.failures.items c.choose_behind.ensures
 
 pub returns-else-not-self : goal.returns-else-not-self
 returns-else-not-self g c = λ short.
     let s = c.self.inside in
-    subst (λ (x : State). OfferActs x c.args.frame.now (answer_bytes c.choose_behind.result) (state_with c.choose_behind.new.branches s.auto c.choose_behind.new.failures.items)) c.self.view_is
-    (offer_chooses (state_with s.branches s.auto s.failures.items) c.self.invariant c.args.frame.now c.in-Ok.stamp c.store_block.new.self c.in-Ok.ensures.offered c.store_block.ensures.same
+    subst (λ (x : State). OfferActs x c.args.frame.now (answer_bytes c.choose_behind.result) (state_with s.pool c.choose_behind.new.branches s.auto c.choose_behind.new.failures.items)) c.self.view_is
+    (offer_chooses (state_with s.pool s.branches s.auto s.failures.items) c.self.invariant c.args.frame.now c.in-Ok.stamp c.store_block.new.self c.in-Ok.ensures.offered c.store_block.ensures.same
     (answer_bytes c.choose_behind.result) c.choose_behind.new.branches c.choose_behind.new.failures.items c.choose_behind.ensures c.if-not-self.false)
 
 pub returns-in-Err : goal.returns-in-Err
 returns-in-Err g c = λ short.
     let s = c.self.inside in
-    subst (λ (x : State). OfferActs x c.args.frame.now (answer_bytes c.offer_answer-in-Err.result) (state_with c.store_block.new.self s.auto s.failures.items)) c.self.view_is
-    (offer_refused (state_with s.branches s.auto s.failures.items) c.self.invariant c.args.frame.now (answer_bytes c.offer_answer-in-Err.result) c.in-Err.refusal c.store_block.new.self c.in-Err.ensures.offered c.store_block.ensures.same
+    subst (λ (x : State). OfferActs x c.args.frame.now (answer_bytes c.offer_answer-in-Err.result) (state_with s.pool c.store_block.new.self s.auto s.failures.items)) c.self.view_is
+    (offer_refused (state_with s.pool s.branches s.auto s.failures.items) c.self.invariant c.args.frame.now (answer_bytes c.offer_answer-in-Err.result) c.in-Err.refusal c.store_block.new.self c.in-Err.ensures.offered c.store_block.ensures.same
     c.offer_answer-in-Err.ensures)

@@ -14,6 +14,6 @@ invariant_of-self g c = held_same c.self.inside.branches.store c.revert.new.self
 pub returns : goal.returns
 returns g c = λ frame.
     let s = c.self.inside in
-    let old = state_with s.branches s.auto s.failures.items in
-    subst (λ (x : State). Acts x (Revert c.args.count) frame (answer_bytes c.revert.result) (state_with c.revert.new.self s.auto s.failures.items)) c.self.view_is
+    let old = state_with s.pool s.branches s.auto s.failures.items in
+    subst (λ (x : State). Acts x (Revert c.args.count) frame (answer_bytes c.revert.result) (state_with s.pool c.revert.new.self s.auto s.failures.items)) c.self.view_is
     (acts_aside old (Revert c.args.count) frame (answer_bytes c.revert.result) c.revert.new.self tt c.self.invariant c.revert.ensures.store (c.revert.ensures.acts frame))

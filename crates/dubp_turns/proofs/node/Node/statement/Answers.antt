@@ -10,6 +10,6 @@ use Rattle.dubp_turns.proofs.node.Node.statement.Goals as goal
 pub returns : goal.returns
 returns g c = λ frame.
     let s = c.self.inside in
-    let old = state_with s.branches s.auto s.failures.items in
+    let old = state_with s.pool s.branches s.auto s.failures.items in
     subst (λ (x : State). Acts x (Statement c.args.cond.now) frame (answer_bytes c.statement.result) x) c.self.view_is
     (acts_aside old (Statement c.args.cond.now) frame (answer_bytes c.statement.result) s.branches tt c.self.invariant refl (c.statement.ensures frame))

@@ -13,6 +13,6 @@ invariant_of-self g c = held_left c.switch-answer.new.self.store c.self.inside.f
 pub returns : goal.returns
 returns g c = λ frame.
     let s = c.self.inside in
-    let old = state_with s.branches s.auto s.failures.items in
-    subst (λ (x : State). Acts x (Switch c.args.stamp) frame (answer_bytes c.switch-answer.result) (state_with c.switch-answer.new.self s.auto c.let_go.new.failures.items)) c.self.view_is
+    let old = state_with s.pool s.branches s.auto s.failures.items in
+    subst (λ (x : State). Acts x (Switch c.args.stamp) frame (answer_bytes c.switch-answer.result) (state_with s.pool c.switch-answer.new.self s.auto c.let_go.new.failures.items)) c.self.view_is
     (acts_on old (Switch c.args.stamp) frame (answer_bytes c.switch-answer.result) c.switch-answer.new.self c.let_go.new.failures.items tt c.self.invariant c.let_go.ensures (c.switch-answer.ensures frame))

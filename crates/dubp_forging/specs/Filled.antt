@@ -1,5 +1,5 @@
--- The block that a draft becomes behind a chain that has blocks: it gets its header and its exclusions. Protocol: the generator.
-use Rattle.std.specs.Prelude.{◌≡◌, ◌⊎◌, [], ◌++◌, codes, length, replicate, Option, Some, None, All}
+-- The block that a draft becomes behind a chain that has blocks: it gets its header and its exclusions. Protocol: forging; the generator.
+use Rattle.std.specs.Prelude.{◌≡◌, ◌⊎◌, [], ◌∷◌, ◌++◌, codes, length, replicate, Option, Some, None, All}
 use Rattle.dubp_atoms.specs.Same.{Text}
 use Rattle.dubp_atoms.specs.Spelling.{IsNumber}
 use Rattle.dubp_atoms.specs.Hashing.{hash_of}
@@ -9,11 +9,11 @@ use Rattle.dubp_block.specs.Text.{inner_text}
 use Rattle.dubp_block.specs.declared.block.Block.{Block}
 use Rattle.dubp_rules.specs.declared.rule.Rule.TheVariants.{X03, X04, X08}
 use Rattle.dubp_chain.specs.declared.head.Head.{Head}
-use Rattle.dubp_chain.specs.Chains.{Chain, currency}
-use Rattle.dubp_chain.specs.Heads.{head_of, unit_base_of}
+use Rattle.dubp_chain.specs.Chains.{Chain, currency, params}
+use Rattle.dubp_chain.specs.Heads.{head_of, heads_of, next_head, unit_base_of}
 use Rattle.dubp_chain.specs.Live.{kick}
+use Rattle.dubp_chain.specs.Members.{members}
 use Rattle.dubp_validity.specs.Rules.{Holds}
-use Rattle.dubp_head.specs.Laws.{head_with}
 
 -- the time and the lines of a draft are in range; what else it says is not read
 pub record IsDraft (d : Block) : Type 0 where
@@ -55,6 +55,10 @@ pub record States (h : Head) (b : Block) : Type 0 where
   pub frame_var : b.frame_var ≡ h.frame_var
   pub issuers : b.issuers ≡ h.issuers
   pub members : b.members ≡ h.members
+
+-- the head that the block has behind the chain
+abbrev pub head_with : Chain → Block → Head
+head_with c b = next_head (params (b ∷ c)) (length (members (b ∷ c))) (heads_of c) b
 
 -- the block passes no limit
 abbrev pub IsWithinLimits : Chain → Block → Type 0

@@ -1,0 +1,11 @@
+pub mod Places
+pub mod Marks
+pub mod Sections
+pub mod Ranges
+pub mod Determined
+pub mod Passing
+pub mod Standing
+pub mod Trying
+pub mod Growing
+pub mod TakenRuns
+pub mod RunSteps

@@ -1,0 +1,4 @@
+pub mod Forgings
+pub mod Steps
+pub mod OfLedger
+pub mod Runs

@@ -1,0 +1,4 @@
+pub mod Filled
+pub mod Drafts
+pub mod Forged
+pub mod OfPool

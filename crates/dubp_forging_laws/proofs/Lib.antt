@@ -1,0 +1,11 @@
+pub mod Texts
+pub mod Drafts
+pub mod Tried
+pub mod Forging
+pub mod Named
+pub mod Unsealed
+pub mod Sealed
+pub mod HashLength
+pub mod Others
+pub mod Fewer
+pub mod FewerTried
