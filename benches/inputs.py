@@ -11,6 +11,7 @@ sys.dont_write_bytecode = True
 sys.path.append(str(HERE.parent / "examples"))
 import asking
 import blocks
+import forging
 
 MEGABYTE = 1_000_000
 REVERSIBLE, STORED = 100, 1024
@@ -170,6 +171,15 @@ def behind_a_chain(file: pathlib.Path | None) -> list[Workload]:
     found = [Workload(name, lambda: [chain()]), Workload("switches", lambda: [given := chain(), switched(given)], name)]
     found += [Workload(word.lower(), lambda word=word: [given := chain(), asked(given, word)], name) for word in QUERIES]
     return [*found, Workload("statement", lambda: [given := chain(), asked(given, "STATEMENT", STATEMENT_COUNT)], name)]
+
+
+def blocks_forged() -> list[Workload]:
+    """Documents that wait, and a block that is forged of them."""
+    found = []
+    for name in forging.MADE:
+        found.append(Workload(f"{name}_waiting", lambda name=name: forging.waiting(name)))
+        found.append(Workload(name, lambda name=name: forging.forged(name), f"{name}_waiting"))
+    return found
 
 
 def made_from_a_number() -> list[Workload]:

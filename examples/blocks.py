@@ -183,17 +183,18 @@ def sealed(above, number, issuer, difficulty=0, nonce=0):
         nonce += 1
 
 
-def next_block(chain, issuer, members, lines, parameters=PARAMETERS, delay=0, early=0, nonce=0):
-    """The next block of a chain, of so many members, with these sections; the chain has it from then on. It comes so many seconds after its minute, and
-    its median time is told so many seconds too early."""
+def next_block(chain, issuer, members, lines, parameters=PARAMETERS, delay=0, early=0, nonce=0, dividend=None):
+    """The next block of a chain, of so many members, with these sections; the chain has it from then on. It comes so many seconds after its minute,
+    its median time is told so many seconds too early, and it pays a dividend where one is given."""
     number = chain.length()
     time = 1000 + 60 * number + delay
     values = chain.header(number, time)
     median_time, frame, variation, count, least = values
     where = f"PreviousHash: {chain.previous[0]}\nPreviousIssuer: {chain.previous[1]}\n" if number else f"Parameters: {parameters}\n"
+    pays = f"UniversalDividend: {dividend}\n" if dividend else ""
     above = (
         f"Version: 10\nType: Block\nCurrency: test_currency\nNumber: {number}\nPoWMin: {least}\nTime: {time}\nMedianTime: {median_time - early}\n"
-        f"UnitBase: 0\nIssuer: {issuer}\nIssuersFrame: {frame}\nIssuersFrameVar: {variation}\nDifferentIssuersCount: {count}\n"
+        f"{pays}UnitBase: 0\nIssuer: {issuer}\nIssuersFrame: {frame}\nIssuersFrameVar: {variation}\nDifferentIssuersCount: {count}\n"
         f"{where}MembersCount: {members}\n{lines}"
     )
     block = sealed(above, number, issuer, chain.difficulty(number, issuer, least), nonce)
