@@ -5,9 +5,9 @@ use Rattle.std.specs.Prelude.{ℕ, ◌≡◌, ◌+◌, ◌-◌, ◌^◌, ◌≤�
 abbrev pub raised_count : ℕ → ℕ
 raised_count count = min (count + 1) (2 ^ 64 - 1)
 
--- the count rose: one that stands at the greatest u64 counts as risen
+-- the count rose by one: one that stands at the greatest u64 counts as risen
 abbrev pub Rose : ℕ → ℕ → Type 0
-Rose before now = raised_count before ≤ now
+Rose before now = now ≡ raised_count before
 
 -- the count never falls, a call fails only where it rose, and a call that succeeds leaves it as it was
 pub record HasCause {T E : Type 0} (before now : ℕ) (result : Result T E) : Type 0 where

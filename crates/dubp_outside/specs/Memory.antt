@@ -1,6 +1,6 @@
 -- What contracts see of the sources and sinks in memory, how many bytes a call moves, and in which calls they fail.
 -- The bytes are lists, the first byte first; calls are numbered from 0, those that fail among them.
-use Rattle.std.specs.Prelude.{ℕ, ◌+◌, ◌^◌, ◌<◌, min, List, length, Contains, ◌⊎◌, Option, None, Some}
+use Rattle.std.specs.Prelude.{ℕ, Bool, ◌+◌, ◌^◌, ◌<◌, min, List, length, Contains, ◌⊎◌, Option, None, Some}
 
 pub record PlainSinkState : Type 0 where
   -- for how many bytes it has room, those that it holds among them
@@ -19,6 +19,8 @@ pub record MemSourceState : Type 0 where
   pub fails : List ℕ
   pub calls : ℕ
   pub faults : ℕ
+  -- whether the last call failed
+  pub failing : Bool
 
 pub record MemSinkState : Type 0 where
   pub room : ℕ

@@ -1,5 +1,5 @@
 // A source and a sink in memory that give and take small pieces, and fail in the calls that they are told.
-ghost use Rattle.std.specs.Prelude.{◌≡◌, ◌↔◌, ◌≤◌, ◌<◌, [], ◌++◌, Some, length, take, drop, Contains, IsErr, IfOk, OnErr};
+ghost use Rattle.std.specs.Prelude.{◌≡◌, ◌↔◌, true, false, ◌≤◌, ◌<◌, [], ◌++◌, Some, length, take, drop, Contains, IsErr, IfOk, OnErr, OnOk};
 ghost use Rattle.std.specs.Io.{ReadsAtMost, WritesAtMost};
 ghost use Rattle.std.specs.Io.KnownBytes.{ReadConsumes, WriteAppends};
 ghost use Rattle.dubp_outside.specs.Causes.{HasCause, raised_count};
@@ -21,6 +21,7 @@ pub struct MemSource {
     most: usize,
     schedule: Schedule,
     faults: u64,
+    failing: bool,
 }
 
 impl Model for MemSource {
@@ -35,6 +36,7 @@ impl Model for MemSource {
       fails = s.schedule.fails;
       calls = s.schedule.calls;
       faults = s.faults;
+      failing = s.failing;
     } };
 
     ghost invariant = { λ s. 0 < s.most };
@@ -47,13 +49,14 @@ impl MemSource {
     /// takes no memory.
     pub fn new(bytes: Vec<u8>, most: usize, fails: Vec<u64>) -> MemSource
         requires { 1 ≤ most }
-        ensures { result ≡ record { left = bytes.items; most = most; fails = fails.items; calls = 0; faults = 0 } }
+        ensures { result ≡ record { left = bytes.items; most = most; fails = fails.items; calls = 0; faults = 0; failing = false } }
     {
         MemSource {
             unread: Unread::new(bytes),
             most,
             schedule: Schedule::new(fails),
             faults: 0,
+            failing: false,
         }
     }
 
@@ -77,12 +80,16 @@ impl Source for MemSource {
 
     ghost faults = { λ s. s.faults };
 
+    ghost failing = { λ s. s.failing };
+
     fn read(&mut self, buf: &mut [u8]) -> Result<usize, Failed>
         ensures bound { ReadsAtMost result buf.new }
         ensures bytes { ReadConsumes (Some self.old.left) (Some self.new.left) result buf.new }
         ensures rest { IfOk result (λ n. drop n buf.new ≡ drop n buf.old) }
         ensures untouched { OnErr result (buf.new ≡ buf.old) }
         ensures cause { HasCause self.old.faults self.new.faults result }
+        ensures fine { OnOk result (self.new.failing ≡ false) }
+        ensures failing { OnErr result (self.new.failing ≡ true) }
 
         // Exactly when it fails, how many bytes it gives, and the source after the call.
         ensures fails { IsErr result ↔ Contains self.old.fails self.old.calls }
@@ -90,13 +97,16 @@ impl Source for MemSource {
         ensures ok { IfOk result (λ n. self.new ≡ record self.old {
           left = drop n self.old.left;
           calls = next_call self.old.calls;
+          failing = false;
         }) }
         ensures err { OnErr result (self.new ≡ record self.old {
           calls = next_call self.old.calls;
           faults = raised_count self.old.faults;
+          failing = true;
         }) }
     {
-        if self.schedule.next_fails() {
+        self.failing = self.schedule.next_fails();
+        if self.failing {
             self.faults = self.faults.saturating_add(1);
             return Err(Failed);
         }

@@ -1,5 +1,5 @@
 // A source and a sink in memory that give and take whole pieces.
-ghost use Rattle.std.specs.Prelude.{◌≡◌, ◌↔◌, ◌+◌, ◌<◌, [], ◌++◌, Some, Ok, min, length, drop, IfOk, OnOk, OnErr, IsErr};
+ghost use Rattle.std.specs.Prelude.{◌≡◌, ◌↔◌, true, false, ◌+◌, ◌<◌, [], ◌++◌, Some, Ok, min, length, drop, IfOk, OnOk, OnErr, IsErr};
 ghost use Rattle.std.specs.Io.{ReadsAtMost, WritesAtMost};
 ghost use Rattle.std.specs.Io.KnownBytes.{ReadConsumes, WriteAppends};
 ghost use Rattle.dubp_outside.specs.Causes.{HasCause, raised_count};
@@ -51,12 +51,16 @@ impl Source for PlainSource {
 
     ghost faults = { λ _. 0 };
 
+    ghost failing = { λ _. false };
+
     fn read(&mut self, buf: &mut [u8]) -> Result<usize, Failed>
         ensures bound { ReadsAtMost result buf.new }
         ensures bytes { ReadConsumes (Some self.old) (Some self.new) result buf.new }
         ensures rest { IfOk result (λ n. drop n buf.new ≡ drop n buf.old) }
         ensures untouched { OnErr result (buf.new ≡ buf.old) }
         ensures cause { HasCause 0 0 result }
+        ensures fine { OnOk result (false ≡ false) }
+        ensures failing { OnErr result (false ≡ true) }
 
         // What is given, and what is left then.
         ensures count { result ≡ Ok (min (length buf.old) (length self.old)) }

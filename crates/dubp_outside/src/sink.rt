@@ -16,7 +16,7 @@ pub trait Sink {
 
     /// Takes the first bytes of the piece, at least one where there is one, and answers how many they are.
     ///
-    /// `Failed` comes only where the count of faults rose; then no byte was taken.
+    /// `Failed` comes only where the count of faults rose by one; then no byte was taken.
     fn write(&mut self, piece: &[u8]) -> Result<usize, Failed>
         ensures bound { WritesAtMost result piece.now }
         ensures some { IfOk result (λ n. 0 < length piece.now → 0 < n) }

@@ -1,8 +1,8 @@
 // A source and a sink over std's readers and writers.
-ghost use Rattle.std.specs.Prelude.{◌≡◌, ◌<◌, length, drop, IfOk, OnErr};
+ghost use Rattle.std.specs.Prelude.{◌≡◌, ◌<◌, true, false, length, drop, IfOk, OnOk, OnErr};
 ghost use Rattle.std.specs.Io.{ReadsAtMost, WritesAtMost};
 ghost use Rattle.std.specs.Io.KnownBytes.{ReadConsumes, WriteAppends};
-ghost use Rattle.dubp_outside.specs.Causes.{HasCause, raised_count};
+ghost use Rattle.dubp_outside.specs.Causes.{HasCause};
 
 use crate::copying::copy_front;
 use crate::errors::Failed;
@@ -24,25 +24,27 @@ pub struct ReadSource<R: Read> {
     inner: R,
     piece: [u8; PIECE],
     faults: u64,
+    failing: bool,
 }
 
 impl<R: Read> Model for ReadSource<R> {
-    ghost use Rattle.dubp_outside.specs.Streams.{StreamState};
+    ghost use Rattle.dubp_outside.specs.Streams.{ReaderState};
 
-    ghost Value = { StreamState R };
+    ghost Value = { ReaderState R };
 
-    ghost view = { λ s. record { inner = s.inner; faults = s.faults } };
+    ghost view = { λ s. record { inner = s.inner; faults = s.faults; failing = s.failing } };
 }
 
 impl<R: Read> ReadSource<R> {
     /// A source over the reader. It takes no memory.
     pub fn new(inner: R) -> ReadSource<R>
-        ensures { result ≡ record { inner = inner; faults = 0 } }
+        ensures { result ≡ record { inner = inner; faults = 0; failing = false } }
     {
         ReadSource {
             inner,
             piece: [0; PIECE],
             faults: 0,
+            failing: false,
         }
     }
 
@@ -59,14 +61,16 @@ impl<R: Read> Source for ReadSource<R> {
 
     ghost faults = { λ s. s.faults };
 
+    ghost failing = { λ s. s.failing };
+
     fn read(&mut self, buf: &mut [u8]) -> Result<usize, Failed>
         ensures bound { ReadsAtMost result buf.new }
         ensures bytes { ReadConsumes (R.remaining self.old.inner) (R.remaining self.new.inner) result buf.new }
         ensures rest { IfOk result (λ n. drop n buf.new ≡ drop n buf.old) }
         ensures untouched { OnErr result (buf.new ≡ buf.old) }
         ensures cause { HasCause self.old.faults self.new.faults result }
-
-        ensures raised { OnErr result (self.new.faults ≡ raised_count self.old.faults) }
+        ensures fine { OnOk result (self.new.failing ≡ false) }
+        ensures failing { OnErr result (self.new.failing ≡ true) }
     {
         let len = buf.len().min(PIECE);
         // The whole piece is lent before it is cut: so the loans of the piece and of the reader are proved apart.
@@ -75,10 +79,12 @@ impl<R: Read> Source for ReadSource<R> {
         match self.inner.read(piece) {
             Ok(count) => {
                 copy_front(piece, buf, count);
+                self.failing = false;
                 Ok(count)
             }
             Err(_) => {
                 self.faults = self.faults.saturating_add(1);
+                self.failing = true;
                 Err(Failed)
             }
         }
@@ -129,8 +135,6 @@ impl<W: Write> Sink for WriteSink<W> {
         ensures some { IfOk result (λ n. 0 < length piece.now → 0 < n) }
         ensures bytes { WriteAppends (W.contents self.old.inner) (W.contents self.new.inner) result piece.now }
         ensures cause { HasCause self.old.faults self.new.faults result }
-
-        ensures raised { OnErr result (self.new.faults ≡ raised_count self.old.faults) }
     {
         match self.inner.write(piece) {
             Ok(count) if count > 0 || piece.is_empty() => Ok(count),
