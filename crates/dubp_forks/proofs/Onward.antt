@@ -11,7 +11,7 @@ use Rattle.dubp_block.specs.Text.{stamp_of}
 use Rattle.dubp_chain.specs.Chains.{Chain}
 use Rattle.dubp_verdict.specs.Verdicts.{Verdicts}
 use Rattle.dubp_validity.specs.Rules.{FirstBroken}
-use Rattle.dubp_ledger.specs.OfKept.{KeptChain, Out, kept_of, with_block}
+use Rattle.dubp_ledger.specs.OfKept.{KeptChain, Out, kept_of, most_steps, steps_of_last, with_block}
 use Rattle.dubp_replay.specs.Turns.{is_on, is_stamped, stored}
 use Rattle.dubp_forks.specs.Stores as stores
 use Rattle.dubp_forks.specs.Entries.{Entries, entries_of}
@@ -179,3 +179,10 @@ module _ (v : Verdicts) (old s : KeptChain) (store : List Block) (keys : List St
   why_place refusal refused =
       let there = there_is in
       names_why v old s store path rows place key there.at refusal on_before (refused there.at.block (may_accept store keys path place key rows there are on_before.entries).1)
+
+-- the steps of one block more that is accepted
+pub one_more_steps : (all left next : ℕ) (k k' : KeptChain) (b : Block) (first before after : ℕ) → left ≡ suc next → left ≤ all → before ≤ first + steps_of_last (all - left) k.chain → k' ≡ with_block b k → after ≤ before + most_steps k.chain b → after ≤ first + steps_of_last (all - next) k'.chain
+one_more_steps all left next k k' b first before after one within few grows more =
+    let count : all - next ≡ suc (all - left) = omega (arith, one, within) in
+    let sum : after ≤ first + (most_steps k.chain b + steps_of_last (all - left) k.chain) = omega (arith, few, more) in
+    subst (λ n. after ≤ first + steps_of_last n k'.chain) (sym count) (subst (λ (x : KeptChain). after ≤ first + steps_of_last (suc (all - left)) x.chain) (sym grows) sum)

@@ -9,12 +9,12 @@ use Rattle.dubp_block.specs.Text.{IsBlock, stamp_of}
 use Rattle.dubp_chain.specs.Chains.{Chain}
 use Rattle.dubp_verdict.specs.Verdicts.{Verdicts}
 use Rattle.dubp_validity.specs.Rules.{IsSound}
-use Rattle.dubp_ledger.specs.OfKept.{KeptChain}
+use Rattle.dubp_ledger.specs.OfKept.{KeptChain, steps_of_last}
 use Rattle.dubp_ledger.specs.Traces.{IsShort}
 use Rattle.dubp_replay.specs.Turns.{Branches, IsPath, blocks_behind, is_on, most_stored, stored, switched}
 use Rattle.dubp_forks.specs.Entries.{AreKept, Entries, blocks_in, entries_of}
 use Rattle.dubp_forks.specs.Stores.{AreOutside, AreStored, IsStorable, state_of}
-use Rattle.dubp_forks.specs.Switches.{BranchesOff, IsAlong, MayTry, Switched, stored_then}
+use Rattle.dubp_forks.specs.Switches.{BranchesOff, IsAlong, MayTry, Switched, TakesFew, stored_then}
 use Rattle.dubp_forks.specs.Switching.{HasSwitched, IsLaid, IsTooMuch, IsWhyNot, LeadsTo}
 use Rattle.dubp_forks.specs.declared.refusals.SwitchRefusal.{SwitchRefusal}
 use Rattle.dubp_forks.specs.declared.refusals.SwitchRefusal.TheVariants.{Unknown, Detached, TooDeep, Full, Refused, NoMemory}
@@ -84,6 +84,10 @@ module _ (v : Verdicts) (s : KeptChain) (store : List Block) (stamp : Stamp) (ke
       module _ (deep : count ≤ s.kept) (fits : (length store - length keys) + count ≤ most_stored) (alone : s.out ≡ None) (sound : IsSound s.chain) (each : AllByRecursion IsStorable s.chain) (out : AreOutside store s.chain) where
         may : MayTry (state_of v s store) stamp leads.path count
         may = record { goes = goes; deep = deep; fits = subst (λ n. n ≤ most_stored) then_is fits }
+
+        pub few_steps : (r : Result (Unit {0}) SwitchRefusal) (then : Chain) (before after : ℕ) → OnOk r (after ≤ before + (steps_of_last count s.chain + steps_of_last (length keys) then)) → OnOk r (TakesFew (state_of v s store) stamp then before after)
+        few_steps (Ok done) then before after few = record { path = leads.path; count = count; goes = may; few = subst (λ n. after ≤ before + (steps_of_last count s.chain + steps_of_last n then)) keys_are few }
+        few_steps (Err refusal) then before after few = tt
 
         few : (length store - length leads.path) + count ≤ most_stored
         few = subst (λ n. (length store - n) + count ≤ most_stored) keys_are fits

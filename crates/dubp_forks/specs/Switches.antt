@@ -3,6 +3,8 @@ use Rattle.std.specs.Prelude.{◌≡◌, ◌+◌, ◌-◌, ◌<◌, ◌≤◌, t
 use Rattle.dubp_atoms.specs.declared.stamp.Stamp.{Stamp}
 use Rattle.dubp_block.specs.declared.block.Block.{Block}
 use Rattle.dubp_block.specs.Text.{stamp_of}
+use Rattle.dubp_chain.specs.Chains.{Chain}
+use Rattle.dubp_ledger.specs.OfKept.{steps_of_last}
 use Rattle.dubp_replay.specs.Turns.{Branches, stored, IsPath, blocks_behind, switched, IsAcceptedOn, BreaksAt, most_stored}
 use Rattle.dubp_forks.specs.declared.refusals.SwitchRefusal.{SwitchRefusal}
 use Rattle.dubp_forks.specs.declared.refusals.SwitchRefusal.TheVariants.{Unknown, Detached, TooDeep, Full, Refused, NoMemory}
@@ -27,6 +29,14 @@ pub record MayTry (s : Branches) (stamp : Stamp) (path : List Block) (count : �
   pub goes : BranchesOff s stamp path count
   pub deep : count ≤ s.kept
   pub fits : stored_then s path count ≤ most_stored
+
+-- the steps from the first number to the second are at most those that the blocks may add which are taken off, and those of the path, which is accepted and stands
+-- last in the chain then
+pub record TakesFew (old : Branches) (stamp : Stamp) (then : Chain) (before after : ℕ) : Type 0 where
+  pub path : List Block
+  pub count : ℕ
+  pub goes : MayTry old stamp path count
+  pub few : after ≤ before + (steps_of_last count old.chain + steps_of_last (length path) then)
 
 -- the path is accepted whole, or the first reason against it is named and nothing changes
 abbrev pub Switched : Branches → Stamp → Result (Unit {0}) SwitchRefusal → Branches → Type 0

@@ -1,4 +1,4 @@
-ghost use Rattle.std.specs.Prelude.{◌≡◌, ◌<◌, ◌≤◌, [], None, Some, is_some, length, slice_get};
+ghost use Rattle.std.specs.Prelude.{OnOk, ◌≡◌, ◌<◌, ◌≤◌, [], None, Some, is_some, length, slice_get};
 ghost use Rattle.std.specs.List.{list_any};
 ghost use Rattle.dubp_block.specs.Text.{IsBlock, block_text, stamp_of as block_stamp};
 ghost use Rattle.dubp_block.specs.declared.block.Block.{Block as BlockValue};
@@ -7,7 +7,7 @@ ghost use Rattle.dubp_verdict.specs.Verdicts.{Verdicts as VerdictsValue};
 ghost use Rattle.dubp_replay.specs.Turns.{is_stamped, previous_stamp, stored, without};
 ghost use Rattle.dubp_forks.specs.Offering.{Added, Checked};
 ghost use Rattle.dubp_forks.specs.Offers.{Offered};
-ghost use Rattle.dubp_forks.specs.Switches.{Switched};
+ghost use Rattle.dubp_forks.specs.Switches.{Switched, TakesFew};
 ghost use Rattle.dubp_forks.specs.Stores.{AreOutside, AreStored, state_of};
 
 use crate::entries::before_in;
@@ -146,6 +146,7 @@ impl Store {
         ensures switched { Switched (state_of verdicts.now ledger.old self.old) stamp result (state_of verdicts.now ledger.new self.new) }
         ensures out { ledger.new.out ≡ None }
         ensures outside { AreOutside self.new ledger.new.chain }
+        ensures steps { OnOk result (TakesFew (state_of verdicts.now ledger.old self.old) stamp ledger.new.chain steps.old steps.new) }
     {
         ledger.laws();
         let Ok(path) = path_from(self.alloc, &self.blocks, stamp) else {

@@ -5,7 +5,7 @@ ghost use Rattle.dubp_atoms.specs.Same.{same_stamp};
 ghost use Rattle.dubp_block.specs.Text.{stamp_of as block_stamp};
 ghost use Rattle.dubp_block.specs.declared.block.Block.{Block as BlockValue};
 ghost use Rattle.dubp_chain.specs.Chains.{Chain};
-ghost use Rattle.dubp_ledger.specs.OfKept.{with_block};
+ghost use Rattle.dubp_ledger.specs.OfKept.{most_steps, steps_of_last, with_block};
 ghost use Rattle.dubp_validity.specs.Rules.{FirstBroken, IsSound};
 ghost use Rattle.dubp_forks.specs.Entries.{AreKept, blocks_in, entries_of};
 ghost use Rattle.dubp_forks.specs.Stores.{AreApart, AreOutside, IsStorable};
@@ -39,6 +39,7 @@ fn accept<T: PeopleAndMoney, L: StepBook>(
     ensures same { OnErr result (ledger.new ≡ ledger.old) }
     ensures refused { IfErr result (λ refusal. (b : BlockValue) → get same_stamp blocks.old stamp.now ≡ Some (Some b) → IsWhy verdicts.now ledger.old.chain b refusal) }
     ensures room { spare blocks.new ≡ spare blocks.old }
+    ensures grows { OnOk result ((b : BlockValue) × (ledger.new ≡ with_block b ledger.old) × (steps.new ≤ steps.old + most_steps ledger.old.chain b)) }
 {
     let Some(block) = exchange(blocks, stamp, None) else {
         unreachable!();
@@ -93,6 +94,7 @@ fn accept_all<T: PeopleAndMoney, L: StepBook>(
     ensures same { OnErr result (ledger.new ≡ ledger.old) }
     ensures refused { IfErr result (λ refusal. (path : List BlockValue) → IsLaid (blocks_in blocks.old.entries) stamps.now path → IsWhyNot verdicts.now ledger.old.chain path refusal) }
     ensures room { spare blocks.new ≡ spare blocks.old }
+    ensures steps { OnOk result (steps.new ≤ steps.old + steps_of_last (length stamps.now) ledger.new.chain) }
 {
     let mut left = stamps.len();
     while left > 0 {
@@ -152,6 +154,7 @@ pub(crate) fn replace<T: PeopleAndMoney, L: StepBook>(
     ensures back { OnErr result (blocks.new.entries ≡ blocks.old.entries) }
     ensures same { OnErr result (ledger.new ≡ ledger.old) }
     ensures refused { IfErr result (λ refusal. (path : List BlockValue) → IsLaid (blocks_in blocks.old.entries) stamps.now path → IsWhyNot verdicts.now (drop count ledger.old.chain) path refusal) }
+    ensures steps { OnOk result (steps.new ≤ steps.old + (steps_of_last count ledger.old.chain + steps_of_last (length stamps.now) ledger.new.chain)) }
 {
     if let Err(_) = blocks.reserve(count) {
         return Err(SwitchRefusal::NoMemory);

@@ -14,6 +14,9 @@ returns-in-Ok-clause-accepted g c = λ b f.
     let a = c.in-Ok.ensures.accepted in
     (subst (λ (x : Block). FirstBroken c.args.verdicts.now c.args.ledger.now.chain x None) same a.keeps, a.joins ∙ ap (λ (x : Block). with_block x c.args.ledger.now) same)
 
+pub returns-in-Ok-clause-grows : goal.returns-in-Ok-clause-grows
+returns-in-Ok-clause-grows g c = (c.in-Some.block, c.in-Ok.ensures.accepted.joins, c.in-Ok.ensures.steps)
+
 pub returns-in-Err-Refused-clause-back : goal.returns-in-Err-Refused-clause-back
 returns-in-Err-Refused-clause-back g c =
     let h = rw c.in-Err-Refused.field-0-is at c.in-Err-Refused.ensures.refused in

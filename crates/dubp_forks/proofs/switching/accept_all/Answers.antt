@@ -1,7 +1,7 @@
 use Rattle.std.proofs.Common.{◌≡◌, ◌<◌, ◌-◌, ◌∙◌, ap, arith, drop, length, suc, sym}
 use Rattle.dubp_ledger.specs.OfKept.{KeptChain}
 use Rattle.dubp_forks.specs.Entries.{blocks_in}
-use Rattle.dubp_forks.proofs.Onward.{accept_place, laid_rest, onward_place, why_place}
+use Rattle.dubp_forks.proofs.Onward.{accept_place, laid_rest, one_more_steps, onward_place, why_place}
 use Rattle.dubp_forks.proofs.switching.accept_all.Goals as goal
 
 pub accept-requires : goal.accept-requires
@@ -37,6 +37,7 @@ loop-left-preserved g c =
     record {
       within = omega (arith, within);
       room = c.in_default.ensures.room ∙ i.room;
+      steps = let grows = c.in_default.ensures.grows in one_more_steps (length c.args.stamps.now) c.loop-left.left (c.loop-left.left - 1) c.loop-left.ledger c.accept.new.ledger grows.0 c.args.steps.now c.loop-left.steps c.accept.new.steps one i.within i.steps grows.1 grows.2;
       on = λ path laid.
           onward_place c.args.verdicts.now c.args.ledger.now c.loop-left.ledger (blocks_in c.args.blocks.now.entries) c.args.stamps.now path (c.loop-left.left - 1) c.loop-left.left c.index-stamps-left.result c.loop-left.blocks.entries
           laid c.requires.kept.stored within one c.index-stamps-left.is (i.on path laid) c.accept.new.ledger c.accept.new.blocks.entries c.requires.out c.in_default.ensures.lent c.in_default.ensures.accepted;

@@ -1,8 +1,9 @@
-use Rattle.std.proofs.Common.{◌≡◌, ◌∙◌, ◌-◌, ◌+◌, ◌++◌, [], List, not, filter, is_some, take, drop, reverse, ap, sym, subst, length, min, arith}
+use Rattle.std.proofs.Common.{◌≡◌, ◌∙◌, ◌≤◌, ◌-◌, ◌+◌, ◌++◌, [], List, not, filter, is_some, take, drop, reverse, ap, sym, subst, length, min, arith}
 use Rattle.dubp_block.specs.declared.block.Block.{Block}
 use Rattle.dubp_block.specs.Text.{stamp_of}
 use Rattle.dubp_chain.specs.Chains.{Chain}
 use Rattle.dubp_atoms.specs.Same.{same_stamp}
+use Rattle.dubp_ledger.specs.OfKept.{steps_of_last}
 use Rattle.dubp_replay.specs.Turns.{IsAcceptedOn, is_on}
 use Rattle.dubp_forks.specs.Entries.{blocks_in, entries_of}
 use Rattle.dubp_forks.specs.Stores.{AreApart}
@@ -33,3 +34,9 @@ returns-clause-switched g c = λ path laid.
       kept = c.settle.ensures.kept ∙ ap (λ n. min n 100) (on.kept ∙ ap (λ n. n + length path) (omega (arith, held.kept)));
       out = c.settle.ensures.out;
     }
+
+pub returns-clause-steps : goal.returns-clause-steps
+returns-clause-steps g c =
+    let chain = c.args.ledger.now.chain in
+    subst (λ x. c.accept_all.new.steps ≤ c.args.steps.now + (steps_of_last c.args.count chain + steps_of_last (length c.args.stamps.now) x)) (sym c.settle.ensures.chain)
+    (omega (arith, c.in_default-accept_all.ensures.steps, c.in-Ok.ensures.steps))
