@@ -1,3 +1,4 @@
 -- What those above take from here of the definitions of dubp_ledger.
 pub use Rattle.dubp_ledger.specs.OfKept.{LeftBehind}
 pub use Rattle.dubp_ledger.specs.Written.{IsWrittenAt}
+pub use Rattle.dubp_ledger.specs.States.{IsDifficulty}

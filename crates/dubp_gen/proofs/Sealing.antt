@@ -1,7 +1,6 @@
 -- A draft that is sealed, or cannot be, behind a chain.
-use Rattle.std.proofs.Common.{◌≡◌, ◌≤◌, ℕ, [], ◌∷◌, length, Some, Option, refl, subst, sym, arith}
+use Rattle.std.proofs.Common.{◌≡◌, ◌≤◌, ℕ, [], ◌∷◌, length, Some, None, Option, false, refl, subst, sym, true, ◌∙◌, arith}
 use Rattle.std.specs.Prelude.{IsTrue}
-use Rattle.std.specs.Option.{IsSome}
 use Rattle.dubp_atoms.specs.Same.{Text}
 use Rattle.dubp_block.specs.declared.block.Block.{Block}
 use Rattle.dubp_chain.specs.Chains.{Chain}
@@ -10,8 +9,10 @@ use Rattle.dubp_chain.specs.Members.{member}
 use Rattle.dubp_drafts.specs.Sealing.{IsSealed}
 use Rattle.dubp_drafts.specs.declared.sealed.Sealed.{Sealed}
 use Rattle.dubp_ledger.specs.OfForging.{IsFilled}
+use Rattle.dubp_ledger.specs.States.{IsDifficulty}
+use Rattle.dubp_rules.specs.declared.rule.Rule.TheVariants.{G101}
 use Rattle.dubp_gen.specs.declared.chain.GenRefusal.{GenRefusal}
-use Rattle.dubp_gen.specs.declared.chain.GenRefusal.TheVariants.{NoNonce}
+use Rattle.dubp_gen.specs.declared.chain.GenRefusal.TheVariants.{Invalid, NoNonce}
 use Rattle.dubp_gen.specs.Generated.{HasNoNonce, HasNoSeal, IsToSeal, IssuerMay}
 use Rattle.dubp_gen.specs.Making.{IsSealedBlock}
 
@@ -36,20 +37,21 @@ pub issuer_may_not : (c : Chain) (k : Text) → 1 ≤ length c → (IsTrue (memb
 issuer_may_not [] k some not may = absurd (omega (arith, some))
 issuer_may_not (a ∷ c) k some not may = not may
 
--- a chain that has blocks has a difficulty
-pub some_difficulty : (c : Chain) (k : Text) (o : Option ℕ) → 1 ≤ length c → o ≡ difficulty c k → IsSome o
-some_difficulty [] k o some is = absurd (omega (arith, some))
-some_difficulty (a ∷ c) k o some is = subst IsSome (sym is) refl
-
-pub later_sealed : (c : Chain) (draft b : Block) (d : ℕ) (s : Sealed) → 1 ≤ length c → IsFilled c draft b → difficulty c b.issuer ≡ Some d → IsTrue (member c draft.issuer) → IsSealed b d s → IsSealedBlock c draft s
-later_sealed c draft b d s some filled is may sealed = record {
+pub later_sealed : (c : Chain) (draft b : Block) (d : ℕ) (s : Sealed) → 1 ≤ length c → IsFilled c draft b → IsDifficulty c b.issuer (Some d) → IsSealed b d s → IsSealedBlock c draft s
+later_sealed c draft b d s some filled is sealed = record {
   filled = b;
   difficulty = d;
-  to_seal = to_seal c draft b d some filled is;
-  may = issuer_may c b.issuer some (subst (λ k. IsTrue (member c k)) (sym filled.keeps.issuer) may);
+  to_seal = to_seal c draft b d some filled is.1;
+  may = issuer_may c b.issuer some is.0;
   sealed = sealed;
 }
 
-pub no_later : (c : Chain) (draft b : Block) (d n : ℕ) (refusal : GenRefusal) → 1 ≤ length c → IsFilled c draft b → difficulty c b.issuer ≡ Some d → IsTrue (member c draft.issuer) → n ≡ length c → refusal ≡ NoNonce n → HasNoNonce b d → HasNoSeal c draft refusal
-no_later c draft b d n refusal some filled is may long same none =
-    subst (HasNoSeal c draft) (sym same) (long, (b, d, (to_seal c draft b d some filled is, (issuer_may c b.issuer some (subst (λ k. IsTrue (member c k)) (sym filled.keeps.issuer) may), none))))
+pub no_later : (c : Chain) (draft b : Block) (d n : ℕ) (refusal : GenRefusal) → 1 ≤ length c → IsFilled c draft b → IsDifficulty c b.issuer (Some d) → n ≡ length c → refusal ≡ NoNonce n → HasNoNonce b d → HasNoSeal c draft refusal
+no_later c draft b d n refusal some filled is long same none =
+    subst (HasNoSeal c draft) (sym same) (long, (b, d, (to_seal c draft b d some filled is.1, (issuer_may c b.issuer some is.0, none))))
+
+-- where the issuer is no member
+pub no_member : (c : Chain) (draft b : Block) (n : ℕ) → 1 ≤ length c → IsFilled c draft b → IsDifficulty c b.issuer None → n ≡ length c → HasNoSeal c draft (Invalid n G101)
+no_member c draft b n some filled is long =
+    let not : member c draft.issuer ≡ false = subst (λ k. member c k ≡ false) filled.keeps.issuer is in
+    (long, (refl, issuer_may_not c draft.issuer some (λ may. let no : true ≡ false = sym may ∙ not in absurd cc)))

@@ -125,21 +125,18 @@ fn seal_later<T: PeopleAndMoney>(ledger: &Ledger<T>, draft: Block) -> Result<Sea
     ensures block { IfOk result (λ s. IsBlock s.block) }
     ensures ended { IfErr result (HasNoSeal ledger.now.chain draft) }
 {
-    ledger.laws();
     let number = ledger.len() as u64;
-    if !ledger.people().is_member(draft.issuer) {
-        return Err(GenRefusal::Invalid {
-            block: number,
-            rule: Rule::G101,
-        });
-    }
     let Ok(block) = ledger.fill(draft) else {
         return Err(GenRefusal::NoMemory);
     };
-    let Ok(difficulty) = ledger.difficulty(block.issuer) else {
-        return Err(GenRefusal::NoMemory);
-    };
-    seal_for(block, difficulty.unwrap(), number)
+    match ledger.difficulty(block.issuer) {
+        Ok(Some(difficulty)) => seal_for(block, difficulty, number),
+        Ok(None) => Err(GenRefusal::Invalid {
+            block: number,
+            rule: Rule::G101,
+        }),
+        Err(NoMemory) => Err(GenRefusal::NoMemory),
+    }
 }
 
 /// Seals the block of this number for a difficulty.

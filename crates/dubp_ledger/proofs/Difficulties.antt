@@ -1,11 +1,12 @@
 -- What the heads of a chain and its parameters say of the difficulty of a key.
-use Rattle.std.proofs.Common.{◌≡◌, ◌<◌, List, [], ◌∷◌, length, Option, Some, None, refl, ap, subst, ◌∙◌, arith}
+use Rattle.std.proofs.Common.{◌≡◌, ◌<◌, List, [], ◌∷◌, length, Option, Some, None, false, refl, ap, subst, ◌∙◌, arith}
 use Rattle.dubp_atoms.specs.Same.{Text}
 use Rattle.dubp_params.specs.declared.params.Params.{Params}
 use Rattle.dubp_params.specs.Ranges.{IsInRange}
 use Rattle.dubp_chain.specs.declared.head.Head.{Head}
 use Rattle.dubp_chain.specs.Chains.{Chain, params}
 use Rattle.dubp_chain.specs.Heads.{difficulty, difficulty_of}
+use Rattle.dubp_chain.specs.Members.{member}
 use Rattle.dubp_people_views.specs.OfFacts.{First}
 use Rattle.dubp_people_views.specs.OfFacts.{first_at}
 use Rattle.dubp_head.specs.HeadsStates.{HeadsState, AreOver}
@@ -50,9 +51,9 @@ difficulty_is (b ∷ c) heads f k known is =
     ∙ over_heads (b ∷ c) heads.list k some
     ∙ ap (λ hs. difficulty_of (b ∷ c) hs k) known.are
 
-pub no_difficulty : (c : Chain) (k : Text) → None ≡ first_at c tt → None ≡ difficulty c k
-no_difficulty [] k is = refl
-no_difficulty (b ∷ c) k is = absurd cc
+pub nobody : (c : Chain) (k : Text) → None ≡ first_at c tt → member c k ≡ false
+nobody [] k is = refl
+nobody (b ∷ c) k is = absurd cc
 
 -- the parameters that the facts tell are those of the chain
 pub params_here : (c : Chain) (heads : HeadsState) (f : First) → IsKnown c heads → Some f ≡ first_at c tt → AreParamsOf (Some f.params) c

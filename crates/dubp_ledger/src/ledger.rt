@@ -4,7 +4,7 @@ ghost use Rattle.dubp_atoms.specs.Same.{same_stamp};
 ghost use Rattle.dubp_block.specs.Text.{IsBlock, block_text, stamp_of};
 ghost use Rattle.dubp_chain.specs.Chains.{block_of_number};
 ghost use Rattle.dubp_chain.specs.HeadStamp.{head_stamp};
-ghost use Rattle.dubp_chain.specs.Heads.{difficulty as difficulty_of, head_of};
+ghost use Rattle.dubp_chain.specs.Heads.{head_of};
 ghost use Rattle.dubp_rules.specs.First.{IsFirst};
 ghost use Rattle.dubp_rules.specs.declared.rule.Rule.TheVariants.{X01, P01};
 ghost use Rattle.dubp_validity.specs.Records.{records_at};
@@ -12,7 +12,7 @@ ghost use Rattle.dubp_validity.specs.Rules.{FirstBroken, Holds, IsSound, longest
 ghost use Rattle.dubp_validity.specs.Drafts.{FirstBad};
 ghost use Rattle.dubp_rows.specs.OfKept.{all_hashes, local_rules};
 ghost use Rattle.dubp_rows.specs.OfKept.{IsAsBefore, IsAsHeld, IsHeldBy, IsKnown, MayJoin, last_steps, most_kept, most_steps, steps_of_last, steps_of_out, without_last};
-ghost use Rattle.dubp_ledger.specs.States.{Accepted, HandedBack, IsTooDeep};
+ghost use Rattle.dubp_ledger.specs.States.{Accepted, HandedBack, IsDifficulty, IsTooDeep};
 ghost use Rattle.dubp_ledger.specs.Traces.{IsShort};
 ghost use Rattle.dubp_ledger.specs.Written.{IsWrittenAt};
 
@@ -141,18 +141,20 @@ impl<T: PeopleAndMoney> Ledger<T> {
         self.kept.blocks().get(number as usize)
     }
 
-    /// The difficulty of the key for the next block. None exactly where the chain is empty. `NoMemory` where there is no room to count
-    /// the issuers of the last frame.
+    /// The difficulty of the key for the next block. None exactly where the key is no member of the chain. `NoMemory` where there is no room
+    /// to count the issuers of the last frame.
     pub fn difficulty(&self, key: Key) -> Result<Option<u128>, NoMemory>
-        ensures { IfOk result (λ found. found ≡ difficulty_of self.now.chain key) }
+        ensures { IfOk result (IsDifficulty self.now.chain key) }
     {
-        match self.people().first() {
-            Some(first) => {
-                let found = difficulty(self.alloc, self.kept.heads(), &first.params, key)?;
-                Ok(Some(found))
-            }
-            None => Ok(None),
+        self.laws();
+        let Some(first) = self.people().first() else {
+            return Ok(None);
+        };
+        if !self.people().is_member(key) {
+            return Ok(None);
         }
+        let found = difficulty(self.alloc, self.kept.heads(), &first.params, key)?;
+        Ok(Some(found))
     }
 
     /// The people of the chain. It takes no memory.

@@ -41,10 +41,6 @@ pub fn answer<T: PeopleAndMoney>(
 fn difficulty_line<T: PeopleAndMoney>(ledger: &Ledger<T>, key: Key) -> Result<Line, NoMemory>
     ensures { IfOk result (λ line. line.items ≡ diff_answer ledger.now.chain key) }
 {
-    ledger.laws();
-    if !ledger.people().is_member(key) {
-        return Ok(diff_line(None));
-    }
     let difficulty = ledger.difficulty(key)?;
     Ok(diff_line(difficulty))
 }

@@ -1,6 +1,6 @@
-use Rattle.std.proofs.Common.{ap, subst, Some, ◌∙◌}
+use Rattle.std.proofs.Common.{ap, subst, sym, Some, ◌∙◌}
 use Rattle.dubp_rows.specs.OfKept.{IsKnown}
-use Rattle.dubp_ledger.proofs.Difficulties.{may_count, difficulty_is, no_difficulty}
+use Rattle.dubp_ledger.proofs.Difficulties.{may_count, difficulty_is, nobody}
 use Rattle.dubp_ledger.proofs.ledger.Ledger.difficulty.Goals as goal
 
 pub difficulty-requires-clause-valid : goal.difficulty-requires-clause-valid
@@ -19,10 +19,15 @@ pub difficulty-requires-clause-some : goal.difficulty-requires-clause-some
 difficulty-requires-clause-some g c =
     (may_count c.args.self.now.chain c.heads.result.now c.in-Some.first (subst (λ s. IsKnown s.chain c.heads.result.now) c.self.view_is c.heads.ensures) (c.in-Some.ensures c.args.self.now.chain c.people.ensures)).some
 
-pub returns-in_ok-found-in-Some : goal.returns-in_ok-found-in-Some
-returns-in_ok-found-in-Some g c =
-    ap Some c.in_ok-found-in-Some.ensures
-    ∙ difficulty_is c.args.self.now.chain c.heads.result.now c.in-Some.first c.args.key (subst (λ s. IsKnown s.chain c.heads.result.now) c.self.view_is c.heads.ensures) (c.in-Some.ensures c.args.self.now.chain c.people.ensures)
+pub returns : goal.returns
+returns g c =
+    let chain = c.args.self.now.chain in (
+      sym (c.is_member.ensures chain c.people-2.ensures c.laws.ensures.sound) ∙ c.if-not-is_member.false,
+      sym (difficulty_is chain c.heads.result.now c.in-Some.first c.args.key (subst (λ s. IsKnown s.chain c.heads.result.now) c.self.view_is c.heads.ensures) (c.in-Some.ensures chain c.people.ensures)) ∙ ap Some (sym c.in_ok-found.ensures),
+    )
 
-pub returns-in-None : goal.returns-in-None
-returns-in-None g c = no_difficulty c.args.self.now.chain c.args.key (c.in-None.ensures c.args.self.now.chain c.people.ensures)
+pub returns-in_default : goal.returns-in_default
+returns-in_default g c = nobody c.args.self.now.chain c.args.key (c.in_default.ensures c.args.self.now.chain c.people.ensures)
+
+pub returns-then-not-is_member : goal.returns-then-not-is_member
+returns-then-not-is_member g c = sym (c.is_member.ensures c.args.self.now.chain c.people-2.ensures c.laws.ensures.sound) ∙ c.if-not-is_member.true
