@@ -5,18 +5,18 @@ ghost use Rattle.dubp_branches.specs.Acting.{BranchesActs, Forges};
 ghost use Rattle.dubp_query.specs.AnswerBytes.{answer_bytes};
 ghost use Rattle.dubp_block.specs.Text.{IsBlock, block_text, stamp_of as block_stamp};
 ghost use Rattle.dubp_block.specs.declared.block.Block.{Block as BlockValue};
-ghost use Rattle.dubp_validity.specs.Rules.{IsSound, longest_block};
+ghost use Rattle.dubp_validity.specs.Rules.{IsSound, IsValid, longest_block};
 ghost use Rattle.dubp_verdict.specs.Verdicts.{verdict_of, with_verdict};
-ghost use Rattle.dubp_branches.specs.Deciding.{ShortBlockActs, ShortOfferActs, Decided, IsDecided, TakesTurn};
+ghost use Rattle.dubp_branches.specs.Deciding.{ShortBlockActs, Decided, IsDecided, TakesTurn};
 ghost use Rattle.dubp_forks.specs.Offers.{Offered};
 ghost use Rattle.dubp_forks.specs.Stores.{AreStored};
 ghost use Rattle.dubp_forks.specs.Switches.{Switched};
 ghost use Rattle.dubp_replay.specs.Turns.{is_stamped, no_branches, previous_stamp, without};
-ghost use Rattle.dubp_replay.specs.declared.command.Command.TheVariants.{Ask as AskCommand, Block as BlockCommand, Forget as ForgetCommand, Offer as OfferCommand, Revert as RevertCommand, Statement as StatementCommand, Switch as SwitchCommand, Verdict as VerdictCommand};
+ghost use Rattle.dubp_replay.specs.declared.command.Command.TheVariants.{Ask as AskCommand, Block as BlockCommand, Forget as ForgetCommand, Revert as RevertCommand, Statement as StatementCommand, Switch as SwitchCommand, Verdict as VerdictCommand};
 
 use crate::texts::{
-    accepted, forgotten, no_memory, noted, offer_answer, refusal_answer, refused, reverted,
-    switch_answer, too_deep, unknown, unread,
+    accepted, forgotten, no_memory, noted, refusal_answer, refused, reverted, switch_answer,
+    too_deep, unknown, unread,
 };
 use dubp_atoms::{Hash, Key, NoMemory, Secret, Sig, Stamp, Steps};
 use dubp_block::laws::blocks_have_one_text;
@@ -36,7 +36,7 @@ pub const LONGEST_BLOCK: usize = 1_048_576;
 /// What blocks are judged by and stand in: the verdicts, the ledger, and the stored blocks of branches.
 ///
 /// Contracts see the verdicts, the chain of accepted blocks, how many of them can be reversed, and the stored blocks of branches, none of
-/// which is in the chain.
+/// which is in the chain. Each block of the chain breaks no rule on those before it, with these verdicts.
 #[derive(Drop)]
 pub struct Branches<T: PeopleAndMoney> {
     alloc: Global,
@@ -60,8 +60,9 @@ impl<T: PeopleAndMoney> Model for Branches<T> {
     ghost view = { λ n. state_of n.verdicts n.ledger n.store };
 
     ghost use Rattle.std.specs.Prelude.{◌≡◌, None};
+    ghost use Rattle.dubp_validity.specs.Rules.{IsValid};
 
-    ghost invariant = { λ n. (n.ledger.out ≡ None) × AreOutside n.store n.ledger.chain };
+    ghost invariant = { λ n. (n.ledger.out ≡ None) × AreOutside n.store n.ledger.chain × IsValid n.verdicts n.ledger.chain };
 }
 
 impl<T: PeopleAndMoney> Branches<T> {
@@ -89,6 +90,7 @@ impl<T: PeopleAndMoney> Branches<T> {
 
     /// Does nothing. Its clauses say what holds of the chain and of the stored blocks at any time.
     pub fn laws(&self)
+        ensures valid { IsValid self.now.verdicts self.now.chain }
         ensures sound { IsSound self.now.chain }
         ensures kept { self.now.kept ≤ 100 }
         ensures stored { AreStored self.now.store }
@@ -218,6 +220,7 @@ impl<T: PeopleAndMoney> Branches<T> {
         requires short { length (block_text block) ≤ longest_block }
         ensures { IsDecided self.old block result self.new }
     {
+        blocks_have_one_text();
         match self.ledger.submit(block, &self.verdicts, steps) {
             Ok(stamp) => {
                 let of_block = Stamp {
@@ -260,27 +263,6 @@ impl<T: PeopleAndMoney> Branches<T> {
         Ok(())
     }
 
-    /// The turn of OFFER alone, of which `frame` has the raw bytes where they are at most 1,048,576: whether the node chooses then is for who
-    /// calls this.
-    pub fn act_offer(&mut self, len: u64, frame: &[u8]) -> Answer
-        ensures { BranchesActs self.old (OfferCommand len) frame.now (answer_bytes result) self.new }
-    {
-        if len > LONGEST_BLOCK as u64 {
-            return refused(b"X01");
-        }
-        self.offer(frame)
-    }
-
-    // The same, where the bytes are not too many.
-    fn offer(&mut self, frame: &[u8]) -> Answer
-        ensures { length frame.now ≤ longest_block → ShortOfferActs self.old frame.now (answer_bytes result) self.new }
-    {
-        if frame.len() > LONGEST_BLOCK {
-            return refused(b"X01");
-        }
-        offer_answer(self.store_block(frame))
-    }
-
     /// Stores the block of these bytes, which are at most 1,048,576, and tells its stamp; or the first reason against it is named, and all is
     /// as before.
     pub fn store_block(&mut self, frame: &[u8]) -> Result<Stamp, OfferRefusal>
@@ -307,8 +289,12 @@ impl<T: PeopleAndMoney> Branches<T> {
     ) -> Result<(), SwitchRefusal>
         ensures { Switched self.old stamp result self.new }
     {
-        self.store
-            .switch(stamp, &mut self.ledger, &self.verdicts, steps)
+        let outcome = self
+            .store
+            .switch(stamp, &mut self.ledger, &self.verdicts, steps);
+        blocks_have_one_text();
+        self.ledger.laws();
+        outcome
     }
 
     /// The turn of SWITCH.

@@ -1,4 +1,4 @@
-ghost use Rattle.std.specs.Prelude.{◌≡◌, ◌+◌, ◌-◌, ◌<◌, ◌≤◌, ◌++◌, [], List, ℕ, length, take, drop, IfOk, OnErr};
+ghost use Rattle.std.specs.Prelude.{◌≡◌, ◌+◌, ◌-◌, ◌<◌, ◌≤◌, ◌++◌, [], List, ℕ, true, length, take, drop, IfOk, OnErr};
 ghost use Rattle.std.specs.Io.KnownBytes.{Consumes, Keeps, IsAtEnd};
 ghost use Rattle.dubp_outside.specs.Causes.{HasCause};
 ghost use Rattle.dubp_session.specs.Reading.{most_at_hand};
@@ -69,6 +69,7 @@ impl Buffer {
         ensures most { IfOk result (λ n. n ≤ most) }
         ensures failed { OnErr result ((self.new ≡ self.old) × Keeps (S.left source.old) (S.left source.new)) }
         ensures cause { HasCause (S.faults source.old) (S.faults source.new) result }
+        ensures failing { OnErr result (S.failing source.new ≡ true) }
     {
         let size = piece_size(most);
         let at = self.len;
@@ -117,6 +118,7 @@ fn read_into<S: Source>(
     ensures end { IfOk result (λ n. n ≡ 0 → IsAtEnd (S.left source.new)) }
     ensures failed { OnErr result (Keeps (S.left source.old) (S.left source.new)) }
     ensures cause { HasCause (S.faults source.old) (S.faults source.new) result }
+    ensures failing { OnErr result (S.failing source.new ≡ true) }
 {
     source.read(&mut buffer[at..at + size])
 }

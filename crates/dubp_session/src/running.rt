@@ -1,7 +1,7 @@
-ghost use Rattle.std.specs.Prelude.{◌≡◌, ◌⊎◌, ◌↔◌, ◌<◌, ◌≤◌, [], List, ℕ, Option, length, IfOk, OnOk, OnErr};
-ghost use Rattle.std.specs.Io.KnownBytes.{Keeps};
+ghost use Rattle.std.specs.Prelude.{◌≡◌, ◌⊎◌, ◌↔◌, ◌<◌, ◌≤◌, [], List, ℕ, Option, length, IfOk, OnOk, OnErr, true};
 ghost use Rattle.dubp_outside.specs.Causes.{HasCause};
 ghost use Rattle.dubp_laws.specs.Laws.{IsConserved};
+ghost use Rattle.dubp_validity.specs.Rules.{IsValid};
 ghost use Rattle.dubp_session.specs.Ends.{Ends, Faults, LastEnds};
 ghost use Rattle.dubp_session.specs.Run.{at, AnsweredSome, AnsweredMost, AnsweredToEnd, BrokeOff, IsRun};
 ghost use Rattle.dubp_session.specs.Cut.{BeginsNone};
@@ -86,16 +86,18 @@ pub fn run<T: PeopleAndMoney, S: Source, K: Sink>(
     ensures write_fault { IsRun words.now → result ≡ WRITE_FAULT → BrokeOff (at node.old (S.left source.old) (K.held sink.old)) (at node.new (S.left source.new) (K.held sink.new)) }
     ensures too_much { result ≡ TOO_MUCH → AnsweredMost (at node.old (S.left source.old) (K.held sink.old)) (at node.new (S.left source.new) (K.held sink.new)) }
     ensures faults { StatusFaults (S.faults source.old) (S.faults source.new) (K.faults sink.old) (K.faults sink.new) result }
-    ensures last_read { result ≡ READ_FAULT → (before : S) × (S.faults before ≡ S.faults source.old) × Keeps (S.left before) (S.left source.new) }
+    ensures last_read { result ≡ READ_FAULT → S.failing source.new ≡ true }
     ensures generates { IsGen words.now → GenStatus result }
     ensures generated { (n start : ℕ) → AsksFor words.now n start → result ≡ ENDED → GeneratedAll n start (at node.old (S.left source.old) (K.held sink.old)) (at node.new (S.left source.new) (K.held sink.new)) }
     ensures generated_part { (n start : ℕ) → AsksFor words.now n start → result ≡ WRITE_FAULT → GeneratedPart n start (at node.old (S.left source.old) (K.held sink.old)) (at node.new (S.left source.new) (K.held sink.new)) }
     ensures generated_none { (n start : ℕ) → AsksFor words.now n start → result ≡ NO_ROOM → GeneratedNone n start (at node.old (S.left source.old) (K.held sink.old)) (at node.new (S.left source.new) (K.held sink.new)) }
     ensures conserved { IsConserved node.new.chain }
+    ensures valid { IsValid node.new.verdicts node.new.chain }
 {
     let status = run_words(alloc, words, source, sink, node);
     node.ledger().laws();
     conserved();
+    node.laws();
     status
 }
 
@@ -117,7 +119,7 @@ fn run_words<T: PeopleAndMoney, S: Source, K: Sink>(
     ensures write_fault { IsRun words.now → result ≡ WRITE_FAULT → BrokeOff (at node.old (S.left source.old) (K.held sink.old)) (at node.new (S.left source.new) (K.held sink.new)) }
     ensures too_much { result ≡ TOO_MUCH → AnsweredMost (at node.old (S.left source.old) (K.held sink.old)) (at node.new (S.left source.new) (K.held sink.new)) }
     ensures faults { StatusFaults (S.faults source.old) (S.faults source.new) (K.faults sink.old) (K.faults sink.new) result }
-    ensures last_read { result ≡ READ_FAULT → (before : S) × (S.faults before ≡ S.faults source.old) × Keeps (S.left before) (S.left source.new) }
+    ensures last_read { result ≡ READ_FAULT → S.failing source.new ≡ true }
     ensures generates { IsGen words.now → GenStatus result }
     ensures generated { (n start : ℕ) → AsksFor words.now n start → result ≡ ENDED → GeneratedAll n start (at node.old (S.left source.old) (K.held sink.old)) (at node.new (S.left source.new) (K.held sink.new)) }
     ensures generated_part { (n start : ℕ) → AsksFor words.now n start → result ≡ WRITE_FAULT → GeneratedPart n start (at node.old (S.left source.old) (K.held sink.old)) (at node.new (S.left source.new) (K.held sink.new)) }
@@ -184,7 +186,7 @@ fn session_from<T: PeopleAndMoney, S: Source, K: Sink, L: StepBook>(
     requires empty { buffer.old ≡ [] }
     ensures ends { Ends (at node.old (S.left source.old) (K.held sink.old)) (at node.new (S.left source.new) (K.held sink.new)) result }
     ensures faults { Faults (S.faults source.old) (S.faults source.new) (K.faults sink.old) (K.faults sink.new) result }
-    ensures last_read { result ≡ Ending.ReadFault → (before : S) × (S.faults before ≡ S.faults source.old) × Keeps (S.left before) (S.left source.new) }
+    ensures last_read { result ≡ Ending.ReadFault → S.failing source.new ≡ true }
 {
     let mut steps = Steps::<L>::open(blank);
     session(buffer, source, sink, node, &mut steps)
@@ -201,7 +203,7 @@ pub fn session<T: PeopleAndMoney, S: Source, K: Sink, L: StepBook>(
     requires { buffer.old ≡ [] }
     ensures ends { Ends (at node.old (S.left source.old) (K.held sink.old)) (at node.new (S.left source.new) (K.held sink.new)) result }
     ensures faults { Faults (S.faults source.old) (S.faults source.new) (K.faults sink.old) (K.faults sink.new) result }
-    ensures last_read { result ≡ Ending.ReadFault → (before : S) × (S.faults before ≡ S.faults source.old) × Keeps (S.left before) (S.left source.new) }
+    ensures last_read { result ≡ Ending.ReadFault → S.failing source.new ≡ true }
 {
     let mut phase = Phase::Start;
     let mut taken = 0;

@@ -3,7 +3,7 @@ ghost use Rattle.dubp_atoms.specs.Spelling.{IsNumber};
 ghost use Rattle.dubp_turns.specs.Acting.{Acts, OfferActs, PendActs};
 ghost use Rattle.dubp_turns.specs.OfQuery.{answer_bytes};
 ghost use Rattle.dubp_block.specs.Text.{IsBlock, block_text};
-ghost use Rattle.dubp_validity.specs.Rules.{longest_block};
+ghost use Rattle.dubp_validity.specs.Rules.{IsValid, longest_block};
 ghost use Rattle.dubp_turns.specs.Given.{IsGivenAll, block_given, verdict_given};
 ghost use Rattle.dubp_replay.specs.Turns.{IsTimely, left_over, start};
 ghost use Rattle.dubp_replay.specs.declared.command.Command.TheVariants.{Ask as AskCommand, Auto as AutoCommand, Block as BlockCommand, Failures as FailuresCommand, Forge as ForgeCommand, Forget as ForgetCommand, Offer as OfferCommand, Pend as PendCommand, Revert as RevertCommand, Statement as StatementCommand, Switch as SwitchCommand, Unpend as UnpendCommand, Verdict as VerdictCommand};
@@ -118,10 +118,13 @@ impl<T: PeopleAndMoney> Node<T> {
         self.branches.ledger()
     }
 
-    /// Does nothing. Its clause says what holds of the failures at any time: the block at which each came is stored.
+    /// Does nothing. Its clauses say what holds at any time: each block of the chain breaks no rule on those before it, with the verdicts of
+    /// the node; and the block at which each failure came is stored.
     pub fn laws(&self)
-        ensures { left_over self.now.store self.now.failures ≡ self.now.failures }
+        ensures valid { IsValid self.now.verdicts self.now.chain }
+        ensures failures { left_over self.now.store self.now.failures ≡ self.now.failures }
     {
+        self.branches.laws();
         let _ = &self.failures;
     }
 

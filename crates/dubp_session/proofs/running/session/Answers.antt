@@ -30,7 +30,7 @@ returns-in-Ok-eq0-clause-ends g c =
     ends _ _ _ _ _ _ _ _ _ _ _ _ q c.if-taken-ge-MOST_TAKEN.false (c.in-Ok-eq0.ensures.end c.in-Ok-eq0.field-0-test) (c.end.ensures.ends q.rest q.stands q.no_more)
 
 pub returns-in-Err-read_from-clause-last_read : goal.returns-in-Err-read_from-clause-last_read
-returns-in-Err-read_from-clause-last_read g c = λ is. (c.reads.source, sym c.reads.invariant.read_same, c.in-Err-read_from.ensures.failed.1)
+returns-in-Err-read_from-clause-last_read g c = λ is. c.in-Err-read_from.ensures.failing
 
 pub returns-in-Ok-eq0-clause-faults : goal.returns-in-Ok-eq0-clause-faults
 returns-in-Ok-eq0-clause-faults g c =

@@ -7,7 +7,7 @@ use Rattle.dubp_branches.proofs.branches.Branches.take_out.Goals as goal
 pub invariant_of-self : goal.invariant_of-self
 invariant_of-self g c =
     let s = c.self.inside in
-    (c.self.invariant.0, subst (λ x. AreOutside x s.ledger.chain) (sym c.forget.ensures.left) (outside_without c.args.stamp s.store s.ledger.chain c.self.invariant.1))
+    (c.self.invariant.0, subst (λ x. AreOutside x s.ledger.chain) (sym c.forget.ensures.left) (outside_without c.args.stamp s.store s.ledger.chain c.self.invariant.1), c.self.invariant.2)
 
 pub returns : goal.returns
 returns g c =
