@@ -196,7 +196,11 @@ class Server:
 
     async def make_tables(self) -> None:
         """Makes the tables that are not there."""
-        await self._in_thread(lambda: METADATA.create_all(self._open()))
+
+        def make() -> None:
+            METADATA.create_all(self._open())
+
+        await self._in_thread(make)
 
     async def rows(self, text: str, **values: object) -> Rows:
         """The rows that a statement finds."""
