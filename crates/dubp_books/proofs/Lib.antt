@@ -1,4 +1,5 @@
-pub mod Records
 pub mod Asked
-pub mod Filtered
 pub mod Chosen
+pub mod Filtered
+pub mod Records
+pub mod Sides

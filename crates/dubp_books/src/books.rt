@@ -18,34 +18,26 @@ pub struct Books {
 }
 
 impl Tables<Block> for Books {
-    ghost costs = { λ t. ⟦<PeopleAndMoney as Tables<Block>>⟧.costs t.tables };
+    ghost Now = { ⟦<PeopleAndMoney as Tables<Block>>⟧.Now };
 
-    ghost ahead_costs = { λ t. ⟦<PeopleAndMoney as Tables<Block>>⟧.ahead_costs t.tables };
+    ghost Names = { ⟦<PeopleAndMoney as Tables<Block>>⟧.Names };
 
-    ghost at = { λ t c. ⟦<PeopleAndMoney as Tables<Block>>⟧.at t.tables c };
+    ghost now = { λ t. ⟦<PeopleAndMoney as Tables<Block>>⟧.now t.tables };
 
-    ghost stands = { λ t c. ⟦<PeopleAndMoney as Tables<Block>>⟧.stands t.tables c };
+    ghost count = { λ t. ⟦<PeopleAndMoney as Tables<Block>>⟧.count t.tables };
 
-    ghost marked = { λ t c. ⟦<PeopleAndMoney as Tables<Block>>⟧.marked t.tables c };
-
-    ghost waits = { λ t o i. ⟦<PeopleAndMoney as Tables<Block>>⟧.waits t.tables o i };
-
-    ghost same = { λ t u. ⟦<PeopleAndMoney as Tables<Block>>⟧.same t.tables u.tables };
-
-    ghost marks = { λ t u. ⟦<PeopleAndMoney as Tables<Block>>⟧.marks t.tables u.tables };
-
-    ghost keeps = { λ t u. ⟦<PeopleAndMoney as Tables<Block>>⟧.keeps t.tables u.tables };
+    ghost others = { λ t. ⟦<PeopleAndMoney as Tables<Block>>⟧.others t.tables };
 
     ghost spare = { λ t. ⟦<PeopleAndMoney as Tables<Block>>⟧.spare t.tables };
 
-    ghost room = { λ t. ⟦<PeopleAndMoney as Tables<Block>>⟧.room t.tables };
+    ghost names = { λ t. ⟦<PeopleAndMoney as Tables<Block>>⟧.names t.tables };
+
+    ghost is = { ⟦<PeopleAndMoney as Tables<Block>>⟧.is };
+
+    ghost at = { λ t c. ⟦<PeopleAndMoney as Tables<Block>>⟧.at t.tables c };
 
     fn depth(&self) -> usize {
         self.tables.depth()
-    }
-
-    fn laws(&self) {
-        self.tables.laws();
     }
 
     fn mark(&mut self) -> Result<(), NoMemory> {
@@ -83,15 +75,19 @@ impl Tables<Block> for Books {
     fn drop_ahead(&mut self) {
         self.tables.drop_ahead();
     }
+
+    ghost is_at = { λ t c is. is };
+
+    ghost at_is = { λ t c is. is };
 }
 
 impl Books {
     /// Those of the empty chain. It takes no memory.
     pub fn new(alloc: Global) -> Books
-        ensures stands { ⟦<Books as Tables<Block>>⟧.stands result [] }
-        ensures costs { ⟦<Books as Tables<Block>>⟧.costs result ≡ [] }
-        ensures ahead { ⟦<Books as Tables<Block>>⟧.ahead_costs result ≡ [] }
-        ensures waits { (o : Chain) → ⟦<Books as Tables<Block>>⟧.waits result o 0 }
+        ensures at { ⟦<Books as Tables<Block>>⟧.at result [] }
+        ensures count { ⟦<Books as Tables<Block>>⟧.count result ≡ 0 }
+        ensures kept { (⟦<Books as Tables<Block>>⟧.others result).kept ≡ [] }
+        ensures ahead { (⟦<Books as Tables<Block>>⟧.others result).ahead ≡ [] }
     {
         Books {
             tables: Both::new(People::new(alloc), Money::new(alloc)),

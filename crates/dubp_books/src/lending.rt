@@ -9,10 +9,10 @@ impl PeopleAndMoney for Books {
     }
 
     fn people(&self) -> &People {
-        Books::people(self)
+        &self.tables.first
     }
 
     fn money(&self) -> &Money {
-        Books::money(self)
+        &self.tables.second
     }
 }

@@ -1,11 +1,9 @@
 -- The next entry of one owner is the least entry of the table behind a place, where that is one of the owner.
-use Rattle.std.proofs.Common.{◌≡◌, Bool, true, false, List, Option, Some, None, not, refl, ap, sym, ◌∙◌, subst, true≢false}
-use Rattle.std.specs.Prelude.{IsSome, is_some}
-use Rattle.std.specs.Cmp.{IsTotalOrder}
+use Rattle.std.proofs.Common.{◌≡◌, true, false, List, Option, Some, None, not, refl, ap, sym, ◌∙◌, subst, true≢false}
+use Rattle.std.specs.Prelude.{IsSome}
 use Rattle.std.specs.Cmp.Lexicographic.{nat_list_cmp_total}
-use Rattle.std.specs.Ordering.{is_lt, is_eq, is_gt, ordering_then, ordering_reverse}
+use Rattle.std.specs.Ordering.{is_lt, is_gt, ordering_then, ordering_reverse}
 use Rattle.std.specs.Option.{option_cmp}
-use Rattle.std.specs.BTreeMap.Range.{IsLeBy}
 use Rattle.std.specs.declared.cmp.Ordering.{Ordering}
 use Rattle.std.specs.declared.cmp.Ordering.TheVariants.{Less, Equal, Greater}
 use Rattle.dubp_atoms.specs.Same.{Text, same_text}

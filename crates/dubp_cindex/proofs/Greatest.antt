@@ -1,17 +1,14 @@
 -- The greatest block of an issuer's rows to others than one, by a walk over them.
-use Rattle.std.proofs.Common.{◌≡◌, ℕ, ◌<◌, ◌≤◌, Bool, true, false, cond, Option, Some, None, refl, ap, sym, ◌∙◌, subst, true≢false, inl, inr, arith}
-use Rattle.std.specs.Prelude.{IfSome, IsSomeAnd, IsSome, is_some, ◌⊎◌, nat_lt, List}
-use Rattle.std.specs.Ordering.{is_lt, is_eq, ordering_reverse}
-use Rattle.std.specs.declared.cmp.Ordering.{Ordering}
+use Rattle.std.proofs.Common.{◌≡◌, ℕ, ◌≤◌, true, false, cond, Option, Some, None, refl, ap, sym, ◌∙◌, subst, true≢false, inl, inr, arith}
+use Rattle.std.specs.Prelude.{IfSome, IsSomeAnd, is_some, ◌⊎◌, nat_lt, List}
+use Rattle.std.specs.Ordering.{is_lt, ordering_reverse}
 use Rattle.std.specs.declared.cmp.Ordering.TheVariants.{Less, Equal, Greater}
 use Rattle.std.specs.Cmp.Lexicographic.{nat_list_cmp_total}
-use Rattle.std.proofs.lemmas.Option.{none-some}
 use Rattle.dubp_atoms.specs.Same.{Text, same_text}
 use Rattle.dubp_undo.specs.MovingTable.{get}
 use Rattle.dubp_cindex.specs.declared.row.CertRow.{CertRow}
 use Rattle.dubp_cindex.specs.Orders.{text_cmp, Place, place_cmp, less, is_above}
 use Rattle.dubp_cindex.specs.Following.{Follows}
-use Rattle.dubp_cindex.specs.Putting.{IsGreatestBesides}
 use Rattle.dubp_cindex.proofs.Texts.{text_exact, same_text_is, same_text_own}
 
 -- so far: of the rows up to a key
@@ -19,9 +16,6 @@ pub record IsGreatestUpTo (rows : Text → Option CertRow) (to : Text) (least : 
   pub above_least : least ≤ n
   pub bound : (y : Text) → (y ≡ to → ⊥) → is_above after y ≡ false → IfSome (rows y) (λ r. r.written ≤ n)
   pub stands : (n ≡ least) ⊎ ((y : Text) × (y ≡ to → ⊥) × IsSomeAnd (rows y) (λ r. r.written ≡ n))
-
-pub greatest-none : (rows : Text → Option CertRow) (to : Text) (least : ℕ) → IsGreatestUpTo rows to least None least
-greatest-none rows to least = record { above_least = omega arith; bound = λ y other n. absurd (true≢false n); stands = inl refl }
 
 -- two keys neither of which is before the other are one
 neither : (x y : Text) → less x y ≡ false → less y x ≡ false → x ≡ y
@@ -39,16 +33,6 @@ if_more (Some r) n m le h = omega (arith, le, h)
 module _ (m : List (Place × CertRow)) (from to : Text) (least : ℕ) where
   abbrev rows_of : Text → Option CertRow
   rows_of y = get place_cmp m (from, Some y)
-
-  pub greatest-end : (after : Option Text) (n : ℕ) → Follows m from after None → IsGreatestUpTo rows_of to least after n → IsGreatestBesides rows_of to least n
-  greatest-end after n none is = record {
-    above_least = is.above_least;
-    bound = λ y other. elim (is_above after y) as (λ b. is_above after y ≡ b → IfSome (rows_of y) (λ r. r.written ≤ n)) [
-      | true ↦ λ t. subst (λ o. IfSome o (λ (r : CertRow). r.written ≤ n)) (sym (none y t)) tt
-      | false ↦ λ t. is.bound y other t
-    ] refl;
-    stands = is.stands;
-  }
 
   -- one row more, which counts where it is not to the key that is left out
   more : (after : Option Text) (n k : ℕ) (a : Text) (row : CertRow) → Follows m from after (Some (a, row)) → IsGreatestUpTo rows_of to least after n → n ≤ k → ((a ≡ to → ⊥) → row.written ≤ k)

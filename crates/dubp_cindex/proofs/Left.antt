@@ -1,5 +1,5 @@
 -- A walk ends: behind each entry that it finds fewer are left.
-use Rattle.std.proofs.Common.{◌≡◌, ℕ, ◌+◌, ◌<◌, ◌≤◌, Bool, true, false, cond, List, [], ◌∷◌, Option, Some, None, refl, ap, sym, ◌∙◌, true≢false, arith}
+use Rattle.std.proofs.Common.{◌≡◌, ℕ, ◌<◌, ◌≤◌, Bool, true, false, cond, List, [], ◌∷◌, Option, Some, refl, ap, sym, ◌∙◌, true≢false, arith}
 use Rattle.std.specs.Prelude.{count_by}
 use Rattle.std.specs.Ordering.{is_lt, is_eq}
 use Rattle.std.specs.declared.cmp.Ordering.TheVariants.{Less}
@@ -8,7 +8,7 @@ use Rattle.std.proofs.lemmas.List.Sums.{sum_by-cons}
 use Rattle.std.proofs.lemmas.Option.{none-some}
 use Rattle.dubp_atoms.specs.Same.{Text}
 use Rattle.dubp_undo.specs.MovingTable.{get}
-use Rattle.dubp_cindex.specs.Orders.{Place, place_cmp, is_above}
+use Rattle.dubp_cindex.specs.Orders.{Place, place_cmp}
 use Rattle.dubp_cindex.specs.Following.{Follows}
 use Rattle.dubp_cindex.proofs.Texts.{is_equal, is_less, place_total, place_exact}
 use Rattle.dubp_cindex.proofs.Following.{above_behind}

@@ -4,7 +4,6 @@ pub mod Greatest
 pub mod Left
 pub mod Making
 pub mod Nothing
-pub mod Numbers
 pub mod Puts
 pub mod Texts
 pub mod Told

@@ -1,16 +1,14 @@
 -- The tables of the state in which nothing is written.
-use Rattle.std.proofs.Common.{◌≡◌, cond, List, [], ◌∷◌, Option, Some, None, refl, ap, sym, subst, ◌∙◌, length, arith}
+use Rattle.std.proofs.Common.{◌≡◌, cond, List, [], ◌∷◌, Option, Some, None, refl, ap, sym, ◌∙◌, length, arith}
 use Rattle.std.specs.Prelude.{count_by}
 use Rattle.std.specs.List.{list_any}
 use Rattle.std.specs.FinMap.{entries, empty, len-entries, len-empty, get-empty}
 use Rattle.dubp_atoms.specs.Same.{Text}
 use Rattle.std.specs.declared.cmp.Ordering.{Ordering}
-use Rattle.dubp_undo.specs.MovingTable.{MovingTable}
-use Rattle.dubp_undo.specs.MovingTable.{empty as nothing}
-use Rattle.dubp_undo.specs.Definition.{Stands, Waits}
+use Rattle.dubp_undo.specs.Definition.{IsAt}
 use Rattle.dubp_cindex.specs.declared.row.CertRow.{CertRow}
 use Rattle.dubp_cindex.specs.Orders.{pair_cmp, Place}
-use Rattle.dubp_cindex.specs.Rows.{Entry, Rows, live_to, is_from, lives, one_if, number_if, stock_in, written_in, rows_along, received_by_along, received_along, issued_by_along, issuers_along}
+use Rattle.dubp_cindex.specs.Rows.{Entry, live_to, is_from, lives, one_if, number_if, stock_in, written_in, rows_along, received_by_along, received_along, issued_by_along, issuers_along}
 
 no_length : {A : Type 0} (es : List A) → length es ≡ 0 → es ≡ []
 no_length [] e = refl
@@ -43,9 +41,6 @@ pub issuers_nothing : (k : Text) → issuers_along [] k ≡ None
 issuers_nothing k =
     ap (λ b. cond b (Some (record { stock = stock_in (empty {X = CertRow} {R = pair_cmp}) k; written = written_in (empty {X = CertRow} {R = pair_cmp}) k })) None) (ap (list_any (is_from k)) entries-empty)
 
--- an empty table stands for the chain without a state
-pub stands_nothing : {B K V : Type 0} (cmp : K → K → Ordering) (definition : List B → K → Option V) (t : MovingTable K V) → t ≡ nothing → ((k : K) → definition [] k ≡ None) → Stands cmp definition t.past t.now []
-stands_nothing cmp definition t e none = subst (λ l. Stands cmp definition l.past l.now []) (sym e) (record { is = λ k. sym (none k); kept = tt })
-
-pub waits_nothing : {B K V : Type 0} (cmp : K → K → Ordering) (definition : List B → K → Option V) (t : MovingTable K V) → t ≡ nothing → (o : List B) → Waits cmp definition t.root t.ahead o 0
-waits_nothing cmp definition t e o = subst (λ l. Waits cmp definition l.root l.ahead o 0) (sym e) (record { taken = tt; count = refl; begins = λ p. absurd (omega (arith, p)) })
+-- an empty table is that of the chain without a state
+pub at_nothing : {B K V : Type 0} (cmp : K → K → Ordering) (definition : List B → K → Option V) (m : List (K × V)) → m ≡ [] → ((k : K) → definition [] k ≡ None) → IsAt cmp definition m []
+at_nothing cmp definition m e none = rw e (λ k. sym (none k))

@@ -1,6 +1,6 @@
 -- What a walk over the live pairs tells of the rows.
-use Rattle.std.proofs.Common.{◌≡◌, ℕ, Bool, true, false, cond, ◌&&◌, List, [], ◌∷◌, ◌++◌, Option, Some, None, map, filter, refl, ap, sym, ◌∙◌, subst, true≢false, inl, inr}
-use Rattle.std.specs.Prelude.{◌⊎◌, is_some, IsSome}
+use Rattle.std.proofs.Common.{◌≡◌, Bool, true, false, cond, List, [], ◌∷◌, ◌++◌, Option, Some, None, map, filter, refl, ap, sym, ◌∙◌, subst, true≢false, inl, inr}
+use Rattle.std.specs.Prelude.{is_some}
 use Rattle.std.specs.List.{All, Contains}
 use Rattle.std.specs.FinMap.{entries, entries_sorted}
 use Rattle.std.specs.FinMap as finite
@@ -10,7 +10,7 @@ use Rattle.std.proofs.lemmas.Option.{none-some}
 use Rattle.dubp_atoms.specs.Same.{Text, same_text}
 use Rattle.dubp_undo.specs.MovingTable.{get}
 use Rattle.dubp_cindex.specs.declared.row.CertRow.{CertRow}
-use Rattle.dubp_cindex.specs.Orders.{Place, place_cmp, less, is_above, IsNextIssuer}
+use Rattle.dubp_cindex.specs.Orders.{Place, place_cmp, is_above, IsNextIssuer}
 use Rattle.dubp_cindex.specs.Following.{Follows}
 use Rattle.dubp_cindex.specs.Rows.{Rows, Entry, live_to, live_from, lives, one_if, row_at, received_by_at, live_pairs, told}
 use Rattle.dubp_cindex.proofs.Texts.{same_text_is, same_text_own}

@@ -55,7 +55,7 @@ impl CIndex {
         from: &Key,
         to: &Key,
     ) -> Result<(), NoMemory>
-        ensures { OnOk result ((row : CertRow) → get place_cmp self.now.tables.first.now (from.now, Some to.now) ≡ Some row → found.new.items ≡ found.old.items ++ (from.now, to.now, row) ∷ []) }
+        ensures { OnOk result ((row : CertRow) → get place_cmp self.now.tables.first.table.now (from.now, Some to.now) ≡ Some row → found.new.items ≡ found.old.items ++ (from.now, to.now, row) ∷ []) }
     {
         match self.tables.first.get((*from, Some(*to))) {
             Some(row) => found.push((*from, *to, row)).map_err(|_| NoMemory),

@@ -1,10 +1,8 @@
-ghost use Rattle.std.specs.Prelude.{◌≡◌, ◌+◌, ◌≤◌, List, OnOk, OnErr, IsOk};
-ghost use Rattle.dubp_undo.specs.Definition.{IsMarked, SameMaps};
-ghost use Rattle.dubp_undo.specs.Numbers.{counts, add_last, settled};
+ghost use Rattle.std.specs.Prelude.{◌≡◌, ◌+◌, ◌≤◌, OnOk, OnErr, IsOk};
 ghost use Rattle.dubp_cindex.specs.Changes.{Makes, IsReady, sets_of};
 
 use dubp_atoms::{NoMemory, Steps};
-use dubp_undo::{Definition, Leaf};
+use dubp_undo::{Definition, Leaf, Tables};
 use std::sync::ledger::Ledger as StepBook;
 
 /// What becomes of the value at a key.
@@ -22,8 +20,10 @@ pub fn ready_for<B, K: Ord + Copy, V: Copy + Eq, D: Definition<B, K, V>>(
     k: K,
     change: &Change<V>,
 ) -> Result<(), NoMemory>
-    ensures same { SameMaps table.old table.new }
-    ensures ready { OnOk result (IsReady K.cmp table.new k change.now) }
+    ensures now { ⟦<Leaf<B, K, V, D> as Tables<B>>⟧.now table.new ≡ ⟦<Leaf<B, K, V, D> as Tables<B>>⟧.now table.old }
+    ensures count { ⟦<Leaf<B, K, V, D> as Tables<B>>⟧.count table.new ≡ ⟦<Leaf<B, K, V, D> as Tables<B>>⟧.count table.old }
+    ensures others { ⟦<Leaf<B, K, V, D> as Tables<B>>⟧.others table.new ≡ ⟦<Leaf<B, K, V, D> as Tables<B>>⟧.others table.old }
+    ensures ready { OnOk result (IsReady K.cmp table.new.table k change.now) }
 {
     match change {
         Change::Stays => Ok(()),
@@ -41,17 +41,14 @@ pub fn make<L: StepBook, B, K: Ord + Copy, V: Copy + Eq, D: Definition<B, K, V>>
     change: &Change<V>,
     steps: &mut Steps<L>,
 ) -> Result<(), NoMemory>
-    ensures now { OnOk result (Makes K.cmp table.old.now table.new.now k change.now) }
-    ensures costs { OnOk result (counts table.new.past ≡ add_last (sets_of change.now) (counts table.old.past)) }
+    ensures now { OnOk result (Makes K.cmp (⟦<Leaf<B, K, V, D> as Tables<B>>⟧.now table.old) (⟦<Leaf<B, K, V, D> as Tables<B>>⟧.now table.new) k change.now) }
+    ensures others { ⟦<Leaf<B, K, V, D> as Tables<B>>⟧.others table.new ≡ ⟦<Leaf<B, K, V, D> as Tables<B>>⟧.others table.old }
+    ensures count { ⟦<Leaf<B, K, V, D> as Tables<B>>⟧.count table.new + steps.old ≤ ⟦<Leaf<B, K, V, D> as Tables<B>>⟧.count table.old + steps.new }
     ensures step { OnOk result (steps.new ≡ steps.old + sets_of change.now) }
-    ensures costs_stay { settled (counts table.new.past) ≡ settled (counts table.old.past) }
-    ensures marked { (c : List B) → IsMarked K.cmp D.at table.old.past c → IsMarked K.cmp D.at table.new.past c }
-    ensures ahead { table.new.ahead ≡ table.old.ahead }
-    ensures root { table.new.root ≡ table.old.root }
 
-    ensures refused { OnErr result (SameMaps table.old table.new) }
+    ensures refused { OnErr result (⟦<Leaf<B, K, V, D> as Tables<B>>⟧.now table.new ≡ ⟦<Leaf<B, K, V, D> as Tables<B>>⟧.now table.old) }
     ensures no_step { OnErr result (steps.new ≡ steps.old) }
-    ensures succeeds { IsReady K.cmp table.old k change.now → IsOk result }
+    ensures succeeds { IsReady K.cmp table.old.table k change.now → IsOk result }
 {
     match change {
         Change::Stays => Ok(()),

@@ -25,10 +25,10 @@ pub struct CIndex {
 impl CIndex {
     /// The index in which nothing is written. It takes no memory.
     pub fn new(alloc: Global) -> CIndex
-        ensures stands { ⟦<CIndex as Tables<CertRows>>⟧.stands result [] }
-        ensures costs { ⟦<CIndex as Tables<CertRows>>⟧.costs result ≡ [] }
-        ensures ahead { ⟦<CIndex as Tables<CertRows>>⟧.ahead_costs result ≡ [] }
-        ensures waits { (o : List Rows) → ⟦<CIndex as Tables<CertRows>>⟧.waits result o 0 }
+        ensures at { ⟦<CIndex as Tables<CertRows>>⟧.at result [] }
+        ensures count { ⟦<CIndex as Tables<CertRows>>⟧.count result ≡ 0 }
+        ensures kept { (⟦<CIndex as Tables<CertRows>>⟧.others result).kept ≡ [] }
+        ensures ahead { (⟦<CIndex as Tables<CertRows>>⟧.others result).ahead ≡ [] }
     {
         CIndex {
             tables: Three::new(Leaf::new(alloc), no_received(alloc), no_issued(alloc)),
@@ -67,34 +67,26 @@ impl CIndex {
 }
 
 impl Tables<CertRows> for CIndex {
-    ghost costs = { λ t. ⟦<CertTables as Tables<CertRows>>⟧.costs t.tables };
+    ghost Now = { ⟦<CertTables as Tables<CertRows>>⟧.Now };
 
-    ghost ahead_costs = { λ t. ⟦<CertTables as Tables<CertRows>>⟧.ahead_costs t.tables };
+    ghost Names = { ⟦<CertTables as Tables<CertRows>>⟧.Names };
 
-    ghost at = { λ t s. ⟦<CertTables as Tables<CertRows>>⟧.at t.tables s };
+    ghost now = { λ t. ⟦<CertTables as Tables<CertRows>>⟧.now t.tables };
 
-    ghost stands = { λ t s. ⟦<CertTables as Tables<CertRows>>⟧.stands t.tables s };
+    ghost count = { λ t. ⟦<CertTables as Tables<CertRows>>⟧.count t.tables };
 
-    ghost marked = { λ t s. ⟦<CertTables as Tables<CertRows>>⟧.marked t.tables s };
-
-    ghost waits = { λ t o i. ⟦<CertTables as Tables<CertRows>>⟧.waits t.tables o i };
-
-    ghost same = { λ t u. ⟦<CertTables as Tables<CertRows>>⟧.same t.tables u.tables };
-
-    ghost marks = { λ t u. ⟦<CertTables as Tables<CertRows>>⟧.marks t.tables u.tables };
-
-    ghost keeps = { λ t u. ⟦<CertTables as Tables<CertRows>>⟧.keeps t.tables u.tables };
+    ghost others = { λ t. ⟦<CertTables as Tables<CertRows>>⟧.others t.tables };
 
     ghost spare = { λ t. ⟦<CertTables as Tables<CertRows>>⟧.spare t.tables };
 
-    ghost room = { λ t. ⟦<CertTables as Tables<CertRows>>⟧.room t.tables };
+    ghost names = { λ t. ⟦<CertTables as Tables<CertRows>>⟧.names t.tables };
+
+    ghost is = { ⟦<CertTables as Tables<CertRows>>⟧.is };
+
+    ghost at = { λ t c. ⟦<CertTables as Tables<CertRows>>⟧.at t.tables c };
 
     fn depth(&self) -> usize {
         self.tables.depth()
-    }
-
-    fn laws(&self) {
-        self.tables.laws();
     }
 
     fn mark(&mut self) -> Result<(), NoMemory> {
@@ -131,6 +123,7 @@ impl Tables<CertRows> for CIndex {
         self.tables.drop_ahead();
     }
 
-    ghost use Rattle.dubp_cindex.specs.Orders.{text_cmp, place_cmp};
-    ghost use Rattle.dubp_cindex.specs.Rows.{rows_along, received_by_along, received_along, issued_by_along, issuers_along};
+    ghost is_at = { λ t c is. is };
+
+    ghost at_is = { λ t c is. is };
 }

@@ -3,8 +3,7 @@ ghost use Rattle.std.specs.FinMap as map;
 ghost use Rattle.std.specs.Option.{option_map_or};
 ghost use Rattle.dubp_atoms.specs.Same.{same_text};
 ghost use Rattle.dubp_undo.specs.MovingTable.{get, IsPlaced};
-ghost use Rattle.dubp_undo.specs.Numbers.{add_last};
-ghost use Rattle.dubp_undo.specs.States.{newest, AtMostMore};
+ghost use Rattle.dubp_undo.specs.States.{newest};
 ghost use Rattle.dubp_cindex.specs.Changes.{IsReady, changed, counted, sets_in};
 ghost use Rattle.dubp_cindex.specs.Orders.{Place, text_cmp, place_cmp};
 ghost use Rattle.dubp_cindex.specs.declared.changing.Change.TheVariants.{Stays};
@@ -133,7 +132,7 @@ fn greatest_besides(
     to: &Key,
     least: u64,
 ) -> u64
-    ensures { IsGreatestBesides (λ y. get place_cmp rows.now.now (from.now, Some y)) to.now least result }
+    ensures { IsGreatestBesides (λ y. get place_cmp rows.now.table.now (from.now, Some y)) to.now least result }
 {
     let mut best = least;
     let mut after = None;
@@ -153,7 +152,7 @@ fn written_after(
     before: &Option<CertRow>,
     was: &Option<IssuerRow>,
 ) -> u64
-    ensures { (state : Rows) → ((k : Place) → get place_cmp rows.now.now k ≡ row_at state k.0 k.1) → before.now ≡ map.get state (from.now, to.now) → was.now ≡ issuer_in state from.now
+    ensures { (state : Rows) → ((k : Place) → get place_cmp rows.now.table.now k ≡ row_at state k.0 k.1) → before.now ≡ map.get state (from.now, to.now) → was.now ≡ issuer_in state from.now
         → result ≡ written_in (map.insert state (from.now, to.now) row.now) from.now }
 {
     let Some(issuer) = was else {
@@ -184,16 +183,14 @@ impl CIndex {
         steps: &mut Steps<L>,
     ) -> Result<(), NoMemory>
         ensures at { OnOk result ((s t : List Rows) → ⟦<CIndex as Tables<CertRows>>⟧.at self.old s → ⟦<CIndex as Tables<CertRows>>⟧.at self.new (map.insert (newest map.empty s) (from, to) row ∷ t)) }
-        ensures marked { (s : List Rows) → ⟦<CIndex as Tables<CertRows>>⟧.marked self.old s → ⟦<CIndex as Tables<CertRows>>⟧.marked self.new s }
-        ensures waits { (o : List Rows) (i : ℕ) → ⟦<CIndex as Tables<CertRows>>⟧.waits self.old o i → ⟦<CIndex as Tables<CertRows>>⟧.waits self.new o i }
-        ensures ahead { ⟦<CIndex as Tables<CertRows>>⟧.ahead_costs self.new ≡ ⟦<CIndex as Tables<CertRows>>⟧.ahead_costs self.old }
-        ensures costs { OnOk result (AtMostMore 5 (⟦<CIndex as Tables<CertRows>>⟧.costs self.old) (⟦<CIndex as Tables<CertRows>>⟧.costs self.new)) }
+        ensures others { ⟦<CIndex as Tables<CertRows>>⟧.others self.new ≡ ⟦<CIndex as Tables<CertRows>>⟧.others self.old }
+        ensures count { ⟦<CIndex as Tables<CertRows>>⟧.count self.new + steps.old ≤ ⟦<CIndex as Tables<CertRows>>⟧.count self.old + steps.new }
         ensures steps { OnOk result (steps.new ≤ steps.old + 5) }
         ensures once { OnOk result ((s : List Rows) → ⟦<CIndex as Tables<CertRows>>⟧.at self.old s → lives (map.get (newest map.empty s) (from, to)) ≡ row.live
             → issuer_in (map.insert (newest map.empty s) (from, to) row) from ≡ issuer_in (newest map.empty s) from
-            → (steps.new ≡ steps.old + 1) × (⟦<CIndex as Tables<CertRows>>⟧.costs self.new ≡ add_last 1 (⟦<CIndex as Tables<CertRows>>⟧.costs self.old))) }
+            → steps.new ≡ steps.old + 1) }
 
-        ensures refused { OnErr result (⟦<CIndex as Tables<CertRows>>⟧.same self.old self.new) }
+        ensures refused { OnErr result (⟦<CIndex as Tables<CertRows>>⟧.now self.new ≡ ⟦<CIndex as Tables<CertRows>>⟧.now self.old) }
         ensures no_step { OnErr result (steps.new ≡ steps.old) }
     {
         let changes = self.changes(&from, &to, row)?;
@@ -241,10 +238,12 @@ impl CIndex {
 
     // Makes each key ready that is to be set.
     fn make_ready(&mut self, from: &Key, to: &Key, changes: &Changes) -> Result<(), NoMemory>
-        ensures same { ⟦<CIndex as Tables<CertRows>>⟧.same self.old self.new }
-        ensures ready { OnOk result (IsPlaced place_cmp (from.now, Some to.now) self.new.tables.first.placed × (1 ≤ self.new.tables.first.room)) }
-        ensures ready_received { OnOk result (IsReady place_cmp self.new.tables.second.tables.first (to.now, Some from.now) changes.now.pair × IsReady text_cmp self.new.tables.second.tables.second to.now changes.now.received) }
-        ensures ready_issued { OnOk result (IsReady place_cmp self.new.tables.third.tables.first (from.now, Some to.now) changes.now.pair × IsReady text_cmp self.new.tables.third.tables.second from.now changes.now.issuer) }
+        ensures now { ⟦<CIndex as Tables<CertRows>>⟧.now self.new ≡ ⟦<CIndex as Tables<CertRows>>⟧.now self.old }
+        ensures count { ⟦<CIndex as Tables<CertRows>>⟧.count self.new ≡ ⟦<CIndex as Tables<CertRows>>⟧.count self.old }
+        ensures others { ⟦<CIndex as Tables<CertRows>>⟧.others self.new ≡ ⟦<CIndex as Tables<CertRows>>⟧.others self.old }
+        ensures ready { OnOk result (IsPlaced place_cmp (from.now, Some to.now) self.new.tables.first.table.placed × (1 ≤ self.new.tables.first.table.room)) }
+        ensures ready_received { OnOk result (IsReady place_cmp self.new.tables.second.tables.first.table (to.now, Some from.now) changes.now.pair × IsReady text_cmp self.new.tables.second.tables.second.table to.now changes.now.received) }
+        ensures ready_issued { OnOk result (IsReady place_cmp self.new.tables.third.tables.first.table (from.now, Some to.now) changes.now.pair × IsReady text_cmp self.new.tables.third.tables.second.table from.now changes.now.issuer) }
     {
         self.tables.first.ready((*from, Some(*to)), 1)?;
         ready_side(
@@ -274,15 +273,13 @@ impl CIndex {
     ) -> Result<(), NoMemory>
         ensures at { OnOk result ((s t : List Rows) → ⟦<CIndex as Tables<CertRows>>⟧.at self.old s → AreChanges (newest map.empty s) from.now to.now changes.now.row changes.now.pair changes.now.received changes.now.issuer
             → ⟦<CIndex as Tables<CertRows>>⟧.at self.new (map.insert (newest map.empty s) (from.now, to.now) changes.now.row ∷ t)) }
-        ensures marked { (s : List Rows) → ⟦<CIndex as Tables<CertRows>>⟧.marked self.old s → ⟦<CIndex as Tables<CertRows>>⟧.marked self.new s }
-        ensures waits { (o : List Rows) (i : ℕ) → ⟦<CIndex as Tables<CertRows>>⟧.waits self.old o i → ⟦<CIndex as Tables<CertRows>>⟧.waits self.new o i }
-        ensures ahead { ⟦<CIndex as Tables<CertRows>>⟧.ahead_costs self.new ≡ ⟦<CIndex as Tables<CertRows>>⟧.ahead_costs self.old }
-        ensures costs { OnOk result (⟦<CIndex as Tables<CertRows>>⟧.costs self.new ≡ add_last (sets_in changes.now.pair changes.now.received changes.now.issuer) (⟦<CIndex as Tables<CertRows>>⟧.costs self.old)) }
+        ensures others { ⟦<CIndex as Tables<CertRows>>⟧.others self.new ≡ ⟦<CIndex as Tables<CertRows>>⟧.others self.old }
+        ensures count { ⟦<CIndex as Tables<CertRows>>⟧.count self.new + steps.old ≤ ⟦<CIndex as Tables<CertRows>>⟧.count self.old + steps.new }
         ensures steps { OnOk result (steps.new ≡ steps.old + sets_in changes.now.pair changes.now.received changes.now.issuer) }
 
-        ensures succeeds { IsPlaced place_cmp (from.now, Some to.now) self.old.tables.first.placed × (1 ≤ self.old.tables.first.room)
-            → IsReady place_cmp self.old.tables.second.tables.first (to.now, Some from.now) changes.now.pair × IsReady text_cmp self.old.tables.second.tables.second to.now changes.now.received
-            → IsReady place_cmp self.old.tables.third.tables.first (from.now, Some to.now) changes.now.pair × IsReady text_cmp self.old.tables.third.tables.second from.now changes.now.issuer
+        ensures succeeds { IsPlaced place_cmp (from.now, Some to.now) self.old.tables.first.table.placed × (1 ≤ self.old.tables.first.table.room)
+            → IsReady place_cmp self.old.tables.second.tables.first.table (to.now, Some from.now) changes.now.pair × IsReady text_cmp self.old.tables.second.tables.second.table to.now changes.now.received
+            → IsReady place_cmp self.old.tables.third.tables.first.table (from.now, Some to.now) changes.now.pair × IsReady text_cmp self.old.tables.third.tables.second.table from.now changes.now.issuer
             → IsOk result }
     {
         let received_by = (*to, Some(*from));

@@ -17,34 +17,26 @@ pub struct ReceivedTables {
 }
 
 impl Tables<CertRows> for ReceivedTables {
-    ghost costs = { λ t. ⟦<ReceivedSide as Tables<CertRows>>⟧.costs t.tables };
+    ghost Now = { ⟦<ReceivedSide as Tables<CertRows>>⟧.Now };
 
-    ghost ahead_costs = { λ t. ⟦<ReceivedSide as Tables<CertRows>>⟧.ahead_costs t.tables };
+    ghost Names = { ⟦<ReceivedSide as Tables<CertRows>>⟧.Names };
 
-    ghost at = { λ t s. ⟦<ReceivedSide as Tables<CertRows>>⟧.at t.tables s };
+    ghost now = { λ t. ⟦<ReceivedSide as Tables<CertRows>>⟧.now t.tables };
 
-    ghost stands = { λ t s. ⟦<ReceivedSide as Tables<CertRows>>⟧.stands t.tables s };
+    ghost count = { λ t. ⟦<ReceivedSide as Tables<CertRows>>⟧.count t.tables };
 
-    ghost marked = { λ t s. ⟦<ReceivedSide as Tables<CertRows>>⟧.marked t.tables s };
-
-    ghost waits = { λ t o i. ⟦<ReceivedSide as Tables<CertRows>>⟧.waits t.tables o i };
-
-    ghost same = { λ t u. ⟦<ReceivedSide as Tables<CertRows>>⟧.same t.tables u.tables };
-
-    ghost marks = { λ t u. ⟦<ReceivedSide as Tables<CertRows>>⟧.marks t.tables u.tables };
-
-    ghost keeps = { λ t u. ⟦<ReceivedSide as Tables<CertRows>>⟧.keeps t.tables u.tables };
+    ghost others = { λ t. ⟦<ReceivedSide as Tables<CertRows>>⟧.others t.tables };
 
     ghost spare = { λ t. ⟦<ReceivedSide as Tables<CertRows>>⟧.spare t.tables };
 
-    ghost room = { λ t. ⟦<ReceivedSide as Tables<CertRows>>⟧.room t.tables };
+    ghost names = { λ t. ⟦<ReceivedSide as Tables<CertRows>>⟧.names t.tables };
+
+    ghost is = { ⟦<ReceivedSide as Tables<CertRows>>⟧.is };
+
+    ghost at = { λ t c. ⟦<ReceivedSide as Tables<CertRows>>⟧.at t.tables c };
 
     fn depth(&self) -> usize {
         self.tables.depth()
-    }
-
-    fn laws(&self) {
-        self.tables.laws();
     }
 
     fn mark(&mut self) -> Result<(), NoMemory> {
@@ -81,8 +73,9 @@ impl Tables<CertRows> for ReceivedTables {
         self.tables.drop_ahead();
     }
 
-    ghost use Rattle.dubp_cindex.specs.Orders.{text_cmp, place_cmp};
-    ghost use Rattle.dubp_cindex.specs.Rows.{received_by_along, received_along};
+    ghost is_at = { λ t c is. is };
+
+    ghost at_is = { λ t c is. is };
 }
 
 type IssuedSide = Side<IssuerRow, IssuedBy, Issuers>;
@@ -94,34 +87,26 @@ pub struct IssuedTables {
 }
 
 impl Tables<CertRows> for IssuedTables {
-    ghost costs = { λ t. ⟦<IssuedSide as Tables<CertRows>>⟧.costs t.tables };
+    ghost Now = { ⟦<IssuedSide as Tables<CertRows>>⟧.Now };
 
-    ghost ahead_costs = { λ t. ⟦<IssuedSide as Tables<CertRows>>⟧.ahead_costs t.tables };
+    ghost Names = { ⟦<IssuedSide as Tables<CertRows>>⟧.Names };
 
-    ghost at = { λ t s. ⟦<IssuedSide as Tables<CertRows>>⟧.at t.tables s };
+    ghost now = { λ t. ⟦<IssuedSide as Tables<CertRows>>⟧.now t.tables };
 
-    ghost stands = { λ t s. ⟦<IssuedSide as Tables<CertRows>>⟧.stands t.tables s };
+    ghost count = { λ t. ⟦<IssuedSide as Tables<CertRows>>⟧.count t.tables };
 
-    ghost marked = { λ t s. ⟦<IssuedSide as Tables<CertRows>>⟧.marked t.tables s };
-
-    ghost waits = { λ t o i. ⟦<IssuedSide as Tables<CertRows>>⟧.waits t.tables o i };
-
-    ghost same = { λ t u. ⟦<IssuedSide as Tables<CertRows>>⟧.same t.tables u.tables };
-
-    ghost marks = { λ t u. ⟦<IssuedSide as Tables<CertRows>>⟧.marks t.tables u.tables };
-
-    ghost keeps = { λ t u. ⟦<IssuedSide as Tables<CertRows>>⟧.keeps t.tables u.tables };
+    ghost others = { λ t. ⟦<IssuedSide as Tables<CertRows>>⟧.others t.tables };
 
     ghost spare = { λ t. ⟦<IssuedSide as Tables<CertRows>>⟧.spare t.tables };
 
-    ghost room = { λ t. ⟦<IssuedSide as Tables<CertRows>>⟧.room t.tables };
+    ghost names = { λ t. ⟦<IssuedSide as Tables<CertRows>>⟧.names t.tables };
+
+    ghost is = { ⟦<IssuedSide as Tables<CertRows>>⟧.is };
+
+    ghost at = { λ t c. ⟦<IssuedSide as Tables<CertRows>>⟧.at t.tables c };
 
     fn depth(&self) -> usize {
         self.tables.depth()
-    }
-
-    fn laws(&self) {
-        self.tables.laws();
     }
 
     fn mark(&mut self) -> Result<(), NoMemory> {
@@ -158,16 +143,17 @@ impl Tables<CertRows> for IssuedTables {
         self.tables.drop_ahead();
     }
 
-    ghost use Rattle.dubp_cindex.specs.Orders.{text_cmp, place_cmp};
-    ghost use Rattle.dubp_cindex.specs.Rows.{issued_by_along, issuers_along};
+    ghost is_at = { λ t c is. is };
+
+    ghost at_is = { λ t c is. is };
 }
 
 /// Nothing is received.
 pub fn no_received(alloc: Global) -> ReceivedTables
-    ensures costs { ⟦<ReceivedTables as Tables<CertRows>>⟧.costs result ≡ [] }
-    ensures ahead { ⟦<ReceivedTables as Tables<CertRows>>⟧.ahead_costs result ≡ [] }
-    ensures stands { ⟦<ReceivedTables as Tables<CertRows>>⟧.stands result [] }
-    ensures waits { (o : List Rows) → ⟦<ReceivedTables as Tables<CertRows>>⟧.waits result o 0 }
+    ensures at { ⟦<ReceivedTables as Tables<CertRows>>⟧.at result [] }
+    ensures count { ⟦<ReceivedTables as Tables<CertRows>>⟧.count result ≡ 0 }
+    ensures kept { (⟦<ReceivedTables as Tables<CertRows>>⟧.others result).kept ≡ [] }
+    ensures ahead { (⟦<ReceivedTables as Tables<CertRows>>⟧.others result).ahead ≡ [] }
 {
     ReceivedTables {
         tables: Both::new(Leaf::new(alloc), Leaf::new(alloc)),
@@ -176,10 +162,10 @@ pub fn no_received(alloc: Global) -> ReceivedTables
 
 /// Nothing is issued.
 pub fn no_issued(alloc: Global) -> IssuedTables
-    ensures costs { ⟦<IssuedTables as Tables<CertRows>>⟧.costs result ≡ [] }
-    ensures ahead { ⟦<IssuedTables as Tables<CertRows>>⟧.ahead_costs result ≡ [] }
-    ensures stands { ⟦<IssuedTables as Tables<CertRows>>⟧.stands result [] }
-    ensures waits { (o : List Rows) → ⟦<IssuedTables as Tables<CertRows>>⟧.waits result o 0 }
+    ensures at { ⟦<IssuedTables as Tables<CertRows>>⟧.at result [] }
+    ensures count { ⟦<IssuedTables as Tables<CertRows>>⟧.count result ≡ 0 }
+    ensures kept { (⟦<IssuedTables as Tables<CertRows>>⟧.others result).kept ≡ [] }
+    ensures ahead { (⟦<IssuedTables as Tables<CertRows>>⟧.others result).ahead ≡ [] }
 {
     IssuedTables {
         tables: Both::new(Leaf::new(alloc), Leaf::new(alloc)),

@@ -1,9 +1,7 @@
-ghost use Rattle.std.specs.Prelude.{◌≡◌, ◌+◌, ℕ, List, OnOk, OnErr, IsOk};
-ghost use Rattle.dubp_undo.specs.Definition.{SameMaps};
-ghost use Rattle.dubp_undo.specs.Numbers.{add_last, settled};
+ghost use Rattle.std.specs.Prelude.{◌≡◌, ◌+◌, ◌≤◌, OnOk, IsOk};
 ghost use Rattle.dubp_cindex.specs.Changes.{Makes, IsReady, sets_of};
 ghost use Rattle.dubp_cindex.specs.Orders.{text_cmp, place_cmp};
-ghost use Rattle.dubp_cindex.specs.Rows.{Rows, rows_along, received_by_along, received_along, issued_by_along, issuers_along};
+ghost use Rattle.dubp_cindex.specs.Rows.{rows_along, received_by_along, received_along, issued_by_along, issuers_along};
 
 use crate::changing::{Change, make, ready_for};
 use crate::row::{CertRow, CertRows, IssuerRow};
@@ -71,10 +69,11 @@ pub fn ready_side<
     key: &Key,
     value: &Change<V>,
 ) -> Result<(), NoMemory>
-    ensures first { SameMaps side.old.first side.new.first }
-    ensures second { SameMaps side.old.second side.new.second }
-    ensures ready_first { OnOk result (IsReady place_cmp side.new.first place.now pair.now) }
-    ensures ready_second { OnOk result (IsReady text_cmp side.new.second key.now value.now) }
+    ensures now { ⟦<Side<V, D, E> as Tables<CertRows>>⟧.now side.new ≡ ⟦<Side<V, D, E> as Tables<CertRows>>⟧.now side.old }
+    ensures count { ⟦<Side<V, D, E> as Tables<CertRows>>⟧.count side.new ≡ ⟦<Side<V, D, E> as Tables<CertRows>>⟧.count side.old }
+    ensures others { ⟦<Side<V, D, E> as Tables<CertRows>>⟧.others side.new ≡ ⟦<Side<V, D, E> as Tables<CertRows>>⟧.others side.old }
+    ensures ready_first { OnOk result (IsReady place_cmp side.new.first.table place.now pair.now) }
+    ensures ready_second { OnOk result (IsReady text_cmp side.new.second.table key.now value.now) }
 {
     ready_for(&mut side.first, *place, pair)?;
     ready_for(&mut side.second, *key, value)?;
@@ -95,16 +94,13 @@ pub fn make_side<
     value: &Change<V>,
     steps: &mut Steps<L>,
 ) -> Result<(), NoMemory>
-    ensures first { OnOk result (Makes place_cmp side.old.first.now side.new.first.now place.now pair.now) }
-    ensures second { OnOk result (Makes text_cmp side.old.second.now side.new.second.now key.now value.now) }
-    ensures costs { OnOk result (⟦<Side<V, D, E> as Tables<CertRows>>⟧.costs side.new ≡ add_last (sets_of pair.now + sets_of value.now) (⟦<Side<V, D, E> as Tables<CertRows>>⟧.costs side.old)) }
+    ensures first { OnOk result (Makes place_cmp side.old.first.table.now side.new.first.table.now place.now pair.now) }
+    ensures second { OnOk result (Makes text_cmp side.old.second.table.now side.new.second.table.now key.now value.now) }
+    ensures others { ⟦<Side<V, D, E> as Tables<CertRows>>⟧.others side.new ≡ ⟦<Side<V, D, E> as Tables<CertRows>>⟧.others side.old }
+    ensures count { ⟦<Side<V, D, E> as Tables<CertRows>>⟧.count side.new + steps.old ≤ ⟦<Side<V, D, E> as Tables<CertRows>>⟧.count side.old + steps.new }
     ensures steps { OnOk result (steps.new ≡ steps.old + (sets_of pair.now + sets_of value.now)) }
-    ensures costs_stay { settled (⟦<Side<V, D, E> as Tables<CertRows>>⟧.costs side.new) ≡ settled (⟦<Side<V, D, E> as Tables<CertRows>>⟧.costs side.old) }
-    ensures ahead { ⟦<Side<V, D, E> as Tables<CertRows>>⟧.ahead_costs side.new ≡ ⟦<Side<V, D, E> as Tables<CertRows>>⟧.ahead_costs side.old }
-    ensures marked { (s : List Rows) → ⟦<Side<V, D, E> as Tables<CertRows>>⟧.marked side.old s → ⟦<Side<V, D, E> as Tables<CertRows>>⟧.marked side.new s }
-    ensures waits { (o : List Rows) (i : ℕ) → ⟦<Side<V, D, E> as Tables<CertRows>>⟧.waits side.old o i → ⟦<Side<V, D, E> as Tables<CertRows>>⟧.waits side.new o i }
 
-    ensures succeeds { IsReady place_cmp side.old.first place.now pair.now → IsReady text_cmp side.old.second key.now value.now → IsOk result }
+    ensures succeeds { IsReady place_cmp side.old.first.table place.now pair.now → IsReady text_cmp side.old.second.table key.now value.now → IsOk result }
 {
     make(&mut side.first, *place, pair, steps)?;
     make(&mut side.second, *key, value, steps)?;

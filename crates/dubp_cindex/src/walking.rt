@@ -12,7 +12,7 @@ pub fn next_of<B, V: Copy + Eq, D: Definition<B, Place, V>>(
     owner: &Key,
     after: &Option<Key>,
 ) -> Option<(Key, V)>
-    ensures { Follows table.now.now owner.now after.now result }
+    ensures { Follows table.now.table.now owner.now after.now result }
 {
     let from = Some((*owner, *after));
     let (place, value) = table.next_after(from)?;

@@ -5,10 +5,8 @@ use Rattle.std.specs.FinMap.{FinMap, get-empty, get-insert, get-remove, insert, 
 use Rattle.std.specs.Ordering.{nat_cmp, ordering_then, is_eq, eq_by_cmp}
 use Rattle.std.specs.declared.cmp.Ordering.{Ordering}
 use Rattle.std.specs.declared.cmp.Ordering.TheVariants.{Less, Equal, Greater}
-use Rattle.dubp_undo.specs.Definition.{IsAt, Stands}
-use Rattle.dubp_undo.specs.MovingTable.{MovingTable, Puts, get, empty}
-use Rattle.dubp_undo.specs.Numbers.{add_last}
-use Rattle.dubp_undo.specs.States.{AtMostMore}
+use Rattle.dubp_undo.specs.Definition.{IsAt}
+use Rattle.dubp_undo.specs.MovingTable.{Puts, get}
 use Rattle.dubp_undo.proofs.Maps.{get_map, puts_remove}
 use Rattle.dubp_expiry.specs.DueOrder.{due_cmp, entry_cmp, derived_cmp}
 use Rattle.dubp_expiry.specs.Entries.{Place, Queued, queued, Has, entry_at, place_cmp, how_many}
@@ -18,21 +16,12 @@ use Rattle.dubp_expiry.proofs.Order.{derived_is, entry_total, entry_exact, place
 abbrev pub Table : Type 0
 Table = List (Place × Unit {0})
 
-pub empty_stands : (t : MovingTable Place (Unit {0})) → t ≡ empty → Stands (place_cmp derived_cmp) entry_at t.past t.now []
-empty_stands t e = rw e (record { is = nothing; kept = tt })
+pub empty_at : (m : Table) → m ≡ [] → IsAt (place_cmp derived_cmp) entry_at m []
+empty_at m e = rw e nothing
   where
     nothing : (k : Place) → None ≡ entry_at [] k
     nothing (time, None) = refl
     nothing (time, Some due) = sym (get-empty entry_cmp (time, due))
-
--- no step
-pub no_more : (costs : List ℕ) → AtMostMore 1 costs costs
-no_more costs = record { more = 0; most = omega arith; is = sym (add_nothing costs) }
-  where
-    add_nothing : (ns : List ℕ) → add_last 0 ns ≡ ns
-    add_nothing [] = refl
-    add_nothing (n ∷ []) = ap (λ x. x ∷ []) (omega arith)
-    add_nothing (l ∷ n ∷ ns) = ap (λ x. l ∷ x) (add_nothing (n ∷ ns))
 
 never : (r : Ordering) → is_eq (ordering_then r Less) ≡ false
 never Less = refl

@@ -1,7 +1,5 @@
 ghost use Rattle.std.specs.Prelude.{◌≡◌, ℕ, ◌+◌, ◌≤◌, ◌∷◌, List, [], OnOk, OnErr, IfSome, IfNone, false, ⊤};
 ghost use Rattle.std.specs.FinMap.{contains_key, insert, remove};
-ghost use Rattle.dubp_undo.specs.Numbers.{settled};
-ghost use Rattle.dubp_undo.specs.States.{AtMostMore};
 ghost use Rattle.dubp_expiry.specs.Entries.{Queued, queued, Has, IsBehind, IsNextDue, NoneIsDue, entry_at, until_now, how_many};
 
 use crate::due::{Behind, Due};
@@ -52,38 +50,30 @@ pub trait Counts {
 }
 
 impl Counts for Queue {
-    ghost entries = { λ t. how_many t.tables.now };
+    ghost entries = { λ t. how_many t.tables.table.now };
 }
 
 impl Tables<Entries> for Queue {
-    ghost costs = { λ t. ⟦<EntryTable as Tables<Entries>>⟧.costs t.tables };
+    ghost Now = { ⟦<EntryTable as Tables<Entries>>⟧.Now };
 
-    ghost ahead_costs = { λ t. ⟦<EntryTable as Tables<Entries>>⟧.ahead_costs t.tables };
+    ghost Names = { ⟦<EntryTable as Tables<Entries>>⟧.Names };
 
-    ghost at = { λ t c. ⟦<EntryTable as Tables<Entries>>⟧.at t.tables c };
+    ghost now = { λ t. ⟦<EntryTable as Tables<Entries>>⟧.now t.tables };
 
-    ghost stands = { λ t c. ⟦<EntryTable as Tables<Entries>>⟧.stands t.tables c };
+    ghost count = { λ t. ⟦<EntryTable as Tables<Entries>>⟧.count t.tables };
 
-    ghost marked = { λ t c. ⟦<EntryTable as Tables<Entries>>⟧.marked t.tables c };
-
-    ghost waits = { λ t o i. ⟦<EntryTable as Tables<Entries>>⟧.waits t.tables o i };
-
-    ghost same = { λ t u. ⟦<EntryTable as Tables<Entries>>⟧.same t.tables u.tables };
-
-    ghost marks = { λ t u. ⟦<EntryTable as Tables<Entries>>⟧.marks t.tables u.tables };
-
-    ghost keeps = { λ t u. ⟦<EntryTable as Tables<Entries>>⟧.keeps t.tables u.tables };
+    ghost others = { λ t. ⟦<EntryTable as Tables<Entries>>⟧.others t.tables };
 
     ghost spare = { λ t. ⟦<EntryTable as Tables<Entries>>⟧.spare t.tables };
 
-    ghost room = { λ t. ⟦<EntryTable as Tables<Entries>>⟧.room t.tables };
+    ghost names = { λ t. ⟦<EntryTable as Tables<Entries>>⟧.names t.tables };
+
+    ghost is = { ⟦<EntryTable as Tables<Entries>>⟧.is };
+
+    ghost at = { λ t c. ⟦<EntryTable as Tables<Entries>>⟧.at t.tables c };
 
     fn depth(&self) -> usize {
         self.tables.depth()
-    }
-
-    fn laws(&self) {
-        self.tables.laws();
     }
 
     fn mark(&mut self) -> Result<(), NoMemory> {
@@ -119,15 +109,19 @@ impl Tables<Entries> for Queue {
     fn drop_ahead(&mut self) {
         self.tables.drop_ahead();
     }
+
+    ghost is_at = { λ t c is. is };
+
+    ghost at_is = { λ t c is. is };
 }
 
 impl Queue {
     /// The queue without entries. It takes no memory.
     pub fn new(alloc: Global) -> Queue
-        ensures stands { ⟦<Queue as Tables<Entries>>⟧.stands result [] }
-        ensures costs { ⟦<Queue as Tables<Entries>>⟧.costs result ≡ [] }
-        ensures ahead { ⟦<Queue as Tables<Entries>>⟧.ahead_costs result ≡ [] }
-        ensures waits { (o : List Queued) → ⟦<Queue as Tables<Entries>>⟧.waits result o 0 }
+        ensures at { ⟦<Queue as Tables<Entries>>⟧.at result [] }
+        ensures count { ⟦<Queue as Tables<Entries>>⟧.count result ≡ 0 }
+        ensures kept { (⟦<Queue as Tables<Entries>>⟧.others result).kept ≡ [] }
+        ensures ahead { (⟦<Queue as Tables<Entries>>⟧.others result).ahead ≡ [] }
     {
         Queue {
             tables: Leaf::new(alloc),
@@ -176,16 +170,12 @@ impl Queue {
         steps: &mut Steps<L>,
     ) -> Result<(), NoMemory>
         ensures at { OnOk result ((s t : List Queued) → ⟦<Queue as Tables<Entries>>⟧.at self.old s → ⟦<Queue as Tables<Entries>>⟧.at self.new (insert (queued s) (time, due) tt ∷ t)) }
-        ensures there { (s : List Queued) → ⟦<Queue as Tables<Entries>>⟧.at self.old s → Has (queued s) (time, due) → ⟦<Queue as Tables<Entries>>⟧.same self.old self.new }
-        ensures no_set { (s : List Queued) → ⟦<Queue as Tables<Entries>>⟧.at self.old s → Has (queued s) (time, due) → steps.new ≡ steps.old }
-        ensures marked { (s : List Queued) → ⟦<Queue as Tables<Entries>>⟧.marked self.old s → ⟦<Queue as Tables<Entries>>⟧.marked self.new s }
-        ensures waits { (o : List Queued) (i : ℕ) → ⟦<Queue as Tables<Entries>>⟧.waits self.old o i → ⟦<Queue as Tables<Entries>>⟧.waits self.new o i }
-        ensures ahead { ⟦<Queue as Tables<Entries>>⟧.ahead_costs self.new ≡ ⟦<Queue as Tables<Entries>>⟧.ahead_costs self.old }
-        ensures costs_stay { settled (⟦<Queue as Tables<Entries>>⟧.costs self.new) ≡ settled (⟦<Queue as Tables<Entries>>⟧.costs self.old) }
-        ensures costs { OnOk result (AtMostMore 1 (⟦<Queue as Tables<Entries>>⟧.costs self.old) (⟦<Queue as Tables<Entries>>⟧.costs self.new)) }
+        ensures there { (s : List Queued) → ⟦<Queue as Tables<Entries>>⟧.at self.old s → Has (queued s) (time, due) → (⟦<Queue as Tables<Entries>>⟧.now self.new ≡ ⟦<Queue as Tables<Entries>>⟧.now self.old) × (steps.new ≡ steps.old) }
+        ensures others { ⟦<Queue as Tables<Entries>>⟧.others self.new ≡ ⟦<Queue as Tables<Entries>>⟧.others self.old }
+        ensures count { ⟦<Queue as Tables<Entries>>⟧.count self.new + steps.old ≤ ⟦<Queue as Tables<Entries>>⟧.count self.old + steps.new }
         ensures steps { OnOk result (steps.new ≤ steps.old + 1) }
 
-        ensures refused { OnErr result (⟦<Queue as Tables<Entries>>⟧.same self.old self.new) }
+        ensures refused { OnErr result (⟦<Queue as Tables<Entries>>⟧.now self.new ≡ ⟦<Queue as Tables<Entries>>⟧.now self.old) }
         ensures no_step { OnErr result (steps.new ≡ steps.old) }
     {
         if self.has(time, &due) {
@@ -206,16 +196,12 @@ impl Queue {
     ) -> Result<(), NoMemory>
         ensures at { OnOk result ((s t : List Queued) → ⟦<Queue as Tables<Entries>>⟧.at self.old s → ⟦<Queue as Tables<Entries>>⟧.at self.new (remove (queued s) (time, due) ∷ t)) }
         ensures fewer { OnOk result ((s : List Queued) → ⟦<Queue as Tables<Entries>>⟧.at self.old s → Has (queued s) (time, due) → ⟦<Queue as Counts>⟧.entries self.new + 1 ≡ ⟦<Queue as Counts>⟧.entries self.old) }
-        ensures not_there { (s : List Queued) → ⟦<Queue as Tables<Entries>>⟧.at self.old s → contains_key (queued s) (time, due) ≡ false → ⟦<Queue as Tables<Entries>>⟧.same self.old self.new }
-        ensures no_set { (s : List Queued) → ⟦<Queue as Tables<Entries>>⟧.at self.old s → contains_key (queued s) (time, due) ≡ false → steps.new ≡ steps.old }
-        ensures marked { (s : List Queued) → ⟦<Queue as Tables<Entries>>⟧.marked self.old s → ⟦<Queue as Tables<Entries>>⟧.marked self.new s }
-        ensures waits { (o : List Queued) (i : ℕ) → ⟦<Queue as Tables<Entries>>⟧.waits self.old o i → ⟦<Queue as Tables<Entries>>⟧.waits self.new o i }
-        ensures ahead { ⟦<Queue as Tables<Entries>>⟧.ahead_costs self.new ≡ ⟦<Queue as Tables<Entries>>⟧.ahead_costs self.old }
-        ensures costs_stay { settled (⟦<Queue as Tables<Entries>>⟧.costs self.new) ≡ settled (⟦<Queue as Tables<Entries>>⟧.costs self.old) }
-        ensures costs { OnOk result (AtMostMore 1 (⟦<Queue as Tables<Entries>>⟧.costs self.old) (⟦<Queue as Tables<Entries>>⟧.costs self.new)) }
+        ensures not_there { (s : List Queued) → ⟦<Queue as Tables<Entries>>⟧.at self.old s → contains_key (queued s) (time, due) ≡ false → (⟦<Queue as Tables<Entries>>⟧.now self.new ≡ ⟦<Queue as Tables<Entries>>⟧.now self.old) × (steps.new ≡ steps.old) }
+        ensures others { ⟦<Queue as Tables<Entries>>⟧.others self.new ≡ ⟦<Queue as Tables<Entries>>⟧.others self.old }
+        ensures count { ⟦<Queue as Tables<Entries>>⟧.count self.new + steps.old ≤ ⟦<Queue as Tables<Entries>>⟧.count self.old + steps.new }
         ensures steps { OnOk result (steps.new ≤ steps.old + 1) }
 
-        ensures refused { OnErr result (⟦<Queue as Tables<Entries>>⟧.same self.old self.new) }
+        ensures refused { OnErr result (⟦<Queue as Tables<Entries>>⟧.now self.new ≡ ⟦<Queue as Tables<Entries>>⟧.now self.old) }
         ensures no_step { OnErr result (steps.new ≡ steps.old) }
     {
         if !self.has(time, &due) {

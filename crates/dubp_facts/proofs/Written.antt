@@ -1,5 +1,5 @@
 -- What the tables tell of a chain, and what a block that is written makes of them.
-use Rattle.std.proofs.Common.{◌≡◌, ℕ, ◌+◌, Bool, true, false, cond, List, [], ◌∷◌, length, Option, Some, None, refl, sym, ap, inl, inr, arith}
+use Rattle.std.proofs.Common.{◌≡◌, ℕ, ◌+◌, Bool, true, false, cond, [], ◌∷◌, length, Option, Some, None, refl, sym, ap, inl, inr, arith}
 use Rattle.std.specs.Prelude.{option_map, is_some, ◌==◌, ◌&&◌}
 use Rattle.std.specs.Ordering.{nat_cmp, is_eq}
 use Rattle.std.specs.BTreeMap.{is_at}
@@ -16,9 +16,6 @@ use Rattle.dubp_validity.specs.OfBlock.{Block}
 use Rattle.dubp_validity.specs.OfBlock.{CertLine}
 use Rattle.dubp_validity.specs.OfBlock.{IsFirstParams}
 use Rattle.dubp_params.specs.declared.params.Params.{Params}
-use Rattle.dubp_undo.specs.Numbers.{plus, add_last}
-use Rattle.dubp_undo.specs.States.{AtMostMore}
-use Rattle.dubp_undo.proofs.Numbers.{plus-add_last}
 use Rattle.dubp_validity.specs.OfChain.{Head}
 use Rattle.dubp_validity.specs.OfChain.{Chain}
 use Rattle.dubp_validity.specs.OfChain.{head_of}
@@ -112,16 +109,3 @@ same_number n m = elim (eqb_tells m n) [
 pub times-next : (c : Chain) (b : Block) (h : Head) → head_of (b ∷ c) ≡ Some h → (n : ℕ) → cond (is_at (nat_cmp n) h.number) (Some (block_time h)) (time_at c n) ≡ time_at (b ∷ c) n
 times-next c b h e n =
     rw (same_number n h.number, ← some_is _ _ e) (sym (pick _ _ _))
-
--- ---- how many keys are set
-
-pub add_last-none : (ns : List ℕ) → add_last 0 ns ≡ ns
-add_last-none [] = refl
-add_last-none (n ∷ []) = ap (λ m. m ∷ []) (omega arith)
-add_last-none (m ∷ n ∷ ns) = ap (λ l. m ∷ l) (add_last-none (n ∷ ns))
-
-pub none_more : (n : ℕ) (ns : List ℕ) → AtMostMore n ns ns
-none_more n ns = record { more = 0; most = omega arith; is = sym (add_last-none ns) }
-
-pub two_more : (xs xs' ys ys' : List ℕ) → length xs ≡ length ys → AtMostMore 1 xs xs' → ys' ≡ add_last 1 ys → AtMostMore 2 (plus xs ys) (plus xs' ys')
-two_more xs xs' ys ys' even m e = record { more = m.more + 1; most = omega (arith, m.most); is = rw (m.is, e) (plus-add_last m.more 1 xs ys even) }

@@ -1,12 +1,9 @@
 ghost use Rattle.std.specs.Prelude.{◌≡◌, ◌↔◌, IsTrue, ℕ, ◌≤◌, ◌+◌, List, [], ◌∷◌, IsOk, OnOk, OnErr, option_map};
-ghost use Rattle.dubp_undo.specs.Definition.{IsMarked, SameMaps};
 ghost use Rattle.dubp_undo.specs.MovingTable.{get, IsPlaced};
-ghost use Rattle.dubp_undo.specs.Numbers.{counts, settled};
 ghost use Rattle.dubp_validity.specs.OfBlock.{Block as BlockValue};
 ghost use Rattle.dubp_validity.specs.OfChain.{Chain};
 ghost use Rattle.dubp_validity.specs.OfChain.{made, certification_made, certification_stamp};
 ghost use Rattle.dubp_validity.specs.Rules.{IsSound};
-ghost use Rattle.dubp_undo.specs.States.{AtMostMore};
 ghost use Rattle.dubp_facts.specs.Facts.{one, first_after, first_at, time_at, time_of_stamp, IsNext};
 ghost use Rattle.dubp_facts.specs.declared.facts.BlockTime.{BlockTime as BlockTimeValue};
 ghost use Rattle.dubp_atoms.specs.Same.{empty_stamp};
@@ -45,11 +42,9 @@ impl Definition<Block, u64, BlockTime> for TimesOf {
     ghost at = { time_at };
 }
 
-type FirstAndTimes = Both<
-    Block,
-    Leaf<Block, (), First, FirstOf>,
-    Leaf<Block, u64, BlockTime, TimesOf>,
->;
+type FirstTable = Leaf<Block, (), First, FirstOf>;
+
+type FirstAndTimes = Both<Block, FirstTable, Leaf<Block, u64, BlockTime, TimesOf>>;
 
 /// The parameters and the currency of a chain, and the hashes and median times of its blocks by number.
 #[derive(Drop)]
@@ -58,34 +53,26 @@ pub struct Facts {
 }
 
 impl Tables<Block> for Facts {
-    ghost costs = { λ t. ⟦<FirstAndTimes as Tables<Block>>⟧.costs t.tables };
+    ghost Now = { ⟦<FirstAndTimes as Tables<Block>>⟧.Now };
 
-    ghost ahead_costs = { λ t. ⟦<FirstAndTimes as Tables<Block>>⟧.ahead_costs t.tables };
+    ghost Names = { ⟦<FirstAndTimes as Tables<Block>>⟧.Names };
 
-    ghost at = { λ t c. ⟦<FirstAndTimes as Tables<Block>>⟧.at t.tables c };
+    ghost now = { λ t. ⟦<FirstAndTimes as Tables<Block>>⟧.now t.tables };
 
-    ghost stands = { λ t c. ⟦<FirstAndTimes as Tables<Block>>⟧.stands t.tables c };
+    ghost count = { λ t. ⟦<FirstAndTimes as Tables<Block>>⟧.count t.tables };
 
-    ghost marked = { λ t c. ⟦<FirstAndTimes as Tables<Block>>⟧.marked t.tables c };
-
-    ghost waits = { λ t o i. ⟦<FirstAndTimes as Tables<Block>>⟧.waits t.tables o i };
-
-    ghost same = { λ t u. ⟦<FirstAndTimes as Tables<Block>>⟧.same t.tables u.tables };
-
-    ghost marks = { λ t u. ⟦<FirstAndTimes as Tables<Block>>⟧.marks t.tables u.tables };
-
-    ghost keeps = { λ t u. ⟦<FirstAndTimes as Tables<Block>>⟧.keeps t.tables u.tables };
+    ghost others = { λ t. ⟦<FirstAndTimes as Tables<Block>>⟧.others t.tables };
 
     ghost spare = { λ t. ⟦<FirstAndTimes as Tables<Block>>⟧.spare t.tables };
 
-    ghost room = { λ t. ⟦<FirstAndTimes as Tables<Block>>⟧.room t.tables };
+    ghost names = { λ t. ⟦<FirstAndTimes as Tables<Block>>⟧.names t.tables };
+
+    ghost is = { ⟦<FirstAndTimes as Tables<Block>>⟧.is };
+
+    ghost at = { λ t c. ⟦<FirstAndTimes as Tables<Block>>⟧.at t.tables c };
 
     fn depth(&self) -> usize {
         self.tables.depth()
-    }
-
-    fn laws(&self) {
-        self.tables.laws();
     }
 
     fn mark(&mut self) -> Result<(), NoMemory> {
@@ -121,15 +108,19 @@ impl Tables<Block> for Facts {
     fn drop_ahead(&mut self) {
         self.tables.drop_ahead();
     }
+
+    ghost is_at = { λ t c is. is };
+
+    ghost at_is = { λ t c is. is };
 }
 
 impl Facts {
     /// Those of the empty chain. It takes no memory.
     pub fn new(alloc: Global) -> Facts
-        ensures stands { ⟦<Facts as Tables<Block>>⟧.stands result [] }
-        ensures costs { ⟦<Facts as Tables<Block>>⟧.costs result ≡ [] }
-        ensures ahead { ⟦<Facts as Tables<Block>>⟧.ahead_costs result ≡ [] }
-        ensures waits { (o : List BlockValue) → ⟦<Facts as Tables<Block>>⟧.waits result o 0 }
+        ensures at { ⟦<Facts as Tables<Block>>⟧.at result [] }
+        ensures count { ⟦<Facts as Tables<Block>>⟧.count result ≡ 0 }
+        ensures kept { (⟦<Facts as Tables<Block>>⟧.others result).kept ≡ [] }
+        ensures ahead { (⟦<Facts as Tables<Block>>⟧.others result).ahead ≡ [] }
     {
         Facts {
             tables: Both::new(Leaf::new(alloc), Leaf::new(alloc)),
@@ -172,7 +163,7 @@ impl Facts {
         }
     }
 
-    /// Writes the block behind the chain, whose head this is: at most two writes. What is marked stays so.
+    /// Writes the block behind the chain, whose head this is: at most two writes. What is kept stays so.
     ///
     /// `NoMemory` where there is no room for them; all is as before then.
     pub fn write<L: StepBook>(
@@ -182,12 +173,10 @@ impl Facts {
         steps: &mut Steps<L>,
     ) -> Result<(), NoMemory>
         ensures at { OnOk result ((c : Chain) → ⟦<Facts as Tables<Block>>⟧.at self.old c → IsNext c block.now head.now → ⟦<Facts as Tables<Block>>⟧.at self.new (block.now ∷ c)) }
-        ensures marked { (c : Chain) → ⟦<Facts as Tables<Block>>⟧.marked self.old c → ⟦<Facts as Tables<Block>>⟧.marked self.new c }
-        ensures waits { (o : List BlockValue) (i : ℕ) → ⟦<Facts as Tables<Block>>⟧.waits self.old o i → ⟦<Facts as Tables<Block>>⟧.waits self.new o i }
-        ensures ahead { ⟦<Facts as Tables<Block>>⟧.ahead_costs self.new ≡ ⟦<Facts as Tables<Block>>⟧.ahead_costs self.old }
-        ensures costs { OnOk result (AtMostMore 2 (⟦<Facts as Tables<Block>>⟧.costs self.old) (⟦<Facts as Tables<Block>>⟧.costs self.new)) }
+        ensures others { ⟦<Facts as Tables<Block>>⟧.others self.new ≡ ⟦<Facts as Tables<Block>>⟧.others self.old }
+        ensures count { ⟦<Facts as Tables<Block>>⟧.count self.new + steps.old ≤ ⟦<Facts as Tables<Block>>⟧.count self.old + steps.new }
         ensures steps { OnOk result (steps.new ≤ steps.old + 2) }
-        ensures refused { OnErr result (⟦<Facts as Tables<Block>>⟧.same self.old self.new) }
+        ensures refused { OnErr result (⟦<Facts as Tables<Block>>⟧.now self.new ≡ ⟦<Facts as Tables<Block>>⟧.now self.old) }
         ensures no_step { OnErr result (steps.new ≡ steps.old) }
     {
         self.tables.first.ready((), 1)?;
@@ -204,20 +193,17 @@ impl Facts {
 
 /// A block that has parameters sets them and the currency.
 fn write_first<L: StepBook>(
-    first: &mut Leaf<Block, (), First, FirstOf>,
+    first: &mut FirstTable,
     block: &Block,
     steps: &mut Steps<L>,
 ) -> Result<(), NoMemory>
-    ensures now { OnOk result ((k : Unit {0}) → get one first.new.now k ≡ first_after block.now (get one first.old.now k)) }
-    ensures costs { OnOk result (AtMostMore 1 (counts first.old.past) (counts first.new.past)) }
-    ensures costs_stay { settled (counts first.new.past) ≡ settled (counts first.old.past) }
-    ensures marked { (c : Chain) → IsMarked one first_at first.old.past c → IsMarked one first_at first.new.past c }
-    ensures ahead { first.new.ahead ≡ first.old.ahead }
-    ensures root { first.new.root ≡ first.old.root }
+    ensures now { OnOk result ((k : Unit {0}) → get one (⟦<FirstTable as Tables<Block>>⟧.now first.new) k ≡ first_after block.now (get one (⟦<FirstTable as Tables<Block>>⟧.now first.old) k)) }
+    ensures others { ⟦<FirstTable as Tables<Block>>⟧.others first.new ≡ ⟦<FirstTable as Tables<Block>>⟧.others first.old }
+    ensures count { ⟦<FirstTable as Tables<Block>>⟧.count first.new + steps.old ≤ ⟦<FirstTable as Tables<Block>>⟧.count first.old + steps.new }
     ensures steps { OnOk result (steps.new ≤ steps.old + 1) }
-    ensures refused { OnErr result (SameMaps first.old first.new) }
+    ensures refused { OnErr result (⟦<FirstTable as Tables<Block>>⟧.now first.new ≡ ⟦<FirstTable as Tables<Block>>⟧.now first.old) }
     ensures no_step { OnErr result (steps.new ≡ steps.old) }
-    ensures succeeds { IsPlaced one tt first.old.placed → 1 ≤ first.old.room → IsOk result }
+    ensures succeeds { IsPlaced one tt first.old.table.placed → 1 ≤ first.old.table.room → IsOk result }
 {
     match &block.params {
         Some(params) => {

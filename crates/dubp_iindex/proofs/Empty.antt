@@ -4,9 +4,7 @@ use Rattle.std.specs.Prelude.{find, option_map}
 use Rattle.std.specs.declared.cmp.Ordering.{Ordering}
 use Rattle.std.specs.FinMap.{empty, entries, get-empty, len-empty, len-entries}
 use Rattle.dubp_atoms.specs.Same.{Text}
-use Rattle.dubp_undo.specs.MovingTable.{MovingTable}
-use Rattle.dubp_undo.specs.MovingTable as seen
-use Rattle.dubp_undo.specs.Definition.{Stands, Waits}
+use Rattle.dubp_undo.specs.Definition.{IsAt}
 use Rattle.dubp_iindex.specs.declared.row.IdentityRow.{IdentityRow}
 use Rattle.dubp_iindex.specs.Rows.{texts, has_uid, row_at, key_at, member_at, counts_at}
 
@@ -29,9 +27,6 @@ no_member key = rw (get-empty {X = IdentityRow} texts key) refl
 pub no_counts_at : (k : Unit {0}) → None ≡ counts_at [] k
 no_counts_at k = rw (len-empty texts IdentityRow) refl
 
-module _ {B K V : Type 0} (cmp : K → K → Ordering) (definition : List B → K → Option V) where
-  pub stands_empty : (table : MovingTable K V) → table ≡ seen.empty → ((k : K) → None ≡ definition [] k) → Stands cmp definition table.past table.now []
-  stands_empty table is none = rw is (record { is = none; kept = tt })
-
-  pub waits_empty : (table : MovingTable K V) → table ≡ seen.empty → (o : List B) → Waits cmp definition table.root table.ahead o 0
-  waits_empty table is o = rw is (record { taken = tt; count = refl; begins = λ lt. absurd (omega (arith, lt)) })
+-- the table of nothing is that of no rows, where these have nothing at any key
+pub empty_at : {B K V : Type 0} (cmp : K → K → Ordering) (definition : List B → K → Option V) (m : List (K × V)) → m ≡ [] → ((k : K) → None ≡ definition [] k) → IsAt cmp definition m []
+empty_at cmp definition m is none = rw is none

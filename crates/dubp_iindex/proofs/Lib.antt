@@ -3,6 +3,5 @@ pub mod Entries
 pub mod KeyOrder
 pub mod Members
 pub mod Numbered
-pub mod Numbers
 pub mod Putting
 pub mod Uids

@@ -1,5 +1,5 @@
 -- How many identities and members there are, where a row is put.
-use Rattle.std.proofs.Common.{◌≡◌, ℕ, ◌+◌, ◌-◌, ◌≤◌, ◌==◌, Bool, true, false, cond, List, [], ◌∷◌, Option, Some, None, length, map, filter, refl, sym, ap, ◌∙◌, arith}
+use Rattle.std.proofs.Common.{◌≡◌, ℕ, ◌+◌, ◌-◌, ◌==◌, Bool, true, false, cond, List, [], ◌∷◌, Option, Some, None, length, map, filter, refl, sym, ap, ◌∙◌, arith}
 use Rattle.std.specs.Prelude.{count_by, is_some, is_none, unwrap_or}
 use Rattle.std.specs.Option.{option_map_or}
 use Rattle.std.specs.Cmp.Lexicographic.{nat_list_cmp_total}
@@ -16,7 +16,7 @@ use Rattle.dubp_undo.proofs.Counted as seen
 use Rattle.dubp_iindex.specs.declared.row.IdentityRow.{IdentityRow}
 use Rattle.dubp_iindex.specs.declared.row.Counts.{Counts}
 use Rattle.dubp_iindex.specs.Rows.{Rows, texts, members, counts_of}
-use Rattle.dubp_iindex.specs.Writing.{bit, same, sets, was_member, uid_write, member_write, counted, no_counts, counts_write, writes_of}
+use Rattle.dubp_iindex.specs.Writing.{bit, was_member, member_write, counted, no_counts}
 use Rattle.dubp_iindex.proofs.Entries.{texts-apart}
 
 is_false : (b : Bool) → (b ≡ true → ⊥) → b ≡ false
@@ -117,32 +117,3 @@ counts_stay rows key row old there stays =
 
     numbered : length (members rows) ≡ (length (members rows) + bit row.member) - bit old.member
     numbered = back_again (length (members rows)) old.member row.member stays
-
--- ---- how many keys are set
-
-pub all_sets : (before : Option Counts) (old : Option IdentityRow) (key : Text) (row : IdentityRow)
-    → 1 + (sets (uid_write old key) + (sets (member_write (was_member old) row.member) + sets (counts_write before old row))) ≡ writes_of old row
-all_sets before None key row = by row.member
-  where
-    by : (m : Bool) → 1 + (1 + (sets (member_write false m) + 1)) ≡ cond m 4 3
-    by true = refl
-    by false = refl
-all_sets before (Some old) key row = by old.member row.member (counted (unwrap_or before no_counts) (Some old) row)
-  where
-    by : (a b : Bool) (c : Counts) → 1 + (0 + (sets (member_write a b) + sets (cond (is_none (member_write a b)) None (Some (Some c))))) ≡ cond (same a b) 1 3
-    by true true c = refl
-    by true false c = refl
-    by false true c = refl
-    by false false c = refl
-
-pub few_writes : (old : Option IdentityRow) (row : IdentityRow) → writes_of old row ≤ 4
-few_writes None row = by row.member
-  where
-    by : (m : Bool) → cond m 4 3 ≤ 4
-    by true = omega arith
-    by false = omega arith
-few_writes (Some old) row = by (same old.member row.member)
-  where
-    by : (m : Bool) → cond m 1 3 ≤ 4
-    by true = omega arith
-    by false = omega arith

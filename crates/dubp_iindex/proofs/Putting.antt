@@ -8,20 +8,14 @@ use Rattle.std.specs.Cmp.Lexicographic.{nat_list_cmp_total, texts_ties}
 use Rattle.std.specs.FinMap.{IsAntisymmetric, insert, get-insert}
 use Rattle.std.specs.FinMap as map
 use Rattle.dubp_atoms.specs.Same.{Text}
-use Rattle.dubp_undo.specs.MovingTable.{MovingTable, get}
-use Rattle.dubp_undo.specs.Numbers.{counts}
+use Rattle.dubp_undo.specs.MovingTable.{get}
 use Rattle.dubp_iindex.specs.declared.row.IdentityRow.{IdentityRow}
 use Rattle.dubp_iindex.specs.declared.row.Counts.{Counts}
 use Rattle.dubp_iindex.specs.Rows.{Rows, texts, one, key_with, is_member_at, counts_of, FitsRows}
-use Rattle.dubp_iindex.specs.Writing.{IsSet, IsWritten, was_member, uid_write, member_write, counts_write, counted, no_counts}
-use Rattle.dubp_iindex.proofs.Numbers.{add_last-none}
+use Rattle.dubp_iindex.specs.Writing.{IsWritten, was_member, uid_write, member_write, counts_write, counted, no_counts}
 use Rattle.dubp_iindex.proofs.Numbered.{counts_after, counts_stay}
 use Rattle.dubp_iindex.proofs.Entries.{texts-apart}
 use Rattle.dubp_iindex.proofs.Uids.{key_after, key_stays}
-
--- nothing is written
-pub none_set : {K V : Type 0} (cmp : K → K → Ordering) (key : K) (write : Option (Option V)) (table : MovingTable K V) → write ≡ None → IsSet cmp key write table table
-none_set cmp key write table none = rw none (record { now = refl; costs = sym (add_last-none (counts table.past)) })
 
 -- the table has the value at the key, also where that is what it had
 module _ {K V : Type 0} (cmp : K → K → Ordering) (apart : IsAntisymmetric cmp) (key : K) (value : Option V) (old new : List (K × V)) (before : K → Option V) where

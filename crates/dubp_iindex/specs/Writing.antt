@@ -3,9 +3,7 @@ use Rattle.std.specs.Prelude.{◌≡◌, ℕ, ◌+◌, ◌-◌, ◌≤◌, ◌&&
 use Rattle.std.specs.Option.{option_map_or, IfSome}
 use Rattle.std.specs.declared.cmp.Ordering.{Ordering}
 use Rattle.dubp_atoms.specs.Same.{Text}
-use Rattle.dubp_undo.specs.Definition.{IsMarked}
 use Rattle.dubp_undo.specs.MovingTable.{MovingTable, Puts, IsPlaced}
-use Rattle.dubp_undo.specs.Numbers.{counts, add_last, settled}
 use Rattle.dubp_iindex.specs.declared.row.IdentityRow.{IdentityRow}
 use Rattle.dubp_iindex.specs.declared.row.Counts.{Counts}
 use Rattle.dubp_iindex.specs.declared.writing.Writes.{Writes}
@@ -43,18 +41,6 @@ module _ {K V : Type 0} (cmp : K → K → Ordering) (key : K) where
   -- where it is to be
   abbrev pub IsReady : Option (Option V) → MovingTable K V → Type 0
   IsReady write table = IfSome write (λ _. CanSet table)
-
-  -- the table has what is written, and as many keys were set
-  pub record IsSet (write : Option (Option V)) (old new : MovingTable K V) : Type 0 where
-    pub now : IsWritten cmp key write old.now new.now
-    pub costs : counts new.past ≡ add_last (sets write) (counts old.past)
-
--- whatever `now` became: no number but the last changes, what is marked stays so, and what is ahead stays
-pub record OnlyNow {S K V : Type 0} (cmp : K → K → Ordering) (definition : List S → K → Option V) (old new : MovingTable K V) : Type 0 where
-  pub costs_stay : settled (counts new.past) ≡ settled (counts old.past)
-  pub marked : (s : List S) → IsMarked cmp definition old.past s → IsMarked cmp definition new.past s
-  pub ahead : new.ahead ≡ old.ahead
-  pub root : new.root ≡ old.root
 
 -- whether a row stood there, and a member's
 abbrev pub was_member : Option IdentityRow → Bool

@@ -1,15 +1,13 @@
-ghost use Rattle.std.specs.Prelude.{◌≡◌, ◌+◌, ◌≤◌, ℕ, List, [], ◌∷◌, length, OnOk, OnErr};
+ghost use Rattle.std.specs.Prelude.{◌≡◌, ◌+◌, ◌≤◌, List, [], ◌∷◌, length, Some, IsOk, OnOk, OnErr};
 ghost use Rattle.std.specs.FinMap as map;
-ghost use Rattle.dubp_undo.specs.Numbers.{add_last};
-ghost use Rattle.dubp_undo.specs.States.{AtMostMore};
 ghost use Rattle.dubp_iindex.specs.Order.{IsNextMember, IsNextKey};
 ghost use Rattle.dubp_iindex.specs.Rows as rows;
-ghost use Rattle.dubp_iindex.specs.Rows.{Rows, newest_rows, key_with, FitsRows, row_at, key_at, member_at, counts_at};
-ghost use Rattle.dubp_iindex.specs.Writing.{writes_of};
+ghost use Rattle.dubp_iindex.specs.Rows.{Rows, newest_rows, texts, one, key_with, FitsRows};
+ghost use Rattle.dubp_iindex.specs.Writing.{sets, writes_of, CanSet, IsReady, IsWritten};
 
 use crate::row::{IdentityRow, IdentityRows};
 use crate::tables::AllTables;
-use crate::writing::{make_ready, set_all, writes_for};
+use crate::writing::{Writes, ready_for, set_for, writes_for};
 use dubp_atoms::{Key, NoMemory, Steps, Uid};
 use dubp_undo::{Both, Leaf, Tables, Three};
 use std::alloc::Global;
@@ -22,34 +20,26 @@ pub struct IIndex {
 }
 
 impl Tables<IdentityRows> for IIndex {
-    ghost costs = { λ t. ⟦<AllTables as Tables<IdentityRows>>⟧.costs t.tables };
+    ghost Now = { ⟦<AllTables as Tables<IdentityRows>>⟧.Now };
 
-    ghost ahead_costs = { λ t. ⟦<AllTables as Tables<IdentityRows>>⟧.ahead_costs t.tables };
+    ghost Names = { ⟦<AllTables as Tables<IdentityRows>>⟧.Names };
 
-    ghost at = { λ t s. ⟦<AllTables as Tables<IdentityRows>>⟧.at t.tables s };
+    ghost now = { λ t. ⟦<AllTables as Tables<IdentityRows>>⟧.now t.tables };
 
-    ghost stands = { λ t s. ⟦<AllTables as Tables<IdentityRows>>⟧.stands t.tables s };
+    ghost count = { λ t. ⟦<AllTables as Tables<IdentityRows>>⟧.count t.tables };
 
-    ghost marked = { λ t s. ⟦<AllTables as Tables<IdentityRows>>⟧.marked t.tables s };
-
-    ghost waits = { λ t o i. ⟦<AllTables as Tables<IdentityRows>>⟧.waits t.tables o i };
-
-    ghost same = { λ t u. ⟦<AllTables as Tables<IdentityRows>>⟧.same t.tables u.tables };
-
-    ghost marks = { λ t u. ⟦<AllTables as Tables<IdentityRows>>⟧.marks t.tables u.tables };
-
-    ghost keeps = { λ t u. ⟦<AllTables as Tables<IdentityRows>>⟧.keeps t.tables u.tables };
+    ghost others = { λ t. ⟦<AllTables as Tables<IdentityRows>>⟧.others t.tables };
 
     ghost spare = { λ t. ⟦<AllTables as Tables<IdentityRows>>⟧.spare t.tables };
 
-    ghost room = { λ t. ⟦<AllTables as Tables<IdentityRows>>⟧.room t.tables };
+    ghost names = { λ t. ⟦<AllTables as Tables<IdentityRows>>⟧.names t.tables };
+
+    ghost is = { ⟦<AllTables as Tables<IdentityRows>>⟧.is };
+
+    ghost at = { λ t c. ⟦<AllTables as Tables<IdentityRows>>⟧.at t.tables c };
 
     fn depth(&self) -> usize {
         self.tables.depth()
-    }
-
-    fn laws(&self) {
-        self.tables.laws();
     }
 
     fn mark(&mut self) -> Result<(), NoMemory> {
@@ -85,15 +75,19 @@ impl Tables<IdentityRows> for IIndex {
     fn drop_ahead(&mut self) {
         self.tables.drop_ahead();
     }
+
+    ghost is_at = { λ t c is. is };
+
+    ghost at_is = { λ t c is. is };
 }
 
 impl IIndex {
     /// The index without identities, which keeps no earlier state. It takes no memory.
     pub fn new(alloc: Global) -> IIndex
-        ensures costs { ⟦<IIndex as Tables<IdentityRows>>⟧.costs result ≡ [] }
-        ensures ahead { ⟦<IIndex as Tables<IdentityRows>>⟧.ahead_costs result ≡ [] }
-        ensures stands { ⟦<IIndex as Tables<IdentityRows>>⟧.stands result [] }
-        ensures waits { (o : List Rows) → ⟦<IIndex as Tables<IdentityRows>>⟧.waits result o 0 }
+        ensures at { ⟦<IIndex as Tables<IdentityRows>>⟧.at result [] }
+        ensures count { ⟦<IIndex as Tables<IdentityRows>>⟧.count result ≡ 0 }
+        ensures kept { (⟦<IIndex as Tables<IdentityRows>>⟧.others result).kept ≡ [] }
+        ensures ahead { (⟦<IIndex as Tables<IdentityRows>>⟧.others result).ahead ≡ [] }
     {
         IIndex {
             tables: Both::new(
@@ -157,7 +151,7 @@ impl IIndex {
         }
     }
 
-    /// Puts the row at the key: of a new identity, or in place of the row that it had. What is marked stays so.
+    /// Puts the row at the key: of a new identity, or in place of the row that it had. What is kept stays so.
     ///
     /// A new row is 3 steps, or 4 where it is a member's. Over a row that stands it is one step, or 3 where the member comes or goes.
     /// `NoMemory` leaves all as it was; it comes where memory ends, or where a number of identities would be no u64.
@@ -168,41 +162,62 @@ impl IIndex {
         steps: &mut Steps<L>,
     ) -> Result<(), NoMemory>
         ensures at { OnOk result ((s t : List Rows) → ⟦<IIndex as Tables<IdentityRows>>⟧.at self.old s → FitsRows (newest_rows s) key row → ⟦<IIndex as Tables<IdentityRows>>⟧.at self.new (map.insert (newest_rows s) key row ∷ t)) }
-        ensures marked { (s : List Rows) → ⟦<IIndex as Tables<IdentityRows>>⟧.marked self.old s → ⟦<IIndex as Tables<IdentityRows>>⟧.marked self.new s }
-        ensures waits { (o : List Rows) (i : ℕ) → ⟦<IIndex as Tables<IdentityRows>>⟧.waits self.old o i → ⟦<IIndex as Tables<IdentityRows>>⟧.waits self.new o i }
-        ensures ahead { ⟦<IIndex as Tables<IdentityRows>>⟧.ahead_costs self.new ≡ ⟦<IIndex as Tables<IdentityRows>>⟧.ahead_costs self.old }
-        ensures costs { OnOk result (AtMostMore 4 (⟦<IIndex as Tables<IdentityRows>>⟧.costs self.old) (⟦<IIndex as Tables<IdentityRows>>⟧.costs self.new)) }
+        ensures others { ⟦<IIndex as Tables<IdentityRows>>⟧.others self.new ≡ ⟦<IIndex as Tables<IdentityRows>>⟧.others self.old }
+        ensures count { ⟦<IIndex as Tables<IdentityRows>>⟧.count self.new + steps.old ≤ ⟦<IIndex as Tables<IdentityRows>>⟧.count self.old + steps.new }
         ensures steps { OnOk result (steps.new ≤ steps.old + 4) }
-        ensures exact_costs { OnOk result ((s : List Rows) → ⟦<IIndex as Tables<IdentityRows>>⟧.at self.old s → ⟦<IIndex as Tables<IdentityRows>>⟧.costs self.new ≡ add_last (writes_of (map.get (newest_rows s) key) row) (⟦<IIndex as Tables<IdentityRows>>⟧.costs self.old)) }
         ensures exact_steps { OnOk result ((s : List Rows) → ⟦<IIndex as Tables<IdentityRows>>⟧.at self.old s → steps.new ≡ steps.old + writes_of (map.get (newest_rows s) key) row) }
 
-        ensures refused { OnErr result (⟦<IIndex as Tables<IdentityRows>>⟧.same self.old self.new) }
+        ensures refused { OnErr result (⟦<IIndex as Tables<IdentityRows>>⟧.now self.new ≡ ⟦<IIndex as Tables<IdentityRows>>⟧.now self.old) }
         ensures no_step { OnErr result (steps.new ≡ steps.old) }
     {
         let old = self.tables.first.get(key);
         let counts = self.tables.second.third.get(());
         let writes = writes_for(&old, &counts, key, &row)?;
-        let tables = &mut self.tables;
-        let derived = &mut tables.second;
-        make_ready(
-            &mut tables.first,
-            &mut derived.first,
-            &mut derived.second,
-            &mut derived.third,
-            key,
-            &row,
-            &writes,
-        )?;
-        set_all(
-            &mut tables.first,
-            &mut derived.first,
-            &mut derived.second,
-            &mut derived.third,
-            key,
-            &row,
-            writes,
-            steps,
-        )?;
+        self.make_ready(key, &row, &writes)?;
+        self.set_all(key, &row, writes, steps)?;
+        Ok(())
+    }
+
+    /// Makes all that is set for the row ready. The tables stay.
+    fn make_ready(&mut self, key: Key, row: &IdentityRow, writes: &Writes) -> Result<(), NoMemory>
+        ensures now { ⟦<IIndex as Tables<IdentityRows>>⟧.now self.new ≡ ⟦<IIndex as Tables<IdentityRows>>⟧.now self.old }
+        ensures count { ⟦<IIndex as Tables<IdentityRows>>⟧.count self.new ≡ ⟦<IIndex as Tables<IdentityRows>>⟧.count self.old }
+        ensures others { ⟦<IIndex as Tables<IdentityRows>>⟧.others self.new ≡ ⟦<IIndex as Tables<IdentityRows>>⟧.others self.old }
+        ensures rows_ready { OnOk result (CanSet texts key self.new.tables.first.table) }
+        ensures uids_ready { OnOk result (IsReady texts row.now.uid writes.now.uid self.new.tables.second.first.table) }
+        ensures members_ready { OnOk result (IsReady texts key writes.now.member self.new.tables.second.second.table) }
+        ensures counts_ready { OnOk result (IsReady one tt writes.now.counts self.new.tables.second.third.table) }
+    {
+        let derived = &mut self.tables.second;
+        self.tables.first.ready(key, 1)?;
+        ready_for(&mut derived.first, row.uid, &writes.uid)?;
+        ready_for(&mut derived.second, key, &writes.member)?;
+        ready_for(&mut derived.third, (), &writes.counts)?;
+        Ok(())
+    }
+
+    /// Sets the row, and all that is set for it. `NoMemory` comes only where one of these is not ready.
+    fn set_all<L: StepBook>(
+        &mut self,
+        key: Key,
+        row: &IdentityRow,
+        writes: Writes,
+        steps: &mut Steps<L>,
+    ) -> Result<(), NoMemory>
+        ensures rows { OnOk result (IsWritten texts key (Some (Some row.now)) self.old.tables.first.table.now self.new.tables.first.table.now) }
+        ensures uids { OnOk result (IsWritten texts row.now.uid writes.uid self.old.tables.second.first.table.now self.new.tables.second.first.table.now) }
+        ensures members { OnOk result (IsWritten texts key writes.member self.old.tables.second.second.table.now self.new.tables.second.second.table.now) }
+        ensures counts { OnOk result (IsWritten one tt writes.counts self.old.tables.second.third.table.now self.new.tables.second.third.table.now) }
+        ensures others { ⟦<IIndex as Tables<IdentityRows>>⟧.others self.new ≡ ⟦<IIndex as Tables<IdentityRows>>⟧.others self.old }
+        ensures count { ⟦<IIndex as Tables<IdentityRows>>⟧.count self.new + steps.old ≤ ⟦<IIndex as Tables<IdentityRows>>⟧.count self.old + steps.new }
+        ensures step { OnOk result (steps.new ≡ steps.old + (1 + (sets writes.uid + (sets writes.member + sets writes.counts)))) }
+        ensures succeeds { CanSet texts key self.old.tables.first.table → IsReady texts row.now.uid writes.uid self.old.tables.second.first.table → IsReady texts key writes.member self.old.tables.second.second.table → IsReady one tt writes.counts self.old.tables.second.third.table → IsOk result }
+    {
+        let derived = &mut self.tables.second;
+        set_for(&mut self.tables.first, key, Some(Some(*row)), steps)?;
+        set_for(&mut derived.first, row.uid, writes.uid, steps)?;
+        set_for(&mut derived.second, key, writes.member, steps)?;
+        set_for(&mut derived.third, (), writes.counts, steps)?;
         Ok(())
     }
 }

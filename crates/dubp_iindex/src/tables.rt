@@ -32,13 +32,13 @@ impl Definition<IdentityRows, (), Counts> for CountsOf {
     ghost at = { counts_at };
 }
 
-pub type RowTable = Leaf<IdentityRows, Key, IdentityRow, RowsOf>;
+type RowTable = Leaf<IdentityRows, Key, IdentityRow, RowsOf>;
 
-pub type UidTable = Leaf<IdentityRows, Uid, Key, UidsOf>;
+type UidTable = Leaf<IdentityRows, Uid, Key, UidsOf>;
 
-pub type MemberTable = Leaf<IdentityRows, Key, (), MembersOf>;
+type MemberTable = Leaf<IdentityRows, Key, (), MembersOf>;
 
-pub type CountTable = Leaf<IdentityRows, (), Counts, CountsOf>;
+type CountTable = Leaf<IdentityRows, (), Counts, CountsOf>;
 
 /// The rows, and what is derived from them: the keys of the uids, the members, and the numbers of both.
 pub type AllTables = Both<

@@ -1,13 +1,10 @@
-ghost use Rattle.std.specs.Prelude.{◌≡◌, ◌+◌, ◌-◌, OnOk, IsOk, IfOk, cond, is_some, Some};
-ghost use Rattle.dubp_undo.specs.Definition.{SameMaps};
-ghost use Rattle.dubp_iindex.specs.Rows.{texts, one, row_at, key_at, member_at, counts_at};
+ghost use Rattle.std.specs.Prelude.{◌≡◌, ◌+◌, ◌-◌, ◌≤◌, OnOk, IsOk, IfOk, cond, is_some};
 ghost use Rattle.dubp_iindex.specs.Writing as writing;
-ghost use Rattle.dubp_iindex.specs.Writing.{bit, sets, CanSet, IsReady, IsSet, OnlyNow, AreWrites};
+ghost use Rattle.dubp_iindex.specs.Writing.{bit, sets, IsReady, IsWritten, AreWrites};
 
 use crate::row::{Counts, IdentityRow, IdentityRows};
-use crate::tables::{CountTable, MemberTable, RowTable, UidTable};
 use dubp_atoms::{Key, NoMemory, Steps};
-use dubp_undo::{Definition, Leaf};
+use dubp_undo::{Definition, Leaf, Tables};
 use std::sync::ledger::Ledger as StepBook;
 
 /// What a key of a table gets: `None` where it is not set, else its new value, or `None` in it where it loses its value.
@@ -21,14 +18,16 @@ pub struct Writes {
     pub counts: Write<Counts>,
 }
 
-/// Makes the key ready to be set, where it is to be. The maps stay. `NoMemory` comes only where the key is to be set.
+/// Makes the key ready to be set, where it is to be. The table stays. `NoMemory` comes only where the key is to be set.
 pub fn ready_for<K: Ord + Copy, V: Copy + Eq, D: Definition<IdentityRows, K, V>>(
     table: &mut Leaf<IdentityRows, K, V, D>,
     key: K,
     write: &Write<V>,
 ) -> Result<(), NoMemory>
-    ensures same { SameMaps table.old table.new }
-    ensures ready { OnOk result (IsReady K.cmp key write.now table.new) }
+    ensures now { ⟦<Leaf<IdentityRows, K, V, D> as Tables<IdentityRows>>⟧.now table.new ≡ ⟦<Leaf<IdentityRows, K, V, D> as Tables<IdentityRows>>⟧.now table.old }
+    ensures count { ⟦<Leaf<IdentityRows, K, V, D> as Tables<IdentityRows>>⟧.count table.new ≡ ⟦<Leaf<IdentityRows, K, V, D> as Tables<IdentityRows>>⟧.count table.old }
+    ensures others { ⟦<Leaf<IdentityRows, K, V, D> as Tables<IdentityRows>>⟧.others table.new ≡ ⟦<Leaf<IdentityRows, K, V, D> as Tables<IdentityRows>>⟧.others table.old }
+    ensures ready { OnOk result (IsReady K.cmp key write.now table.new.table) }
 {
     match write {
         Some(_) => {
@@ -48,10 +47,11 @@ pub fn set_for<K: Ord + Copy, V: Copy + Eq, D: Definition<IdentityRows, K, V>, L
     write: Write<V>,
     steps: &mut Steps<L>,
 ) -> Result<(), NoMemory>
-    ensures is_set { OnOk result (IsSet K.cmp key write table.old table.new) }
+    ensures now { OnOk result (IsWritten K.cmp key write (⟦<Leaf<IdentityRows, K, V, D> as Tables<IdentityRows>>⟧.now table.old) (⟦<Leaf<IdentityRows, K, V, D> as Tables<IdentityRows>>⟧.now table.new)) }
+    ensures others { ⟦<Leaf<IdentityRows, K, V, D> as Tables<IdentityRows>>⟧.others table.new ≡ ⟦<Leaf<IdentityRows, K, V, D> as Tables<IdentityRows>>⟧.others table.old }
+    ensures count { ⟦<Leaf<IdentityRows, K, V, D> as Tables<IdentityRows>>⟧.count table.new + steps.old ≤ ⟦<Leaf<IdentityRows, K, V, D> as Tables<IdentityRows>>⟧.count table.old + steps.new }
     ensures step { OnOk result (steps.new ≡ steps.old + sets write) }
-    ensures only_now { OnlyNow K.cmp D.at table.old table.new }
-    ensures succeeds { IsReady K.cmp key write table.old → IsOk result }
+    ensures succeeds { IsReady K.cmp key write table.old.table → IsOk result }
 {
     match write {
         Some(value) => {
@@ -60,61 +60,6 @@ pub fn set_for<K: Ord + Copy, V: Copy + Eq, D: Definition<IdentityRows, K, V>, L
         }
         None => Ok(()),
     }
-}
-
-/// Makes all that is set for the row ready.
-pub fn make_ready(
-    rows: &mut RowTable,
-    uids: &mut UidTable,
-    members: &mut MemberTable,
-    counts: &mut CountTable,
-    key: Key,
-    row: &IdentityRow,
-    writes: &Writes,
-) -> Result<(), NoMemory>
-    ensures same_rows { SameMaps rows.old rows.new }
-    ensures same_uids { SameMaps uids.old uids.new }
-    ensures same_members { SameMaps members.old members.new }
-    ensures same_counts { SameMaps counts.old counts.new }
-    ensures rows_ready { OnOk result (CanSet texts key rows.new) }
-    ensures uids_ready { OnOk result (IsReady texts row.now.uid writes.now.uid uids.new) }
-    ensures members_ready { OnOk result (IsReady texts key writes.now.member members.new) }
-    ensures counts_ready { OnOk result (IsReady one tt writes.now.counts counts.new) }
-{
-    rows.ready(key, 1)?;
-    ready_for(uids, row.uid, &writes.uid)?;
-    ready_for(members, key, &writes.member)?;
-    ready_for(counts, (), &writes.counts)?;
-    Ok(())
-}
-
-/// Sets the row, and all that is set for it. `NoMemory` comes only where one of these is not ready.
-pub fn set_all<L: StepBook>(
-    rows: &mut RowTable,
-    uids: &mut UidTable,
-    members: &mut MemberTable,
-    counts: &mut CountTable,
-    key: Key,
-    row: &IdentityRow,
-    writes: Writes,
-    steps: &mut Steps<L>,
-) -> Result<(), NoMemory>
-    ensures rows_set { OnOk result (IsSet texts key (Some (Some row.now)) rows.old rows.new) }
-    ensures uids_set { OnOk result (IsSet texts row.now.uid writes.uid uids.old uids.new) }
-    ensures members_set { OnOk result (IsSet texts key writes.member members.old members.new) }
-    ensures counts_set { OnOk result (IsSet one tt writes.counts counts.old counts.new) }
-    ensures step { OnOk result (steps.new ≡ steps.old + (1 + (sets writes.uid + (sets writes.member + sets writes.counts)))) }
-    ensures rows_now { OnlyNow texts row_at rows.old rows.new }
-    ensures uids_now { OnlyNow texts key_at uids.old uids.new }
-    ensures members_now { OnlyNow texts member_at members.old members.new }
-    ensures counts_now { OnlyNow one counts_at counts.old counts.new }
-    ensures succeeds { CanSet texts key rows.old → IsReady texts row.now.uid writes.uid uids.old → IsReady texts key writes.member members.old → IsReady one tt writes.counts counts.old → IsOk result }
-{
-    set_for(rows, key, Some(Some(*row)), steps)?;
-    set_for(uids, row.uid, writes.uid, steps)?;
-    set_for(members, key, writes.member, steps)?;
-    set_for(counts, (), writes.counts, steps)?;
-    Ok(())
 }
 
 /// What is set for a row that is put where `old` stood. `NoMemory` where a number would be no u64.

@@ -39,7 +39,7 @@ room_more b c s p are fit wide same = record {
 pub stands_on : (out : Option Out) (waits waits' : Chain → ℕ → Type 0) (depth depth' ahead ahead' : ℕ) (heads heads' : HeadsState) (behind : List Head) (c c' : Chain) (room room' : ℕ)
     → Stands waits depth ahead heads behind c room out → ((o : Chain) (i : ℕ) → waits o i → waits' o i) → ahead' ≡ ahead → KeepsRoom heads heads' → room ≤ room'
     → (out ≡ None → depth' ≤ most_kept) → ((o : Out) → out ≡ Some o → length c' + depth ≡ length c + depth') → Stands waits' depth' ahead' heads' behind c' room' out
-stands_on None waits waits' depth depth' ahead ahead' heads heads' behind c c' room room' s on same keeps more few even = few refl
+stands_on None waits waits' depth depth' ahead ahead' heads heads' behind c c' room room' s on same keeps more few even = (few refl, same ∙ s.1)
 stands_on (Some o) waits waits' depth depth' ahead ahead' heads heads' behind c c' room room' s on same keeps more few even = record {
   waits_is = on o.chain o.taken s.waits_is;
   ahead_is = same ∙ s.ahead_is;
@@ -53,7 +53,7 @@ stands_on (Some o) waits waits' depth depth' ahead ahead' heads heads' behind c 
 }
 
 pub few_none : (out : Option Out) (waits : Chain → ℕ → Type 0) (depth ahead : ℕ) (heads : HeadsState) (behind : List Head) (c : Chain) (room : ℕ) → Stands waits depth ahead heads behind c room out → out ≡ None → depth ≤ most_kept
-few_none None waits depth ahead heads behind c room s e = s
+few_none None waits depth ahead heads behind c room s e = s.0
 few_none (Some o) waits depth ahead heads behind c room s e = absurd cc
 
 -- how many states are kept of one more
@@ -216,5 +216,5 @@ kept_restored stands waits depth ahead heads heads' behind blocks held whole roo
       fits = omega (arith, fits, ap length here);
       known = subst (λ x. IsKnown x heads') here (known_by whole heads' comes m.heads_are m.over);
       heads_room = subst (HasRoom heads') here (room_on whole heads heads' keeps wide);
-      out_is = few;
+      out_is = (few, m.ahead_is);
     }

@@ -1,7 +1,8 @@
 -- What contracts see of the blocks that are kept, and what holds of them at any time. Protocol: tables; commands and answers.
-use Rattle.std.specs.Prelude.{◌≡◌, ◌≤◌, ◌+◌, ◌-◌, ◌*◌, ℕ, zero, suc, List, [], ◌∷◌, length, drop, take, min, Option, Some, None, option_and_then, ⊤}
+use Rattle.std.specs.Prelude.{◌≡◌, ◌≤◌, ◌<◌, ◌+◌, ◌-◌, ◌*◌, ℕ, zero, suc, List, [], ◌∷◌, length, drop, take, min, Option, Some, None, option_and_then, ⊤}
 use Rattle.std.specs.List.{AllByRecursion}
-use Rattle.dubp_undo.specs.Trail.{Trail}
+use Rattle.dubp_undo.specs.Chains.{Stands as StandsAlong, Waits}
+use Rattle.dubp_undo.specs.Others.{Others}
 use Rattle.dubp_params.specs.declared.params.Params.{Params}
 use Rattle.dubp_params.specs.Ranges.{IsInRange}
 use Rattle.dubp_block.specs.declared.block.Block.{Block}
@@ -91,7 +92,7 @@ pub record IsOut (waits : Chain → ℕ → Type 0) (depth ahead : ℕ) (heads :
 
 -- what more holds while blocks are held, and where none is
 abbrev pub Stands : (Chain → ℕ → Type 0) → ℕ → ℕ → HeadsState → List Head → Chain → ℕ → Option Out → Type 0
-Stands waits depth ahead heads behind c room None = depth ≤ most_kept
+Stands waits depth ahead heads behind c room None = (depth ≤ most_kept) × (ahead ≡ 0)
 Stands waits depth ahead heads behind c room (Some o) = IsOut waits depth ahead heads behind c room o
 
 -- and tables that keep so many states stand for it
@@ -132,17 +133,30 @@ abbrev pub steps_of_out : Option Out → ℕ
 steps_of_out None = 0
 steps_of_out (Some o) = steps_of_last o.taken o.chain
 
--- the numbers of keys that were set for the blocks of a chain, the last of which is its last block: each is within what its block adds
-abbrev pub AreWithin : List ℕ → Chain → Type 0
-AreWithin costs c = Trail (λ n d. n ≤ last_steps d) costs c
+module _ {N : Type 0} (is : N → Chain → Type 0) where
+  -- a state is that of the chain, and at most so many keys were set to it as the last block of the chain adds
+  abbrev pub Fits : N × ℕ → Chain → Type 0
+  Fits x c = is x.0 c × (x.1 ≤ last_steps c)
 
--- tables stand for the chain, within the bound
-abbrev pub StandsWithin : (Chain → Type 0) → List ℕ → Chain → Type 0
-StandsWithin stands costs c = stands c × AreWithin costs c
+  -- tables stand for the chain, within the bound: the state now, and those that are kept
+  abbrev pub StandsWithin : N → ℕ → List (N × ℕ) → Chain → Type 0
+  StandsWithin now count kept c = StandsAlong Fits (now, count) kept c
 
--- tables wait for the chain from which so many blocks were taken off, within the bound
-abbrev pub WaitsWithin : (Chain → ℕ → Type 0) → List ℕ → Chain → ℕ → Type 0
-WaitsWithin waits ahead_costs o i = waits o i × AreWithin ahead_costs o
+  -- tables wait for the chain from which so many blocks were taken off, within the bound
+  abbrev pub WaitsWithin : Others N → Chain → ℕ → Type 0
+  WaitsWithin others o i = Waits Fits others.ahead o i × (0 < i → is others.root (drop i o))
+
+  -- what is ahead is what is out
+  abbrev pub HasOut : Others N → Option Out → Type 0
+  HasOut others None = length others.ahead ≡ 0
+  HasOut others (Some o) = WaitsWithin others o.chain o.taken
+
+  -- the states of tables are those of the chain: the state now is that of the whole, those that are kept are those of the chain without its
+  -- last blocks, as many as can be taken off, and those ahead are what is out; each within the bound
+  pub record AreStates (now : N) (count : ℕ) (others : Others N) (s : KeptChain) : Type 0 where
+    pub stands : StandsWithin now count others.kept s.chain
+    pub as_many : length others.kept ≡ s.kept
+    pub ahead : HasOut others s.out
 
 -- the block joins the chain
 abbrev pub with_block : Block → KeptChain → KeptChain

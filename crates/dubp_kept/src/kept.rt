@@ -1,7 +1,7 @@
 ghost use Rattle.std.specs.Prelude.{◌≡◌, ◌+◌, ◌≤◌, ◌<◌, ◌∷◌, [], None, Some, drop, min, reverse, take, OnOk, OnErr, IfOk, IfErr};
 ghost use Rattle.dubp_local.specs.Local.{all_hashes};
 ghost use Rattle.dubp_kept.specs.LeftBehind.{left_behind};
-ghost use Rattle.dubp_kept.specs.KeptChain.{IsKnown, MayJoin, most_kept, most_steps, last_steps, steps_of_last, steps_of_out, with_block, without_last, HandsBack, IsHeldBy, IsAsHeld, IsAsBefore};
+ghost use Rattle.dubp_kept.specs.KeptChain.{IsKnown, MayJoin, most_kept, most_steps, last_steps, steps_of_last, steps_of_out, with_block, without_last, HandsBack, IsHeldBy, IsAsHeld, IsAsBefore, AreStates};
 
 use crate::held::{Before, Held};
 use crate::left_behind::LeftBehind;
@@ -47,16 +47,18 @@ impl<T: Written> Model for Kept<T> {
 
     ghost coded = { Prim.hlevel (codes, block.the_row.coded) };
 
-    ghost view = { λ k. record { chain = reverse k.blocks.items; kept = length (T.costs k.tables); out = k.out } };
+    ghost view = { λ k. record { chain = reverse k.blocks.items; kept = length (T.others k.tables).kept; out = k.out } };
 
-    ghost invariant = { λ k. AreKept (StandsWithin (T.stands k.tables) (T.costs k.tables)) (WaitsWithin (T.waits k.tables) (T.ahead_costs k.tables)) (length (T.costs k.tables)) (length (T.ahead_costs k.tables)) k.heads k.behind.items (reverse k.blocks.items) (vec_capacity k.blocks) k.out };
+    ghost invariant = { λ k. AreKept (StandsWithin (T.is (T.names k.tables)) (T.now k.tables) (T.count k.tables) (T.others k.tables).kept) (WaitsWithin (T.is (T.names k.tables)) (T.others k.tables)) (length (T.others k.tables).kept) (length (T.others k.tables).ahead) k.heads k.behind.items (reverse k.blocks.items) (vec_capacity k.blocks) k.out };
 }
 
 impl<T: Written> Kept<T> {
     /// No blocks, beside tables in which nothing stands. It takes no memory.
     pub fn new(alloc: Global, tables: T) -> Kept<T>
-        requires stands { T.stands tables [] }
-        requires depth { T.costs tables ≡ [] }
+        requires at { T.at tables [] }
+        requires count { T.count tables ≡ 0 }
+        requires depth { (T.others tables).kept ≡ [] }
+        requires ahead { (T.others tables).ahead ≡ [] }
         ensures chain { result.chain ≡ [] }
         ensures kept { result.kept ≡ 0 }
         ensures out { result.out ≡ None }
@@ -85,11 +87,12 @@ impl<T: Written> Kept<T> {
         let _ = &self.alloc;
     }
 
-    /// The tables of the chain.
+    /// The tables of the chain: their state is that of the chain, those that they keep are those before its last blocks, as many as can be
+    /// taken off, and those ahead are of the blocks that are held.
     pub fn tables(&self) -> &T
-        ensures { T.at result.now self.now.chain }
+        ensures at { T.at result.now self.now.chain }
+        ensures states { AreStates (T.is (T.names result.now)) (T.now result.now) (T.count result.now) (T.others result.now) self.now }
     {
-        self.tables.laws();
         &self.tables
     }
 

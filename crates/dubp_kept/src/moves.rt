@@ -29,22 +29,18 @@ pub(crate) fn enter<T: Written, L: StepBook>(
 ) -> Result<LeftBehind, NoMemory>
     requires text { IsBlock block.now }
     requires hashes { hashes.now ≡ all_hashes block.now }
-    ensures stands { OnOk result ((c : Chain) → IsSound (block.now ∷ c) → IsBlock block.now → head_of (block.now ∷ c) ≡ Some head.now → StandsWithin (T.stands tables.old) (T.costs tables.old) c → StandsWithin (T.stands tables.new) (T.costs tables.new) (block.now ∷ c)) }
-    ensures left { IfOk result (λ left. (c : Chain) → IsSound (block.now ∷ c) → IsBlock block.now → head_of (block.now ∷ c) ≡ Some head.now → T.stands tables.old c → left ≡ left_behind c block.now) }
-    ensures steps { OnOk result ((c : Chain) → IsSound (block.now ∷ c) → IsBlock block.now → head_of (block.now ∷ c) ≡ Some head.now → T.stands tables.old c → steps.new ≤ steps.old + most_steps c block.now) }
-    ensures depth { OnOk result (length (T.costs tables.new) ≡ length (T.costs tables.old) + 1) }
-    ensures waits { (o : Chain) (i : ℕ) → WaitsWithin (T.waits tables.old) (T.ahead_costs tables.old) o i → WaitsWithin (T.waits tables.new) (T.ahead_costs tables.new) o i }
-    ensures ahead { T.ahead_costs tables.new ≡ T.ahead_costs tables.old }
-    ensures refused { OnErr result ((c : Chain) → StandsWithin (T.stands tables.old) (T.costs tables.old) c → StandsWithin (T.stands tables.new) (T.costs tables.new) c) }
-    ensures refused_depth { OnErr result (length (T.costs tables.new) ≡ length (T.costs tables.old)) }
+    ensures stands { OnOk result ((c : Chain) → IsSound (block.now ∷ c) → IsBlock block.now → head_of (block.now ∷ c) ≡ Some head.now → StandsWithin (T.is (T.names tables.old)) (T.now tables.old) (T.count tables.old) (T.others tables.old).kept c → StandsWithin (T.is (T.names tables.new)) (T.now tables.new) (T.count tables.new) (T.others tables.new).kept (block.now ∷ c)) }
+    ensures left { IfOk result (λ left. (c : Chain) → IsSound (block.now ∷ c) → IsBlock block.now → head_of (block.now ∷ c) ≡ Some head.now → T.at tables.old c → left ≡ left_behind c block.now) }
+    ensures steps { OnOk result ((c : Chain) → IsSound (block.now ∷ c) → IsBlock block.now → head_of (block.now ∷ c) ≡ Some head.now → T.at tables.old c → steps.new ≤ steps.old + most_steps c block.now) }
+    ensures depth { OnOk result (length (T.others tables.new).kept ≡ length (T.others tables.old).kept + 1) }
+    ensures waits { (o : Chain) (i : ℕ) → WaitsWithin (T.is (T.names tables.old)) (T.others tables.old) o i → WaitsWithin (T.is (T.names tables.new)) (T.others tables.new) o i }
+    ensures ahead { (T.others tables.new).ahead ≡ (T.others tables.old).ahead }
+    ensures refused { OnErr result ((c : Chain) → StandsWithin (T.is (T.names tables.old)) (T.now tables.old) (T.count tables.old) (T.others tables.old).kept c → StandsWithin (T.is (T.names tables.new)) (T.now tables.new) (T.count tables.new) (T.others tables.new).kept c) }
+    ensures refused_depth { OnErr result (length (T.others tables.new).kept ≡ length (T.others tables.old).kept) }
 {
-    tables.laws();
     tables.mark()?;
     match tables.write(alloc, block, head, hashes, steps) {
-        Ok(left) => {
-            tables.laws();
-            Ok(left)
-        }
+        Ok(left) => { Ok(left) }
         Err(error) => {
             tables.back(steps);
             Err(error)
@@ -54,10 +50,10 @@ pub(crate) fn enter<T: Written, L: StepBook>(
 
 /// Forgets the oldest kept states, until no more than so many are kept.
 pub(crate) fn trim<T: Written>(tables: &mut T, most: usize)
-    ensures stands { (c : Chain) → StandsWithin (T.stands tables.old) (T.costs tables.old) c → StandsWithin (T.stands tables.new) (T.costs tables.new) c }
-    ensures depth { length (T.costs tables.new) ≡ min (length (T.costs tables.old)) most }
-    ensures waits { (o : Chain) (i : ℕ) → WaitsWithin (T.waits tables.old) (T.ahead_costs tables.old) o i → WaitsWithin (T.waits tables.new) (T.ahead_costs tables.new) o i }
-    ensures ahead { T.ahead_costs tables.new ≡ T.ahead_costs tables.old }
+    ensures stands { (c : Chain) → StandsWithin (T.is (T.names tables.old)) (T.now tables.old) (T.count tables.old) (T.others tables.old).kept c → StandsWithin (T.is (T.names tables.new)) (T.now tables.new) (T.count tables.new) (T.others tables.new).kept c }
+    ensures depth { length (T.others tables.new).kept ≡ min (length (T.others tables.old).kept) most }
+    ensures waits { (o : Chain) (i : ℕ) → WaitsWithin (T.is (T.names tables.old)) (T.others tables.old) o i → WaitsWithin (T.is (T.names tables.new)) (T.others tables.new) o i }
+    ensures ahead { (T.others tables.new).ahead ≡ (T.others tables.old).ahead }
 {
     while tables.depth() > most {
         tables.drop_oldest();
@@ -66,13 +62,12 @@ pub(crate) fn trim<T: Written>(tables: &mut T, most: usize)
 
 /// The same, unless all states are to stay.
 pub(crate) fn trim_unless<T: Written>(tables: &mut T, all: bool, most: usize)
-    ensures stands { (c : Chain) → StandsWithin (T.stands tables.old) (T.costs tables.old) c → StandsWithin (T.stands tables.new) (T.costs tables.new) c }
-    ensures depth { length (T.costs tables.new) ≡ cond all (length (T.costs tables.old)) (min (length (T.costs tables.old)) most) }
-    ensures waits { (o : Chain) (i : ℕ) → WaitsWithin (T.waits tables.old) (T.ahead_costs tables.old) o i → WaitsWithin (T.waits tables.new) (T.ahead_costs tables.new) o i }
-    ensures ahead { T.ahead_costs tables.new ≡ T.ahead_costs tables.old }
+    ensures stands { (c : Chain) → StandsWithin (T.is (T.names tables.old)) (T.now tables.old) (T.count tables.old) (T.others tables.old).kept c → StandsWithin (T.is (T.names tables.new)) (T.now tables.new) (T.count tables.new) (T.others tables.new).kept c }
+    ensures depth { length (T.others tables.new).kept ≡ cond all (length (T.others tables.old).kept) (min (length (T.others tables.old).kept) most) }
+    ensures waits { (o : Chain) (i : ℕ) → WaitsWithin (T.is (T.names tables.old)) (T.others tables.old) o i → WaitsWithin (T.is (T.names tables.new)) (T.others tables.new) o i }
+    ensures ahead { (T.others tables.new).ahead ≡ (T.others tables.old).ahead }
 {
     if all {
-        tables.laws();
         return;
     }
     trim(tables, most);

@@ -16,15 +16,14 @@ use std::sync::ledger::Ledger as StepBook;
 
 /// Takes memory for so many states ahead, of which there are none then. The tables stand for the chain as before.
 pub(crate) fn make_ready<T: Written>(tables: &mut T, count: usize) -> Result<(), NoMemory>
-    requires { count ≤ length (T.costs tables.old) }
-    ensures stands { (c : Chain) → StandsWithin (T.stands tables.old) (T.costs tables.old) c → StandsWithin (T.stands tables.new) (T.costs tables.new) c }
-    ensures waits { (c : Chain) → WaitsWithin (T.waits tables.new) (T.ahead_costs tables.new) c 0 }
-    ensures ahead { T.ahead_costs tables.new ≡ [] }
-    ensures costs { T.costs tables.new ≡ T.costs tables.old }
+    requires { count ≤ length (T.others tables.old).kept }
+    ensures stands { (c : Chain) → StandsWithin (T.is (T.names tables.old)) (T.now tables.old) (T.count tables.old) (T.others tables.old).kept c → StandsWithin (T.is (T.names tables.new)) (T.now tables.new) (T.count tables.new) (T.others tables.new).kept c }
+    ensures waits { (c : Chain) → WaitsWithin (T.is (T.names tables.new)) (T.others tables.new) c 0 }
+    ensures ahead { (T.others tables.new).ahead ≡ [] }
+    ensures kept { (T.others tables.new).kept ≡ (T.others tables.old).kept }
     ensures spare { OnOk result (count ≤ T.spare tables.new) }
 {
     tables.drop_ahead();
-    tables.laws();
     tables.reserve(count)?;
     Ok(())
 }
@@ -39,14 +38,14 @@ pub(crate) fn move_off<T: Written, L: StepBook>(
     count: usize,
     steps: &mut Steps<L>,
 )
-    requires moved { HasMoved (StandsWithin (T.stands tables.old) (T.costs tables.old)) (WaitsWithin (T.waits tables.old) (T.ahead_costs tables.old)) (length (T.ahead_costs tables.old)) heads.old behind.old.items blocks.old.items held.old.items (reverse blocks.old.items) 0 }
+    requires moved { HasMoved (StandsWithin (T.is (T.names tables.old)) (T.now tables.old) (T.count tables.old) (T.others tables.old).kept) (WaitsWithin (T.is (T.names tables.old)) (T.others tables.old)) (length (T.others tables.old).ahead) heads.old behind.old.items blocks.old.items held.old.items (reverse blocks.old.items) 0 }
     requires few { count ≤ vec_len blocks.old }
-    requires kept { count ≤ length (T.costs tables.old) }
+    requires kept { count ≤ length (T.others tables.old).kept }
     requires spare { count ≤ T.spare tables.old }
     requires room { count ≤ vec_capacity held.old }
     requires heads_room { count ≤ vec_capacity behind.old }
-    ensures moved { HasMoved (StandsWithin (T.stands tables.new) (T.costs tables.new)) (WaitsWithin (T.waits tables.new) (T.ahead_costs tables.new)) (length (T.ahead_costs tables.new)) heads.new behind.new.items blocks.new.items held.new.items (reverse blocks.old.items) count }
-    ensures depth { length (T.costs tables.new) + count ≡ length (T.costs tables.old) }
+    ensures moved { HasMoved (StandsWithin (T.is (T.names tables.new)) (T.now tables.new) (T.count tables.new) (T.others tables.new).kept) (WaitsWithin (T.is (T.names tables.new)) (T.others tables.new)) (length (T.others tables.new).ahead) heads.new behind.new.items blocks.new.items held.new.items (reverse blocks.old.items) count }
+    ensures depth { length (T.others tables.new).kept + count ≡ length (T.others tables.old).kept }
     ensures steps { steps.new ≤ steps.old + steps_of_last count (reverse blocks.old.items) }
     ensures capacity { vec_capacity blocks.new ≡ vec_capacity blocks.old }
     ensures keeps { KeepsRoom heads.old heads.new }
@@ -54,7 +53,6 @@ pub(crate) fn move_off<T: Written, L: StepBook>(
     for i in 0..count {
         behind.push_reserved(heads.pop());
         held.push_reserved(blocks.pop().unwrap());
-        tables.laws();
         tables.hold(steps);
     }
 }
@@ -68,14 +66,13 @@ pub(crate) fn put_back<T: Written, L: StepBook>(
     behind: &mut Vec<Head>,
     steps: &mut Steps<L>,
 )
-    requires returns { MayReturn (StandsWithin (T.stands tables.old) (T.costs tables.old)) (WaitsWithin (T.waits tables.old) (T.ahead_costs tables.old)) (length (T.ahead_costs tables.old)) heads.old behind.old.items blocks.old.items held.old.items (vec_capacity blocks.old) }
-    ensures moved { HasMoved (StandsWithin (T.stands tables.new) (T.costs tables.new)) (WaitsWithin (T.waits tables.new) (T.ahead_costs tables.new)) (length (T.ahead_costs tables.new)) heads.new behind.new.items blocks.new.items held.new.items (held.old.items ++ reverse blocks.old.items) 0 }
-    ensures depth { length (T.costs tables.new) ≡ length (T.costs tables.old) + length held.old.items }
+    requires returns { MayReturn (StandsWithin (T.is (T.names tables.old)) (T.now tables.old) (T.count tables.old) (T.others tables.old).kept) (WaitsWithin (T.is (T.names tables.old)) (T.others tables.old)) (length (T.others tables.old).ahead) heads.old behind.old.items blocks.old.items held.old.items (vec_capacity blocks.old) }
+    ensures moved { HasMoved (StandsWithin (T.is (T.names tables.new)) (T.now tables.new) (T.count tables.new) (T.others tables.new).kept) (WaitsWithin (T.is (T.names tables.new)) (T.others tables.new)) (length (T.others tables.new).ahead) heads.new behind.new.items blocks.new.items held.new.items (held.old.items ++ reverse blocks.old.items) 0 }
+    ensures depth { length (T.others tables.new).kept ≡ length (T.others tables.old).kept + length held.old.items }
     ensures steps { steps.new ≤ steps.old + steps_of_last (length held.old.items) (held.old.items ++ reverse blocks.old.items) }
     ensures capacity { vec_capacity blocks.new ≡ vec_capacity blocks.old }
     ensures keeps { KeepsRoom heads.old heads.new }
 {
-    tables.laws();
     if let Some(params) = first_params(blocks, held) {
         move_back(blocks, heads, tables, held, behind, &params, steps);
     }
@@ -91,11 +88,11 @@ fn move_back<T: Written, L: StepBook>(
     params: &Params,
     steps: &mut Steps<L>,
 )
-    requires returns { MayReturn (StandsWithin (T.stands tables.old) (T.costs tables.old)) (WaitsWithin (T.waits tables.old) (T.ahead_costs tables.old)) (length (T.ahead_costs tables.old)) heads.old behind.old.items blocks.old.items held.old.items (vec_capacity blocks.old) }
+    requires returns { MayReturn (StandsWithin (T.is (T.names tables.old)) (T.now tables.old) (T.count tables.old) (T.others tables.old).kept) (WaitsWithin (T.is (T.names tables.old)) (T.others tables.old)) (length (T.others tables.old).ahead) heads.old behind.old.items blocks.old.items held.old.items (vec_capacity blocks.old) }
     requires params { params.now ≡ params_of (held.old.items ++ reverse blocks.old.items) }
     requires range { IsInRange params.now }
-    ensures moved { HasMoved (StandsWithin (T.stands tables.new) (T.costs tables.new)) (WaitsWithin (T.waits tables.new) (T.ahead_costs tables.new)) (length (T.ahead_costs tables.new)) heads.new behind.new.items blocks.new.items held.new.items (held.old.items ++ reverse blocks.old.items) 0 }
-    ensures depth { length (T.costs tables.new) ≡ length (T.costs tables.old) + length held.old.items }
+    ensures moved { HasMoved (StandsWithin (T.is (T.names tables.new)) (T.now tables.new) (T.count tables.new) (T.others tables.new).kept) (WaitsWithin (T.is (T.names tables.new)) (T.others tables.new)) (length (T.others tables.new).ahead) heads.new behind.new.items blocks.new.items held.new.items (held.old.items ++ reverse blocks.old.items) 0 }
+    ensures depth { length (T.others tables.new).kept ≡ length (T.others tables.old).kept + length held.old.items }
     ensures steps { steps.new ≤ steps.old + steps_of_last (length held.old.items) (held.old.items ++ reverse blocks.old.items) }
     ensures capacity { vec_capacity blocks.new ≡ vec_capacity blocks.old }
     ensures keeps { KeepsRoom heads.old heads.new }
@@ -104,7 +101,6 @@ fn move_back<T: Written, L: StepBook>(
         let head = behind.pop().unwrap();
         heads.put_back(head, params);
         blocks.push_reserved(block);
-        tables.laws();
         tables.again(steps);
     }
 }

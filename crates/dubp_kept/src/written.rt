@@ -1,6 +1,4 @@
 ghost use Rattle.std.specs.Prelude.{◌≡◌, ◌+◌, ◌≤◌, ◌∷◌, ℕ, Some, IfOk, OnOk};
-ghost use Rattle.dubp_undo.specs.Numbers.{settled};
-ghost use Rattle.dubp_undo.specs.States.{AtMostMore};
 ghost use Rattle.dubp_block.specs.Text.{IsBlock};
 ghost use Rattle.dubp_chain.specs.Chains.{Chain};
 ghost use Rattle.dubp_chain.specs.Heads.{head_of};
@@ -23,7 +21,7 @@ pub trait Written: Tables<Block> {
     /// Writes the block, whose head this is, behind the chain: it breaks no rule there but such as read verdicts. `hashes` are those of its
     /// transactions, in order. Hands out what the block leaves behind.
     ///
-    /// `NoMemory` where there is no room: what was written until then stands in the tables, and what is marked stays so.
+    /// `NoMemory` where there is no room: what was written until then stands in the tables, and what is kept stays so.
     fn write<L: StepBook>(
         &mut self,
         alloc: Global,
@@ -37,9 +35,7 @@ pub trait Written: Tables<Block> {
         ensures at { OnOk result ((c : Chain) → IsSound (block.now ∷ c) → IsBlock block.now → head_of (block.now ∷ c) ≡ Some head.now → Self.at self.old c → Self.at self.new (block.now ∷ c)) }
         ensures left { IfOk result (λ left. (c : Chain) → IsSound (block.now ∷ c) → IsBlock block.now → head_of (block.now ∷ c) ≡ Some head.now → Self.at self.old c → left ≡ left_behind c block.now) }
         ensures steps { OnOk result ((c : Chain) → IsSound (block.now ∷ c) → IsBlock block.now → head_of (block.now ∷ c) ≡ Some head.now → Self.at self.old c → steps.new ≤ steps.old + most_steps c block.now) }
-        ensures marked { (c : Chain) → Self.marked self.old c → Self.marked self.new c }
-        ensures waits { (o : Chain) (i : ℕ) → Self.waits self.old o i → Self.waits self.new o i }
-        ensures ahead { Self.ahead_costs self.new ≡ Self.ahead_costs self.old }
-        ensures costs_stay { settled (Self.costs self.new) ≡ settled (Self.costs self.old) }
-        ensures costs { OnOk result ((c : Chain) → IsSound (block.now ∷ c) → IsBlock block.now → head_of (block.now ∷ c) ≡ Some head.now → Self.at self.old c → AtMostMore (most_steps c block.now) (Self.costs self.old) (Self.costs self.new)) };
+        ensures others { Self.others self.new ≡ Self.others self.old }
+        ensures count { Self.count self.new + steps.old ≤ Self.count self.old + steps.new }
+        ensures stays { (n : Self.Now) (c : Chain) → Self.is (Self.names self.old) n c → Self.is (Self.names self.new) n c };
 }

@@ -11,7 +11,7 @@ ghost use Rattle.dubp_validity.specs.Records.{records_at};
 ghost use Rattle.dubp_validity.specs.Rules.{FirstBroken, Holds, IsSound, longest_block};
 ghost use Rattle.dubp_validity.specs.Drafts.{FirstBad};
 ghost use Rattle.dubp_rows.specs.OfKept.{all_hashes, local_rules};
-ghost use Rattle.dubp_rows.specs.OfKept.{IsAsBefore, IsAsHeld, IsHeldBy, IsKnown, MayJoin, last_steps, most_kept, most_steps, steps_of_last, steps_of_out, without_last};
+ghost use Rattle.dubp_rows.specs.OfKept.{AreStates, IsAsBefore, IsAsHeld, IsHeldBy, IsKnown, MayJoin, last_steps, most_kept, most_steps, steps_of_last, steps_of_out, without_last};
 ghost use Rattle.dubp_ledger.specs.States.{Accepted, HandedBack, IsDifficulty, IsTooDeep};
 ghost use Rattle.dubp_ledger.specs.Traces.{IsShort};
 ghost use Rattle.dubp_ledger.specs.Written.{IsWrittenAt};
@@ -157,16 +157,20 @@ impl<T: PeopleAndMoney> Ledger<T> {
         Ok(Some(found))
     }
 
-    /// The people of the chain. It takes no memory.
+    /// The people of the chain, with their states before each block that can be reversed, and those of the blocks that are held. It takes no
+    /// memory.
     pub fn people(&self) -> &People
-        ensures { ⟦<People as Tables<Block>>⟧.at result.now self.now.chain }
+        ensures at { ⟦<People as Tables<Block>>⟧.at result.now self.now.chain }
+        ensures states { AreStates (⟦<People as Tables<Block>>⟧.is (⟦<People as Tables<Block>>⟧.names result.now)) (⟦<People as Tables<Block>>⟧.now result.now) (⟦<People as Tables<Block>>⟧.count result.now) (⟦<People as Tables<Block>>⟧.others result.now) self.now }
     {
         self.kept.tables().people()
     }
 
-    /// The money of the chain. It takes no memory.
+    /// The money of the chain, with its states before each block that can be reversed, and those of the blocks that are held. It takes no
+    /// memory.
     pub fn money(&self) -> &Money
-        ensures { ⟦<Money as Tables<Block>>⟧.at result.now self.now.chain }
+        ensures at { ⟦<Money as Tables<Block>>⟧.at result.now self.now.chain }
+        ensures states { AreStates (⟦<Money as Tables<Block>>⟧.is (⟦<Money as Tables<Block>>⟧.names result.now)) (⟦<Money as Tables<Block>>⟧.now result.now) (⟦<Money as Tables<Block>>⟧.count result.now) (⟦<Money as Tables<Block>>⟧.others result.now) self.now }
     {
         self.kept.tables().money()
     }

@@ -5,13 +5,13 @@ use Rattle.std.specs.Cmp.Lexicographic.{slice_cmp}
 use Rattle.std.specs.FinMap.{get-empty, get-insert, insert}
 use Rattle.std.specs.Ordering.{nat_cmp}
 use Rattle.std.proofs.lemmas.Cmp.{nat_list_cmp_total}
-use Rattle.dubp_undo.specs.Definition.{IsAt, Stands}
-use Rattle.dubp_undo.specs.MovingTable.{MovingTable, Puts, empty}
+use Rattle.dubp_undo.specs.Definition.{IsAt}
+use Rattle.dubp_undo.specs.MovingTable.{Puts}
 use Rattle.dubp_mindex.specs.Members.{Members, members, member_at}
 use Rattle.dubp_mindex.specs.declared.member.MemberRow.{MemberRow}
 
-pub empty_stands : (t : MovingTable (List ℕ) MemberRow) → t ≡ empty → Stands (slice_cmp nat_cmp) member_at t.past t.now []
-empty_stands t e = rw e (record { is = λ k. sym (get-empty (slice_cmp nat_cmp) k); kept = tt })
+pub empty_at : IsAt (slice_cmp nat_cmp) member_at [] []
+empty_at k = sym (get-empty (slice_cmp nat_cmp) k)
 
 pub row_put : (now now' : List (List ℕ × MemberRow)) (s t : List Members) (key : List ℕ) (row : MemberRow) → Puts (slice_cmp nat_cmp) now now' key (Some row)
     → IsAt (slice_cmp nat_cmp) member_at now s → IsAt (slice_cmp nat_cmp) member_at now' (insert (members s) key row ∷ t)

@@ -1,6 +1,5 @@
-ghost use Rattle.std.specs.Prelude.{◌≡◌, ℕ, ◌+◌, ◌∷◌, List, [], OnOk, OnErr};
+ghost use Rattle.std.specs.Prelude.{◌≡◌, ℕ, ◌+◌, ◌≤◌, ◌∷◌, List, [], OnOk, OnErr};
 ghost use Rattle.std.specs.FinMap.{insert};
-ghost use Rattle.dubp_undo.specs.Numbers.{add_last, settled};
 ghost use Rattle.dubp_mindex.specs.Members.{Members, member_at, members};
 
 use dubp_atoms::{Key, NoMemory, Steps};
@@ -60,34 +59,26 @@ pub struct MIndex {
 }
 
 impl Tables<MemberRows> for MIndex {
-    ghost costs = { λ t. ⟦<RowTable as Tables<MemberRows>>⟧.costs t.tables };
+    ghost Now = { ⟦<RowTable as Tables<MemberRows>>⟧.Now };
 
-    ghost ahead_costs = { λ t. ⟦<RowTable as Tables<MemberRows>>⟧.ahead_costs t.tables };
+    ghost Names = { ⟦<RowTable as Tables<MemberRows>>⟧.Names };
 
-    ghost at = { λ t c. ⟦<RowTable as Tables<MemberRows>>⟧.at t.tables c };
+    ghost now = { λ t. ⟦<RowTable as Tables<MemberRows>>⟧.now t.tables };
 
-    ghost stands = { λ t c. ⟦<RowTable as Tables<MemberRows>>⟧.stands t.tables c };
+    ghost count = { λ t. ⟦<RowTable as Tables<MemberRows>>⟧.count t.tables };
 
-    ghost marked = { λ t c. ⟦<RowTable as Tables<MemberRows>>⟧.marked t.tables c };
-
-    ghost waits = { λ t o i. ⟦<RowTable as Tables<MemberRows>>⟧.waits t.tables o i };
-
-    ghost same = { λ t u. ⟦<RowTable as Tables<MemberRows>>⟧.same t.tables u.tables };
-
-    ghost marks = { λ t u. ⟦<RowTable as Tables<MemberRows>>⟧.marks t.tables u.tables };
-
-    ghost keeps = { λ t u. ⟦<RowTable as Tables<MemberRows>>⟧.keeps t.tables u.tables };
+    ghost others = { λ t. ⟦<RowTable as Tables<MemberRows>>⟧.others t.tables };
 
     ghost spare = { λ t. ⟦<RowTable as Tables<MemberRows>>⟧.spare t.tables };
 
-    ghost room = { λ t. ⟦<RowTable as Tables<MemberRows>>⟧.room t.tables };
+    ghost names = { λ t. ⟦<RowTable as Tables<MemberRows>>⟧.names t.tables };
+
+    ghost is = { ⟦<RowTable as Tables<MemberRows>>⟧.is };
+
+    ghost at = { λ t c. ⟦<RowTable as Tables<MemberRows>>⟧.at t.tables c };
 
     fn depth(&self) -> usize {
         self.tables.depth()
-    }
-
-    fn laws(&self) {
-        self.tables.laws();
     }
 
     fn mark(&mut self) -> Result<(), NoMemory> {
@@ -125,15 +116,19 @@ impl Tables<MemberRows> for MIndex {
     }
 
     ghost use Rattle.std.specs.Ordering.{nat_cmp};
+
+    ghost is_at = { λ t c is. is };
+
+    ghost at_is = { λ t c is. is };
 }
 
 impl MIndex {
     /// The index in which no key has a row. It takes no memory.
     pub fn new(alloc: Global) -> MIndex
-        ensures stands { ⟦<MIndex as Tables<MemberRows>>⟧.stands result [] }
-        ensures costs { ⟦<MIndex as Tables<MemberRows>>⟧.costs result ≡ [] }
-        ensures ahead { ⟦<MIndex as Tables<MemberRows>>⟧.ahead_costs result ≡ [] }
-        ensures waits { (o : List Members) → ⟦<MIndex as Tables<MemberRows>>⟧.waits result o 0 }
+        ensures at { ⟦<MIndex as Tables<MemberRows>>⟧.at result [] }
+        ensures count { ⟦<MIndex as Tables<MemberRows>>⟧.count result ≡ 0 }
+        ensures kept { (⟦<MIndex as Tables<MemberRows>>⟧.others result).kept ≡ [] }
+        ensures ahead { (⟦<MIndex as Tables<MemberRows>>⟧.others result).ahead ≡ [] }
     {
         MIndex {
             tables: Leaf::new(alloc),
@@ -157,14 +152,11 @@ impl MIndex {
         steps: &mut Steps<L>,
     ) -> Result<(), NoMemory>
         ensures at { OnOk result ((s t : List Members) → ⟦<MIndex as Tables<MemberRows>>⟧.at self.old s → ⟦<MIndex as Tables<MemberRows>>⟧.at self.new (insert (members s) key row ∷ t)) }
-        ensures marked { (s : List Members) → ⟦<MIndex as Tables<MemberRows>>⟧.marked self.old s → ⟦<MIndex as Tables<MemberRows>>⟧.marked self.new s }
-        ensures waits { (o : List Members) (i : ℕ) → ⟦<MIndex as Tables<MemberRows>>⟧.waits self.old o i → ⟦<MIndex as Tables<MemberRows>>⟧.waits self.new o i }
-        ensures ahead { ⟦<MIndex as Tables<MemberRows>>⟧.ahead_costs self.new ≡ ⟦<MIndex as Tables<MemberRows>>⟧.ahead_costs self.old }
-        ensures costs_stay { settled (⟦<MIndex as Tables<MemberRows>>⟧.costs self.new) ≡ settled (⟦<MIndex as Tables<MemberRows>>⟧.costs self.old) }
-        ensures costs { OnOk result (⟦<MIndex as Tables<MemberRows>>⟧.costs self.new ≡ add_last 1 (⟦<MIndex as Tables<MemberRows>>⟧.costs self.old)) }
+        ensures others { ⟦<MIndex as Tables<MemberRows>>⟧.others self.new ≡ ⟦<MIndex as Tables<MemberRows>>⟧.others self.old }
+        ensures count { ⟦<MIndex as Tables<MemberRows>>⟧.count self.new + steps.old ≤ ⟦<MIndex as Tables<MemberRows>>⟧.count self.old + steps.new }
         ensures step { OnOk result (steps.new ≡ steps.old + 1) }
 
-        ensures refused { OnErr result (⟦<MIndex as Tables<MemberRows>>⟧.same self.old self.new) }
+        ensures refused { OnErr result (⟦<MIndex as Tables<MemberRows>>⟧.now self.new ≡ ⟦<MIndex as Tables<MemberRows>>⟧.now self.old) }
         ensures no_step { OnErr result (steps.new ≡ steps.old) }
     {
         self.tables.set(key, Some(row), steps)?;

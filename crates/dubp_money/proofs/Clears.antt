@@ -10,7 +10,7 @@ use Rattle.std.proofs.lemmas.List.Sorted.{IsPermutation-refl, IsPermutation-sym,
 use Rattle.std.proofs.lemmas.Bool.{lt-ltb, ltb-true}
 use Rattle.dubp_sindex.specs.Balances.{Any}
 use Rattle.dubp_sindex.specs.Rows.{Entry, units_of_entry, is_of, is_named, of_account, units_in, without, Rises, AreRows, IsAtMost, balance_of_row, IsLeastBalance}
-use Rattle.dubp_sindex.proofs.Elements.{is_false, IsIn, in_all, all_from_in, all_more, in_any, any_in, not_true, in_filter, kept_in, filter_on, filter_true, filter_twice}
+use Rattle.dubp_sindex.proofs.Elements.{is_false, IsIn, in_all, all_more, in_any, any_in, not_true, in_filter, kept_in, filter_on, filter_true, filter_twice}
 use Rattle.dubp_sindex.proofs.Sources.{same_source_own, OnceEach, once_each, one_of_name}
 use Rattle.dubp_money_steps.specs.Clearing.{has_little, HasEnough}
 use Rattle.dubp_money_steps.proofs.ByBalance.{filter_whole}
@@ -154,9 +154,6 @@ cleared_more Has Has' limit rows so_far now account is here below left put = rec
 
 of_enough : (limit : ℕ) (rows : List Entry) → HasEnough limit rows → (e : Entry) → IsIn e rows → limit ≤ units_in e.1.account rows
 of_enough limit rows enough = in_all (λ (x : Entry). limit ≤ units_in x.1.account rows) rows enough.each
-
-is_enough : (limit : ℕ) (rows : List Entry) → ((e : Entry) → IsIn e rows → limit ≤ units_in e.1.account rows) → HasEnough limit rows
-is_enough limit rows each = record { each = all_from_in (λ (x : Entry). limit ≤ units_in x.1.account rows) rows each }
 
 module _ (Has : List Entry → Type 0) (limit : ℕ) (rows so_far : List Entry) (is : IsCleared Has limit rows so_far)
     (enough : HasEnough limit (filter (λ e. not (is.gone e.1.account)) rows)) where

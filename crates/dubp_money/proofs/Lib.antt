@@ -1,5 +1,4 @@
-pub mod Standing
-pub mod Kept
+pub mod Growing
 pub mod Rows
 pub mod Lists
 pub mod Clears

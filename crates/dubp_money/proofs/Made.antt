@@ -18,7 +18,7 @@ use Rattle.dubp_money_steps.proofs.Numbering.{account_stays}
 use Rattle.dubp_money.specs.Texts.{Grows}
 use Rattle.dubp_money.specs.Making.{CanFollow, with_made, dividends_to}
 use Rattle.dubp_money.specs.declared.paying.Payment.{Payment}
-use Rattle.dubp_money.proofs.Standing.{has_more}
+use Rattle.dubp_money.proofs.Growing.{has_more}
 
 -- ---- lists
 
@@ -251,13 +251,7 @@ dividend_next p keys i k within is =
     next_at (map pay keys) i (pay k) (omega (arith, within, dividends-length p keys))
     (sym (get_or-map pay keys i k (pay k) within ∙ ap pay (sym is)))
 
-pub dividends_all : (p : Payment) (keys : List Text) (i : ℕ) → length keys ≤ i → take i (dividends_to p keys) ≡ dividends_to p keys
-dividends_all p keys i past = take_all i (dividends_to p keys) (omega (arith, past, dividends-length p keys))
-
 -- ---- a text that gets a number
-
-pub grows_text : (texts : List Text) (t : Text) → Grows texts (with_text texts t)
-grows_text texts t = elim (list_any (same_text t) texts) as (λ r. Grows texts (cond r texts (texts ++ t ∷ []))) [ true ↦ ([], sym (append-nil texts)) | false ↦ (t ∷ [], refl) ]
 
 pub has_text : (texts : List Text) (t : Text) → list_any (same_text t) (with_text texts t) ≡ true
 has_text texts t =

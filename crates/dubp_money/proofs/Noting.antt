@@ -1,5 +1,5 @@
--- The hashes of transactions that are noted, one after the other, and tables side by side.
-use Rattle.std.proofs.Common.{◌≡◌, ℕ, ◌+◌, ◌<◌, ◌≤◌, Bool, true, false, cond, ◌||◌, List, [], ◌∷◌, Option, Some, None, map, length, take, get_or, refl, ap, sym, ◌∙◌, subst, arith}
+-- The hashes of transactions that are noted, one after the other.
+use Rattle.std.proofs.Common.{◌≡◌, ℕ, ◌+◌, ◌<◌, ◌≤◌, Bool, true, false, cond, ◌||◌, List, [], ◌∷◌, Option, Some, None, map, length, take, get_or, refl, ap, sym, ◌∙◌, subst}
 use Rattle.std.specs.Prelude.{if◌then◌else◌}
 use Rattle.std.specs.BTreeMap.{is_at}
 use Rattle.std.specs.Cmp.Lexicographic.{slice_cmp, texts_ties}
@@ -13,14 +13,10 @@ use Rattle.dubp_chain.specs.Words.{names}
 use Rattle.dubp_chain.specs.Chains.{Chain}
 use Rattle.dubp_chain.specs.Tables.{has_transaction}
 use Rattle.dubp_chain.specs.Money.{hashes_in}
-use Rattle.dubp_undo.specs.Numbers.{plus, settled}
-use Rattle.dubp_undo.specs.States.{AtMostMore}
 use Rattle.dubp_money_steps.proofs.Totals.{transactions_go_on}
 use Rattle.dubp_money.specs.Tables.{transaction_at}
 use Rattle.dubp_money.proofs.Rows.{taken_next}
 use Rattle.dubp_money.proofs.Made.{map-both}
-use Rattle.dubp_sindex.proofs.Numbers.{more_beside}
-use Rattle.dubp_undo.proofs.Numbers.{length-plus, settled-add_last, settled_plus}
 
 abbrev pub wholes : List TxHashes → List Text
 wholes hashes = map (λ (h : TxHashes). h.whole) hashes
@@ -59,17 +55,3 @@ noted_all hashes i c b past are k before now was at =
     ∙ (λ j. noted ((ap wholes (take_all i hashes past) ∙ are) j) k (at j))
     ∙ or_some (names (hashes_in b) k) (has_transaction c k)
     ∙ ap (λ r. if r then there else None) (sym (transactions_go_on c b k))
-
--- ---- tables side by side
-
-pub more_settled : {n : ℕ} {x y : List ℕ} → AtMostMore n x y → settled y ≡ settled x
-more_settled {x = x} p = ap settled p.is ∙ settled-add_last p.more x
-
-module _ (x x' y y' z z' : List ℕ) (even : length x ≡ length y) (even_last : length y ≡ length z) where
-  pub three_settled : settled x' ≡ settled x → settled y' ≡ settled y → settled z' ≡ settled z → settled (plus x' (plus y' z')) ≡ settled (plus x (plus y z))
-  three_settled p q r = settled_plus x x' (plus y z) (plus y' z') (even ∙ sym (length-plus y z even_last)) p (settled_plus y y' z z' even_last q r)
-
-  pub three_more : {a b d n : ℕ} → a + (b + d) ≤ n → AtMostMore a x x' → AtMostMore b y y' → AtMostMore d z z' → AtMostMore n (plus x (plus y z)) (plus x' (plus y' z'))
-  three_more {a} {b} {d} le p q r =
-      let all = more_beside {a = a} {b = b + d} (even ∙ sym (length-plus y z even_last)) p (more_beside {a = b} {b = d} even_last q r) in
-      record { more = all.more; most = omega (arith, all.most, le); is = all.is }

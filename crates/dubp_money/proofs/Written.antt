@@ -22,7 +22,7 @@ use Rattle.dubp_money.specs.Making.{CanFollow, with_made}
 use Rattle.dubp_money.specs.Transactions.{all_outputs, written, all_written, records_of}
 use Rattle.dubp_money.proofs.Rows.{rows-filter}
 use Rattle.dubp_money.proofs.Made.{map-both, names-entries, once_first, split_at, with_made-rows, with_made-more, outputs-length}
-use Rattle.dubp_money.proofs.Standing.{has_more}
+use Rattle.dubp_money.proofs.Growing.{has_more}
 
 -- ---- what can follow
 

@@ -1,6 +1,4 @@
-ghost use Rattle.std.specs.Prelude.{◌≡◌, ℕ, ◌+◌, ◌*◌, ◌≤◌, ◌∷◌, ◌++◌, List, map, length, OnOk, OnErr};
-ghost use Rattle.dubp_undo.specs.Numbers.{settled};
-ghost use Rattle.dubp_undo.specs.States.{AtMostMore};
+ghost use Rattle.std.specs.Prelude.{◌≡◌, ◌+◌, ◌*◌, ◌≤◌, ◌∷◌, ◌++◌, map, length, OnOk, OnErr};
 ghost use Rattle.dubp_block.specs.Text.{IsBlock};
 ghost use Rattle.dubp_docs.specs.declared.hashing.TxHashes.{TxHashes as TxHashesValue};
 ghost use Rattle.dubp_chain.specs.Chains.{Chain};
@@ -33,11 +31,11 @@ impl Money {
     /// totals, the hashes and the facts. Appends its records of money in the order of the protocol.
     ///
     /// The block is in range. `members` are those of the chain with the block, by key, where the head has a dividend; else they are not
-    /// looked at. It adds at most eight steps for each of these records, and eight. What is marked stays so.
+    /// looked at. It adds at most eight steps for each of these records, and eight. What is kept stays so.
     ///
     /// `NoMemory` where there is no room, where more than 2^53 sources would be made with a dividend for each of `members`, and where units
     /// or totals would leave 128 bits: the records are as before then, and what was written until then stands in the tables until they go
-    /// back to what was marked.
+    /// back to what is kept.
     pub fn apply<L: StepBook>(
         &mut self,
         alloc: Global,
@@ -50,11 +48,9 @@ impl Money {
         requires block { IsBlock block.now }
         ensures at { OnOk result ((c : Chain) → IsApplied c block.now head.now → ArePaid (block.now ∷ c) head.now members.now → ⟦<Money as Tables<Block>>⟧.at self.old c → ⟦<Money as Tables<Block>>⟧.at self.new (block.now ∷ c)) }
         ensures records { OnOk result ((c : Chain) → IsApplied c block.now head.now → ArePaid (block.now ∷ c) head.now members.now → ⟦<Money as Tables<Block>>⟧.at self.old c → out.new.items ≡ out.old.items ++ money_records c block.now) }
-        ensures marked { (c : Chain) → ⟦<Money as Tables<Block>>⟧.marked self.old c → ⟦<Money as Tables<Block>>⟧.marked self.new c }
-        ensures waits { (o : Chain) (i : ℕ) → ⟦<Money as Tables<Block>>⟧.waits self.old o i → ⟦<Money as Tables<Block>>⟧.waits self.new o i }
-        ensures ahead { ⟦<Money as Tables<Block>>⟧.ahead_costs self.new ≡ ⟦<Money as Tables<Block>>⟧.ahead_costs self.old }
-        ensures costs_stay { settled (⟦<Money as Tables<Block>>⟧.costs self.new) ≡ settled (⟦<Money as Tables<Block>>⟧.costs self.old) }
-        ensures costs { OnOk result ((c : Chain) → IsApplied c block.now head.now → ArePaid (block.now ∷ c) head.now members.now → ⟦<Money as Tables<Block>>⟧.at self.old c → AtMostMore (8 * length (money_records c block.now) + 8) (⟦<Money as Tables<Block>>⟧.costs self.old) (⟦<Money as Tables<Block>>⟧.costs self.new)) }
+        ensures others { ⟦<Money as Tables<Block>>⟧.others self.new ≡ ⟦<Money as Tables<Block>>⟧.others self.old }
+        ensures count { ⟦<Money as Tables<Block>>⟧.count self.new + steps.old ≤ ⟦<Money as Tables<Block>>⟧.count self.old + steps.new }
+        ensures stays { (n : ⟦<Money as Tables<Block>>⟧.Now) (c : Chain) → ⟦<Money as Tables<Block>>⟧.is (⟦<Money as Tables<Block>>⟧.names self.old) n c → ⟦<Money as Tables<Block>>⟧.is (⟦<Money as Tables<Block>>⟧.names self.new) n c }
         ensures steps { OnOk result ((c : Chain) → IsApplied c block.now head.now → ArePaid (block.now ∷ c) head.now members.now → ⟦<Money as Tables<Block>>⟧.at self.old c → steps.new ≤ steps.old + (8 * length (money_records c block.now) + 8)) }
         ensures refused { OnErr result (out.new.items ≡ out.old.items) }
     {
@@ -78,11 +74,9 @@ impl Money {
         requires hashes { map (λ (h : TxHashesValue). h.whole) hashes.now ≡ hashes_in block.now }
         ensures at { OnOk result ((c : Chain) → IsApplied c block.now head.now → ArePaid (block.now ∷ c) head.now members.now → ⟦<Money as Tables<Block>>⟧.at self.old c → ⟦<Money as Tables<Block>>⟧.at self.new (block.now ∷ c)) }
         ensures records { OnOk result ((c : Chain) → IsApplied c block.now head.now → ArePaid (block.now ∷ c) head.now members.now → ⟦<Money as Tables<Block>>⟧.at self.old c → out.new.items ≡ out.old.items ++ money_records c block.now) }
-        ensures marked { (c : Chain) → ⟦<Money as Tables<Block>>⟧.marked self.old c → ⟦<Money as Tables<Block>>⟧.marked self.new c }
-        ensures waits { (o : Chain) (i : ℕ) → ⟦<Money as Tables<Block>>⟧.waits self.old o i → ⟦<Money as Tables<Block>>⟧.waits self.new o i }
-        ensures ahead { ⟦<Money as Tables<Block>>⟧.ahead_costs self.new ≡ ⟦<Money as Tables<Block>>⟧.ahead_costs self.old }
-        ensures costs_stay { settled (⟦<Money as Tables<Block>>⟧.costs self.new) ≡ settled (⟦<Money as Tables<Block>>⟧.costs self.old) }
-        ensures costs { OnOk result ((c : Chain) → IsApplied c block.now head.now → ArePaid (block.now ∷ c) head.now members.now → ⟦<Money as Tables<Block>>⟧.at self.old c → AtMostMore (8 * length (money_records c block.now) + 8) (⟦<Money as Tables<Block>>⟧.costs self.old) (⟦<Money as Tables<Block>>⟧.costs self.new)) }
+        ensures others { ⟦<Money as Tables<Block>>⟧.others self.new ≡ ⟦<Money as Tables<Block>>⟧.others self.old }
+        ensures count { ⟦<Money as Tables<Block>>⟧.count self.new + steps.old ≤ ⟦<Money as Tables<Block>>⟧.count self.old + steps.new }
+        ensures stays { (n : ⟦<Money as Tables<Block>>⟧.Now) (c : Chain) → ⟦<Money as Tables<Block>>⟧.is (⟦<Money as Tables<Block>>⟧.names self.old) n c → ⟦<Money as Tables<Block>>⟧.is (⟦<Money as Tables<Block>>⟧.names self.new) n c }
         ensures steps { OnOk result ((c : Chain) → IsApplied c block.now head.now → ArePaid (block.now ∷ c) head.now members.now → ⟦<Money as Tables<Block>>⟧.at self.old c → steps.new ≤ steps.old + (8 * length (money_records c block.now) + 8)) }
         ensures refused { OnErr result (out.new.items ≡ out.old.items) }
     {

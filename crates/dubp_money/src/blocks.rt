@@ -12,7 +12,7 @@ ghost use Rattle.dubp_sindex.specs.Accounts.{accounts};
 ghost use Rattle.dubp_sindex.specs.Rows.{Entry, AreRows};
 ghost use Rattle.dubp_money_steps.specs.Left.{HasTexts, sources_left, sources_before_clearing};
 ghost use Rattle.dubp_money_steps.specs.Clearing.{clear_record};
-ghost use Rattle.dubp_money.specs.Index.{HasRows, Keeps, Sets};
+ghost use Rattle.dubp_money.specs.Index.{HasRows};
 ghost use Rattle.dubp_money.specs.Texts.{Grows, Fits};
 ghost use Rattle.dubp_money.specs.Making.{CanFollow, with_made};
 ghost use Rattle.dubp_money.specs.Transactions.{all_outputs, records_of};
@@ -46,9 +46,9 @@ pub fn pay<L: StepBook>(
     ensures has { OnOk result (HasTexts (accounts index.new) (paid payment members.now)) }
     ensures texts { Grows (accounts index.old) (accounts index.new) }
     ensures records { OnOk result (out.new.items ≡ out.old.items ++ map (λ s. Dividend (input_of s)) (paid payment members.now)) }
-    ensures sets { OnOk result (Sets (5 * length (paid payment members.now)) index.old index.new) }
     ensures steps { OnOk result (steps.new ≤ steps.old + 5 * length (paid payment members.now)) }
-    ensures keeps { Keeps index.old index.new }
+    ensures others { ⟦<SIndex as Tables<SourceRows>>⟧.others index.new ≡ ⟦<SIndex as Tables<SourceRows>>⟧.others index.old }
+    ensures count { ⟦<SIndex as Tables<SourceRows>>⟧.count index.new + steps.old ≤ ⟦<SIndex as Tables<SourceRows>>⟧.count index.old + steps.new }
 {
     match payment {
         None => Ok(()),
@@ -64,7 +64,7 @@ pub fn pay<L: StepBook>(
 /// all that it does to sources before it clears. `hashes` are those of the transactions, `time` is the time of the chain with the
 /// block, in seconds, and `made` how many sources the chain made. At most five sets a record.
 ///
-/// On `NoMemory` some of it may be written; what is marked stays so.
+/// On `NoMemory` some of it may be written; what is kept stays so.
 pub fn spend_and_make<L: StepBook>(
     index: &mut SIndex,
     alloc: Global,
@@ -84,9 +84,9 @@ pub fn spend_and_make<L: StepBook>(
     ensures fits { OnOk result ((c : Chain) → IsWritten c block.now time payment members.now made → Fits (accounts index.old) c → Fits (accounts index.new) (block.now ∷ c)) }
     ensures texts { Grows (accounts index.old) (accounts index.new) }
     ensures records { OnOk result (out.new.items ≡ out.old.items ++ (flat_map (records_of time block.now.currency) block.now.transactions ++ map (λ s. Dividend (input_of s)) (paid payment members.now))) }
-    ensures sets { OnOk result (Sets (5 * (length (flat_map (records_of time block.now.currency) block.now.transactions) + length (paid payment members.now))) index.old index.new) }
     ensures steps { OnOk result (steps.new ≤ steps.old + 5 * (length (flat_map (records_of time block.now.currency) block.now.transactions) + length (paid payment members.now))) }
-    ensures keeps { Keeps index.old index.new }
+    ensures others { ⟦<SIndex as Tables<SourceRows>>⟧.others index.new ≡ ⟦<SIndex as Tables<SourceRows>>⟧.others index.old }
+    ensures count { ⟦<SIndex as Tables<SourceRows>>⟧.count index.new + steps.old ≤ ⟦<SIndex as Tables<SourceRows>>⟧.count index.old + steps.new }
 {
     let behind = write_transactions(index, alloc, block, hashes, time, made, out, steps)?;
     pay(index, alloc, payment, members, behind, out, steps)?;
@@ -96,7 +96,7 @@ pub fn spend_and_make<L: StepBook>(
 /// Clears, of what stands when the block has spent and made, each account that has less than the limit, with its records, and
 /// hands out what it took. Behind it the index stands for the chain with the block. At most five sets a record.
 ///
-/// On `NoMemory` some of it may be cleared; what is marked stays so.
+/// On `NoMemory` some of it may be cleared; what is kept stays so.
 pub fn clear_block<L: StepBook>(
     index: &mut SIndex,
     alloc: Global,
@@ -108,9 +108,9 @@ pub fn clear_block<L: StepBook>(
     ensures records { OnOk result ((c : Chain) (b : BlockValue) → IsCleared c b limit (accounts index.old) → HasRows index.old (sources_before_clearing (accounts index.old) c b) → out.new.items ≡ out.old.items ++ clearing_records c b) }
     ensures taken { IfOk result (λ taken. (c : Chain) (b : BlockValue) → IsCleared c b limit (accounts index.old) → HasRows index.old (sources_before_clearing (accounts index.old) c b) → map clear_record taken.items ≡ clearing_records c b) }
     ensures texts { accounts index.new ≡ accounts index.old }
-    ensures sets { IfOk result (λ taken. Sets (5 * length taken.items) index.old index.new) }
     ensures steps { IfOk result (λ taken. steps.new ≤ steps.old + 5 * length taken.items) }
-    ensures keeps { Keeps index.old index.new }
+    ensures others { ⟦<SIndex as Tables<SourceRows>>⟧.others index.new ≡ ⟦<SIndex as Tables<SourceRows>>⟧.others index.old }
+    ensures count { ⟦<SIndex as Tables<SourceRows>>⟧.count index.new + steps.old ≤ ⟦<SIndex as Tables<SourceRows>>⟧.count index.old + steps.new }
 {
     let taken = clear_accounts(index, alloc, limit, steps)?;
     put_clears(taken.as_slice(), out)?;

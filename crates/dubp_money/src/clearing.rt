@@ -1,14 +1,15 @@
-ghost use Rattle.std.specs.Prelude.{◌≡◌, ℕ, ◌+◌, ◌*◌, ◌<◌, ◌≤◌, ◌++◌, ◌∷◌, List, [], filter, length, not, map, OnOk, IfOk, IfSome, IfNone};
+ghost use Rattle.std.specs.Prelude.{◌≡◌, ◌+◌, ◌*◌, ◌<◌, ◌≤◌, ◌++◌, ◌∷◌, List, [], filter, length, not, map, OnOk, IfOk, IfSome, IfNone};
 ghost use Rattle.dubp_sindex.specs.Accounts.{accounts as texts};
 ghost use Rattle.dubp_sindex.specs.Rows.{Entry, AreRows, is_of, of_account, units_in};
 ghost use Rattle.dubp_money_steps.specs.Clearing.{HasEnough, kept, taken as cleared, clear_record};
-ghost use Rattle.dubp_money.specs.Index.{HasRows, Keeps, Sets};
+ghost use Rattle.dubp_money.specs.Index.{HasRows};
 ghost use Rattle.dubp_money.specs.Writing.{AreCleared};
 
 use crate::spending::spend_source;
 use dubp_atoms::{NoMemory, Steps};
 use dubp_cond::{Input, SourceId};
-use dubp_sindex::{SIndex, SourceRow};
+use dubp_sindex::{SIndex, SourceRow, SourceRows};
+use dubp_undo::Tables;
 use dubp_validity::Record;
 use std::alloc::Global;
 use std::sync::ledger::Ledger as StepBook;
@@ -32,9 +33,9 @@ fn take_account<L: StepBook>(
 ) -> Result<(), NoMemory>
     ensures left { OnOk result ((rows : List Entry) → AreRows rows → HasRows index.old rows → HasRows index.new (filter (λ e. not (is_of account e)) rows)) }
     ensures taken { OnOk result ((rows : List Entry) → AreRows rows → HasRows index.old rows → taken.new.items ≡ taken.old.items ++ of_account account rows) }
-    ensures sets { OnOk result ((n : ℕ) × (length taken.new.items ≡ length taken.old.items + n) × Sets (5 * n) index.old index.new) }
     ensures steps { OnOk result (steps.new + 5 * length taken.old.items ≤ steps.old + 5 * length taken.new.items) }
-    ensures keeps { Keeps index.old index.new }
+    ensures others { ⟦<SIndex as Tables<SourceRows>>⟧.others index.new ≡ ⟦<SIndex as Tables<SourceRows>>⟧.others index.old }
+    ensures count { ⟦<SIndex as Tables<SourceRows>>⟧.count index.new + steps.old ≤ ⟦<SIndex as Tables<SourceRows>>⟧.count index.old + steps.new }
     ensures texts { texts index.new ≡ texts index.old }
 {
     let found = index.sources(alloc, account)?;
@@ -75,9 +76,9 @@ fn take_little<L: StepBook>(
     steps: &mut Steps<L>,
 ) -> Result<Vec<(SourceId, SourceRow)>, NoMemory>
     ensures cleared { IfOk result (λ taken. (rows : List Entry) → AreRows rows → HasRows index.old rows → AreCleared (HasRows index.new) limit rows taken.items) }
-    ensures sets { IfOk result (λ taken. Sets (5 * length taken.items) index.old index.new) }
     ensures steps { IfOk result (λ taken. steps.new ≤ steps.old + 5 * length taken.items) }
-    ensures keeps { Keeps index.old index.new }
+    ensures others { ⟦<SIndex as Tables<SourceRows>>⟧.others index.new ≡ ⟦<SIndex as Tables<SourceRows>>⟧.others index.old }
+    ensures count { ⟦<SIndex as Tables<SourceRows>>⟧.count index.new + steps.old ≤ ⟦<SIndex as Tables<SourceRows>>⟧.count index.old + steps.new }
     ensures texts { texts index.new ≡ texts index.old }
 {
     let mut taken = Vec::new(alloc);
@@ -94,7 +95,7 @@ fn take_little<L: StepBook>(
 /// Takes the sources of each account whose balance is below the limit, and hands them out in the order of making. The accounts are
 /// found by their balances, the least first, so none that has the limit is looked at but one. At most five sets a source.
 ///
-/// On `NoMemory` some of them may be taken; what is marked stays so.
+/// On `NoMemory` some of them may be taken; what is kept stays so.
 pub fn clear_accounts<L: StepBook>(
     index: &mut SIndex,
     alloc: Global,
@@ -103,9 +104,9 @@ pub fn clear_accounts<L: StepBook>(
 ) -> Result<Vec<(SourceId, SourceRow)>, NoMemory>
     ensures left { OnOk result ((rows : List Entry) → AreRows rows → HasRows index.old rows → HasRows index.new (kept limit rows)) }
     ensures taken { IfOk result (λ taken. (rows : List Entry) → AreRows rows → HasRows index.old rows → taken.items ≡ cleared limit rows) }
-    ensures sets { IfOk result (λ taken. Sets (5 * length taken.items) index.old index.new) }
     ensures steps { IfOk result (λ taken. steps.new ≤ steps.old + 5 * length taken.items) }
-    ensures keeps { Keeps index.old index.new }
+    ensures others { ⟦<SIndex as Tables<SourceRows>>⟧.others index.new ≡ ⟦<SIndex as Tables<SourceRows>>⟧.others index.old }
+    ensures count { ⟦<SIndex as Tables<SourceRows>>⟧.count index.new + steps.old ≤ ⟦<SIndex as Tables<SourceRows>>⟧.count index.old + steps.new }
     ensures texts { texts index.new ≡ texts index.old }
 {
     let mut taken = take_little(index, alloc, limit, steps)?;

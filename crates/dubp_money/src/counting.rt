@@ -1,5 +1,4 @@
-ghost use Rattle.std.specs.Prelude.{◌≡◌, ℕ, ◌+◌, ◌^◌, ◌≤◌, List, length, sum_by, OnOk, IfOk};
-ghost use Rattle.dubp_atoms.specs.Same.{Text};
+ghost use Rattle.std.specs.Prelude.{◌≡◌, ℕ, ◌+◌, ◌^◌, ◌≤◌, length, sum_by, OnOk, IfOk};
 ghost use Rattle.dubp_sindex.specs.Rows.{units, units_of_entry};
 ghost use Rattle.dubp_money.specs.Transactions.{all_outputs};
 ghost use Rattle.dubp_money.specs.Blocks.{paid};

@@ -5,8 +5,8 @@
 //! transactions spend and make, one after the other, and dividends are made behind them (`spend_and_make`); then the accounts
 //! that have too little are cleared (`clear_block`), and the index stands for the chain with the block. `Money` holds the sources
 //! with the tables that stand beside them, the hashes of transactions, the totals and the facts, and its `apply` writes a block
-//! into all of them; `apply_hashed` takes the hashes of its transactions. Every call that is refused keeps what is marked, so that `back` undoes all of it. The chapters on money and
-//! records in `docs/protocol` say the same in words.
+//! into all of them; `apply_hashed` takes the hashes of its transactions. Where a call is refused, what is kept stays so, and
+//! `back` undoes all of it. The chapters on money and records in `docs/protocol` say the same in words.
 //!
 //! ```text
 //! money.mark()?;

@@ -3,20 +3,19 @@ ghost use Rattle.std.specs.List.{list_any};
 ghost use Rattle.dubp_atoms.specs.Same.{same_text};
 ghost use Rattle.dubp_cond.specs.Conditions.{cond_text};
 ghost use Rattle.dubp_cond.specs.Transactions.{IsTx};
-ghost use Rattle.dubp_chain.specs.Money.{Source};
 ghost use Rattle.dubp_validity.specs.declared.record.Record.TheVariants.{Make};
 ghost use Rattle.dubp_validity.specs.Records.{make_record};
 ghost use Rattle.dubp_sindex.specs.Accounts.{accounts};
 ghost use Rattle.dubp_sindex.specs.Rows.{Entry, AreRows, IsNewRow};
 ghost use Rattle.dubp_money_steps.specs.Left.{account_in, entry_of, HasTexts};
-ghost use Rattle.dubp_money.specs.Index.{HasRows, Keeps, Sets};
+ghost use Rattle.dubp_money.specs.Index.{HasRows};
 ghost use Rattle.dubp_money.specs.Texts.{Grows};
 ghost use Rattle.dubp_money.specs.Making.{outputs_at, CanFollow, with_made, source_of};
 
 use arrayvec::ArrayVec;
 use dubp_atoms::{Hash, Items, Line, NoMemory, Steps};
 use dubp_cond::{Cond, Input, Output, SourceId, Tx, put_cond};
-use dubp_sindex::{SIndex, SourceRow};
+use dubp_sindex::{SIndex, SourceRow, SourceRows};
 use dubp_undo::Tables;
 use dubp_validity::Record;
 use std::alloc::Global;
@@ -43,9 +42,9 @@ pub(crate) fn make_source<L: StepBook>(
     ensures at { OnOk result ((rows : List Entry) → AreRows rows → HasRows index.old rows → IsNewRow rows (entry_of (account_in (accounts index.new)) (source.order, source_of source cond.now)) → HasRows index.new (rows ++ entry_of (account_in (accounts index.new)) (source.order, source_of source cond.now) ∷ [])) }
     ensures has { OnOk result (IsTrue (list_any (same_text (cond_text cond.now)) (accounts index.new))) }
     ensures texts { Grows (accounts index.old) (accounts index.new) }
-    ensures sets { OnOk result (Sets 5 index.old index.new) }
     ensures steps { OnOk result (steps.new ≤ steps.old + 5) }
-    ensures keeps { Keeps index.old index.new }
+    ensures others { ⟦<SIndex as Tables<SourceRows>>⟧.others index.new ≡ ⟦<SIndex as Tables<SourceRows>>⟧.others index.old }
+    ensures count { ⟦<SIndex as Tables<SourceRows>>⟧.count index.new + steps.old ≤ ⟦<SIndex as Tables<SourceRows>>⟧.count index.old + steps.new }
 {
     let account = index.account(cond)?;
     let row = SourceRow {
@@ -55,7 +54,6 @@ pub(crate) fn make_source<L: StepBook>(
         made_at: source.made_at,
         order: source.order,
     };
-    index.laws();
     index.make(source.id, row, steps)?;
     Ok(())
 }
@@ -63,7 +61,7 @@ pub(crate) fn make_source<L: StepBook>(
 /// The outputs of the transaction of this hash are unspent sources, from this place on in the order of making, made at this
 /// time in seconds. Each of their conditions has a number. At most five sets an output.
 ///
-/// On `NoMemory` some of them may be made; what is marked stays so.
+/// On `NoMemory` some of them may be made; what is kept stays so.
 pub fn make_outputs<L: StepBook>(
     index: &mut SIndex,
     tx: &Tx,
@@ -77,9 +75,9 @@ pub fn make_outputs<L: StepBook>(
     ensures at { OnOk result ((rows : List Entry) → AreRows rows → CanFollow rows order (outputs_at time hash.now tx.now) → HasRows index.old rows → HasRows index.new (with_made (accounts index.new) rows order (outputs_at time hash.now tx.now))) }
     ensures has { OnOk result (HasTexts (accounts index.new) (outputs_at time hash.now tx.now)) }
     ensures texts { Grows (accounts index.old) (accounts index.new) }
-    ensures sets { OnOk result (Sets (5 * length tx.now.outputs) index.old index.new) }
     ensures steps { OnOk result (steps.new ≤ steps.old + 5 * length tx.now.outputs) }
-    ensures keeps { Keeps index.old index.new }
+    ensures others { ⟦<SIndex as Tables<SourceRows>>⟧.others index.new ≡ ⟦<SIndex as Tables<SourceRows>>⟧.others index.old }
+    ensures count { ⟦<SIndex as Tables<SourceRows>>⟧.count index.new + steps.old ≤ ⟦<SIndex as Tables<SourceRows>>⟧.count index.old + steps.new }
 {
     let mut place = 0;
     for output in tx.outputs.as_slice() {

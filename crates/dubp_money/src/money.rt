@@ -1,5 +1,4 @@
-ghost use Rattle.std.specs.Prelude.{◌≡◌, ℕ, ◌+◌, ◌≤◌, List, [], option_map};
-ghost use Rattle.dubp_block.specs.declared.block.Block.{Block as BlockValue};
+ghost use Rattle.std.specs.Prelude.{◌≡◌, [], option_map};
 ghost use Rattle.dubp_chain.specs.Chains.{Chain};
 ghost use Rattle.dubp_chain.specs.Tables.{has_transaction, totals};
 ghost use Rattle.dubp_money.specs.Tables.{transaction_at, totals_at, totals_entry};
@@ -48,34 +47,26 @@ pub struct Money {
 }
 
 impl Tables<Block> for Money {
-    ghost costs = { λ t. ⟦<MoneyTables as Tables<Block>>⟧.costs t.tables };
+    ghost Now = { ⟦<MoneyTables as Tables<Block>>⟧.Now };
 
-    ghost ahead_costs = { λ t. ⟦<MoneyTables as Tables<Block>>⟧.ahead_costs t.tables };
+    ghost Names = { ⟦<MoneyTables as Tables<Block>>⟧.Names };
 
-    ghost at = { λ t c. ⟦<MoneyTables as Tables<Block>>⟧.at t.tables c };
+    ghost now = { λ t. ⟦<MoneyTables as Tables<Block>>⟧.now t.tables };
 
-    ghost stands = { λ t c. ⟦<MoneyTables as Tables<Block>>⟧.stands t.tables c };
+    ghost count = { λ t. ⟦<MoneyTables as Tables<Block>>⟧.count t.tables };
 
-    ghost marked = { λ t c. ⟦<MoneyTables as Tables<Block>>⟧.marked t.tables c };
-
-    ghost waits = { λ t o i. ⟦<MoneyTables as Tables<Block>>⟧.waits t.tables o i };
-
-    ghost same = { λ t u. ⟦<MoneyTables as Tables<Block>>⟧.same t.tables u.tables };
-
-    ghost marks = { λ t u. ⟦<MoneyTables as Tables<Block>>⟧.marks t.tables u.tables };
-
-    ghost keeps = { λ t u. ⟦<MoneyTables as Tables<Block>>⟧.keeps t.tables u.tables };
+    ghost others = { λ t. ⟦<MoneyTables as Tables<Block>>⟧.others t.tables };
 
     ghost spare = { λ t. ⟦<MoneyTables as Tables<Block>>⟧.spare t.tables };
 
-    ghost room = { λ t. ⟦<MoneyTables as Tables<Block>>⟧.room t.tables };
+    ghost names = { λ t. ⟦<MoneyTables as Tables<Block>>⟧.names t.tables };
+
+    ghost is = { ⟦<MoneyTables as Tables<Block>>⟧.is };
+
+    ghost at = { λ t c. ⟦<MoneyTables as Tables<Block>>⟧.at t.tables c };
 
     fn depth(&self) -> usize {
         self.tables.depth()
-    }
-
-    fn laws(&self) {
-        self.tables.laws();
     }
 
     fn mark(&mut self) -> Result<(), NoMemory> {
@@ -111,14 +102,18 @@ impl Tables<Block> for Money {
     fn drop_ahead(&mut self) {
         self.tables.drop_ahead();
     }
+
+    ghost is_at = { λ t c is. is };
+
+    ghost at_is = { λ t c is. is };
 }
 
 // The tables beside the sources, in which nothing stands.
 fn no_tables(alloc: Global) -> HashesAndTotals
-    ensures stands { ⟦<HashesAndTotals as Tables<Block>>⟧.stands result [] }
-    ensures costs { ⟦<HashesAndTotals as Tables<Block>>⟧.costs result ≡ [] }
-    ensures ahead { ⟦<HashesAndTotals as Tables<Block>>⟧.ahead_costs result ≡ [] }
-    ensures waits { (o : List BlockValue) → ⟦<HashesAndTotals as Tables<Block>>⟧.waits result o 0 }
+    ensures at { ⟦<HashesAndTotals as Tables<Block>>⟧.at result [] }
+    ensures count { ⟦<HashesAndTotals as Tables<Block>>⟧.count result ≡ 0 }
+    ensures kept { (⟦<HashesAndTotals as Tables<Block>>⟧.others result).kept ≡ [] }
+    ensures ahead { (⟦<HashesAndTotals as Tables<Block>>⟧.others result).ahead ≡ [] }
 {
     Both::new(Leaf::new(alloc), Leaf::new(alloc))
 }
@@ -126,10 +121,10 @@ fn no_tables(alloc: Global) -> HashesAndTotals
 impl Money {
     /// That of the empty chain. It takes no memory.
     pub fn new(alloc: Global) -> Money
-        ensures stands { ⟦<Money as Tables<Block>>⟧.stands result [] }
-        ensures costs { ⟦<Money as Tables<Block>>⟧.costs result ≡ [] }
-        ensures ahead { ⟦<Money as Tables<Block>>⟧.ahead_costs result ≡ [] }
-        ensures waits { (o : List BlockValue) → ⟦<Money as Tables<Block>>⟧.waits result o 0 }
+        ensures at { ⟦<Money as Tables<Block>>⟧.at result [] }
+        ensures count { ⟦<Money as Tables<Block>>⟧.count result ≡ 0 }
+        ensures kept { (⟦<Money as Tables<Block>>⟧.others result).kept ≡ [] }
+        ensures ahead { (⟦<Money as Tables<Block>>⟧.others result).ahead ≡ [] }
     {
         Money {
             tables: Three::new(Sources::new(alloc), no_tables(alloc), Facts::new(alloc)),

@@ -7,14 +7,15 @@ ghost use Rattle.dubp_validity.specs.Records.{input_of};
 ghost use Rattle.dubp_sindex.specs.Accounts.{accounts};
 ghost use Rattle.dubp_sindex.specs.Rows.{Entry, AreRows};
 ghost use Rattle.dubp_money_steps.specs.Left.{HasTexts};
-ghost use Rattle.dubp_money.specs.Index.{HasRows, Keeps, Sets};
+ghost use Rattle.dubp_money.specs.Index.{HasRows};
 ghost use Rattle.dubp_money.specs.Texts.{Grows};
 ghost use Rattle.dubp_money.specs.Making.{dividends_to, CanFollow, with_made};
 
 use crate::making::{NewSource, make_source};
 use dubp_atoms::{Key, NoMemory, Steps};
 use dubp_cond::{All, Cond, Input, Item, SourceId};
-use dubp_sindex::SIndex;
+use dubp_sindex::{SIndex, SourceRows};
+use dubp_undo::Tables;
 use dubp_validity::Record;
 use std::alloc::Global;
 use std::sync::ledger::Ledger as StepBook;
@@ -50,7 +51,7 @@ fn push<T: Drop>(list: &mut Vec<T>, value: T) -> Result<(), NoMemory>
 /// The dividends of the members are unspent sources, from this place on in the order of making. Each of their conditions has a
 /// number. At most five sets a member.
 ///
-/// On `NoMemory` some of them may be made; what is marked stays so.
+/// On `NoMemory` some of them may be made; what is kept stays so.
 pub fn pay_dividends<L: StepBook>(
     index: &mut SIndex,
     alloc: Global,
@@ -63,9 +64,9 @@ pub fn pay_dividends<L: StepBook>(
     ensures at { OnOk result ((rows : List Entry) → AreRows rows → CanFollow rows order (dividends_to payment members.now) → HasRows index.old rows → HasRows index.new (with_made (accounts index.new) rows order (dividends_to payment members.now))) }
     ensures has { OnOk result (HasTexts (accounts index.new) (dividends_to payment members.now)) }
     ensures texts { Grows (accounts index.old) (accounts index.new) }
-    ensures sets { OnOk result (Sets (5 * length members.now) index.old index.new) }
     ensures steps { OnOk result (steps.new ≤ steps.old + 5 * length members.now) }
-    ensures keeps { Keeps index.old index.new }
+    ensures others { ⟦<SIndex as Tables<SourceRows>>⟧.others index.new ≡ ⟦<SIndex as Tables<SourceRows>>⟧.others index.old }
+    ensures count { ⟦<SIndex as Tables<SourceRows>>⟧.count index.new + steps.old ≤ ⟦<SIndex as Tables<SourceRows>>⟧.count index.old + steps.new }
 {
     let mut place = 0;
     for key in members {

@@ -1,10 +1,8 @@
-ghost use Rattle.std.specs.Prelude.{◌≡◌, ℕ, ◌<◌, ◌≤◌, List, []};
-ghost use Rattle.dubp_atoms.specs.Same.{Text};
-ghost use Rattle.dubp_block.specs.declared.block.Block.{Block as BlockValue};
+ghost use Rattle.std.specs.Prelude.{◌≡◌, []};
 ghost use Rattle.dubp_undo.specs.States.{states};
-ghost use Rattle.dubp_sindex.specs.Accounts.{accounts};
 ghost use Rattle.dubp_money_steps.specs.Left.{sources_left};
-ghost use Rattle.dubp_money.specs.Texts.{Grows, Fits};
+ghost use Rattle.dubp_money.specs.Index.{StandsFor};
+ghost use Rattle.dubp_money.specs.Texts.{Fits};
 
 use dubp_atoms::{NoMemory, Steps};
 use dubp_block::Block;
@@ -23,36 +21,26 @@ pub struct Sources {
 }
 
 impl Tables<Block> for Sources {
-    ghost costs = { λ t. ⟦<SIndex as Tables<SourceRows>>⟧.costs t.index };
+    ghost Now = { ⟦<SIndex as Tables<SourceRows>>⟧.Now };
 
-    ghost ahead_costs = { λ t. ⟦<SIndex as Tables<SourceRows>>⟧.ahead_costs t.index };
+    ghost Names = { ⟦<SIndex as Tables<SourceRows>>⟧.Names };
 
-    ghost at = { λ t c. Fits (accounts t.index) c × ⟦<SIndex as Tables<SourceRows>>⟧.at t.index (states (sources_left (accounts t.index)) c) };
+    ghost now = { λ t. ⟦<SIndex as Tables<SourceRows>>⟧.now t.index };
 
-    ghost stands = { λ t c. Fits (accounts t.index) c × ⟦<SIndex as Tables<SourceRows>>⟧.stands t.index (states (sources_left (accounts t.index)) c) };
+    ghost count = { λ t. ⟦<SIndex as Tables<SourceRows>>⟧.count t.index };
 
-    ghost marked = { λ t c. Fits (accounts t.index) c × ⟦<SIndex as Tables<SourceRows>>⟧.marked t.index (states (sources_left (accounts t.index)) c) };
-
-    // where nothing is off, the texts may lack a condition of o
-    ghost waits = { λ t o i. (0 < i → Fits (accounts t.index) o) × ((texts : List Text) → Grows (accounts t.index) texts → ⟦<SIndex as Tables<SourceRows>>⟧.waits t.index (states (sources_left texts) o) i) };
-
-    // where the accounts grow, the tables stay those of the chain
-    ghost same = { λ t u. ⟦<SIndex as Tables<SourceRows>>⟧.same t.index u.index × Grows (accounts t.index) (accounts u.index) };
-
-    ghost marks = { λ t u. ⟦<SIndex as Tables<SourceRows>>⟧.marks t.index u.index × Grows (accounts t.index) (accounts u.index) };
-
-    ghost keeps = { λ t u. ⟦<SIndex as Tables<SourceRows>>⟧.keeps t.index u.index };
+    ghost others = { λ t. ⟦<SIndex as Tables<SourceRows>>⟧.others t.index };
 
     ghost spare = { λ t. ⟦<SIndex as Tables<SourceRows>>⟧.spare t.index };
 
-    ghost room = { λ t. ⟦<SIndex as Tables<SourceRows>>⟧.room t.index };
+    ghost names = { λ t. ⟦<SIndex as Tables<SourceRows>>⟧.names t.index };
+
+    ghost is = { λ m n c. Fits m.1 c × ⟦<SIndex as Tables<SourceRows>>⟧.is m n (states (sources_left m.1) c) };
+
+    ghost at = { λ t c. StandsFor t.index c };
 
     fn depth(&self) -> usize {
         self.index.depth()
-    }
-
-    fn laws(&self) {
-        self.index.laws();
     }
 
     fn mark(&mut self) -> Result<(), NoMemory> {
@@ -88,15 +76,19 @@ impl Tables<Block> for Sources {
     fn drop_ahead(&mut self) {
         self.index.drop_ahead();
     }
+
+    ghost is_at = { λ t c is. is };
+
+    ghost at_is = { λ t c is. is };
 }
 
 impl Sources {
     /// Those of the empty chain. It takes no memory.
     pub fn new(alloc: Global) -> Sources
-        ensures stands { ⟦<Sources as Tables<Block>>⟧.stands result [] }
-        ensures costs { ⟦<Sources as Tables<Block>>⟧.costs result ≡ [] }
-        ensures ahead { ⟦<Sources as Tables<Block>>⟧.ahead_costs result ≡ [] }
-        ensures waits { (o : List BlockValue) → ⟦<Sources as Tables<Block>>⟧.waits result o 0 }
+        ensures at { ⟦<Sources as Tables<Block>>⟧.at result [] }
+        ensures count { ⟦<Sources as Tables<Block>>⟧.count result ≡ 0 }
+        ensures kept { (⟦<Sources as Tables<Block>>⟧.others result).kept ≡ [] }
+        ensures ahead { (⟦<Sources as Tables<Block>>⟧.others result).ahead ≡ [] }
     {
         Sources {
             index: SIndex::new(alloc),

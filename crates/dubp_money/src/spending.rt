@@ -2,12 +2,12 @@ ghost use Rattle.std.specs.Prelude.{◌≡◌, ◌+◌, ◌*◌, ◌≤◌, ◌+
 ghost use Rattle.dubp_sindex.specs.Accounts.{accounts};
 ghost use Rattle.dubp_sindex.specs.Rows.{Entry, AreRows, without};
 ghost use Rattle.dubp_validity.specs.declared.record.Record.TheVariants.{Spend};
-ghost use Rattle.dubp_money.specs.Index.{HasRows, Keeps, Sets};
+ghost use Rattle.dubp_money.specs.Index.{HasRows};
 ghost use Rattle.dubp_money.specs.Writing.{without_inputs};
 
 use dubp_atoms::{NoMemory, Steps};
 use dubp_cond::{Input, SourceId, Tx};
-use dubp_sindex::SIndex;
+use dubp_sindex::{SIndex, SourceRows};
 use dubp_undo::Tables;
 use dubp_validity::Record;
 use std::sync::ledger::Ledger as StepBook;
@@ -19,28 +19,27 @@ pub(crate) fn spend_source<L: StepBook>(
     steps: &mut Steps<L>,
 ) -> Result<(), NoMemory>
     ensures at { OnOk result ((rows : List Entry) → AreRows rows → HasRows index.old rows → HasRows index.new (without id rows)) }
-    ensures sets { OnOk result (Sets 5 index.old index.new) }
     ensures steps { OnOk result (steps.new ≤ steps.old + 5) }
-    ensures keeps { Keeps index.old index.new }
+    ensures others { ⟦<SIndex as Tables<SourceRows>>⟧.others index.new ≡ ⟦<SIndex as Tables<SourceRows>>⟧.others index.old }
+    ensures count { ⟦<SIndex as Tables<SourceRows>>⟧.count index.new + steps.old ≤ ⟦<SIndex as Tables<SourceRows>>⟧.count index.old + steps.new }
     ensures accounts { accounts index.new ≡ accounts index.old }
 {
-    index.laws();
     index.spend(id, steps)?;
     Ok(())
 }
 
 /// The sources that the inputs of the transaction name are no longer unspent. At most five sets an input.
 ///
-/// On `NoMemory` some of them may be spent; what is marked stays so.
+/// On `NoMemory` some of them may be spent; what is kept stays so.
 pub fn spend_inputs<L: StepBook>(
     index: &mut SIndex,
     tx: &Tx,
     steps: &mut Steps<L>,
 ) -> Result<(), NoMemory>
     ensures at { OnOk result ((rows : List Entry) → AreRows rows → HasRows index.old rows → HasRows index.new (without_inputs tx.now.inputs rows)) }
-    ensures sets { OnOk result (Sets (5 * length tx.now.inputs) index.old index.new) }
     ensures steps { OnOk result (steps.new ≤ steps.old + 5 * length tx.now.inputs) }
-    ensures keeps { Keeps index.old index.new }
+    ensures others { ⟦<SIndex as Tables<SourceRows>>⟧.others index.new ≡ ⟦<SIndex as Tables<SourceRows>>⟧.others index.old }
+    ensures count { ⟦<SIndex as Tables<SourceRows>>⟧.count index.new + steps.old ≤ ⟦<SIndex as Tables<SourceRows>>⟧.count index.old + steps.new }
     ensures accounts { accounts index.new ≡ accounts index.old }
 {
     for input in tx.inputs.as_slice() {

@@ -1,4 +1,4 @@
-ghost use Rattle.std.specs.Prelude.{◌≡◌, ℕ, ◌+◌, ◌*◌, ◌^◌, ◌≤◌, ◌++◌, List, map, length, OnOk, IfOk};
+ghost use Rattle.std.specs.Prelude.{◌≡◌, ◌+◌, ◌*◌, ◌^◌, ◌≤◌, ◌++◌, List, map, length, OnOk, IfOk};
 ghost use Rattle.std.specs.List.{flat_map};
 ghost use Rattle.dubp_block.specs.Text.{IsBlock};
 ghost use Rattle.dubp_cond.specs.Transactions.{IsTx};
@@ -7,7 +7,7 @@ ghost use Rattle.dubp_chain.specs.Money.{hashes_in};
 ghost use Rattle.dubp_sindex.specs.Accounts.{accounts};
 ghost use Rattle.dubp_sindex.specs.Rows.{Entry, AreRows};
 ghost use Rattle.dubp_money_steps.specs.Left.{HasTexts};
-ghost use Rattle.dubp_money.specs.Index.{HasRows, Keeps, Sets};
+ghost use Rattle.dubp_money.specs.Index.{HasRows};
 ghost use Rattle.dubp_money.specs.Texts.{Grows};
 ghost use Rattle.dubp_money.specs.Writing.{without_inputs};
 ghost use Rattle.dubp_money.specs.Making.{outputs_at, CanFollow, with_made};
@@ -19,7 +19,8 @@ use dubp_atoms::{Hash, NoMemory, Steps};
 use dubp_block::Block;
 use dubp_cond::Tx;
 use dubp_docs::TxHashes;
-use dubp_sindex::SIndex;
+use dubp_sindex::{SIndex, SourceRows};
+use dubp_undo::Tables;
 use dubp_validity::Record;
 use std::alloc::Global;
 use std::sync::ledger::Ledger as StepBook;
@@ -27,7 +28,7 @@ use std::sync::ledger::Ledger as StepBook;
 /// What a transaction of this hash, at this time in seconds, spends and makes, with its records. Its outputs stand from this
 /// place on in the order of making. At most five sets a record.
 ///
-/// On `NoMemory` some of it may be written; what is marked stays so.
+/// On `NoMemory` some of it may be written; what is kept stays so.
 pub fn write_transaction<L: StepBook>(
     index: &mut SIndex,
     alloc: Global,
@@ -44,9 +45,9 @@ pub fn write_transaction<L: StepBook>(
     ensures has { OnOk result (HasTexts (accounts index.new) (outputs_at time hash.now tx.now)) }
     ensures texts { Grows (accounts index.old) (accounts index.new) }
     ensures records { OnOk result (out.new.items ≡ out.old.items ++ records_at time hash.now tx.now) }
-    ensures sets { OnOk result (Sets (5 * (length tx.now.inputs + length tx.now.outputs)) index.old index.new) }
     ensures steps { OnOk result (steps.new ≤ steps.old + 5 * (length tx.now.inputs + length tx.now.outputs)) }
-    ensures keeps { Keeps index.old index.new }
+    ensures others { ⟦<SIndex as Tables<SourceRows>>⟧.others index.new ≡ ⟦<SIndex as Tables<SourceRows>>⟧.others index.old }
+    ensures count { ⟦<SIndex as Tables<SourceRows>>⟧.count index.new + steps.old ≤ ⟦<SIndex as Tables<SourceRows>>⟧.count index.old + steps.new }
 {
     put_spends(tx, out)?;
     put_makes(alloc, tx, hash, out)?;
@@ -59,7 +60,7 @@ pub fn write_transaction<L: StepBook>(
 /// their records. What they make stands from this place on in the order of making; the answer is the place behind it. At most five
 /// sets a record.
 ///
-/// On `NoMemory` some of it may be written; what is marked stays so.
+/// On `NoMemory` some of it may be written; what is kept stays so.
 pub fn write_transactions<L: StepBook>(
     index: &mut SIndex,
     alloc: Global,
@@ -78,9 +79,9 @@ pub fn write_transactions<L: StepBook>(
     ensures has { OnOk result (HasTexts (accounts index.new) (all_outputs time block.now.currency block.now.transactions)) }
     ensures texts { Grows (accounts index.old) (accounts index.new) }
     ensures records { OnOk result (out.new.items ≡ out.old.items ++ flat_map (records_of time block.now.currency) block.now.transactions) }
-    ensures sets { OnOk result (Sets (5 * length (flat_map (records_of time block.now.currency) block.now.transactions)) index.old index.new) }
     ensures steps { OnOk result (steps.new ≤ steps.old + 5 * length (flat_map (records_of time block.now.currency) block.now.transactions)) }
-    ensures keeps { Keeps index.old index.new }
+    ensures others { ⟦<SIndex as Tables<SourceRows>>⟧.others index.new ≡ ⟦<SIndex as Tables<SourceRows>>⟧.others index.old }
+    ensures count { ⟦<SIndex as Tables<SourceRows>>⟧.count index.new + steps.old ≤ ⟦<SIndex as Tables<SourceRows>>⟧.count index.old + steps.new }
 {
     let txs = block.transactions.as_slice();
     let mut place = order;

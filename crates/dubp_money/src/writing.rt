@@ -1,18 +1,14 @@
-ghost use Rattle.std.specs.Prelude.{◌≡◌, ℕ, ◌+◌, ◌*◌, ◌≤◌, ◌∷◌, ◌++◌, List, Some, map, length, OnOk, IfOk};
+ghost use Rattle.std.specs.Prelude.{◌≡◌, ◌+◌, ◌*◌, ◌≤◌, ◌∷◌, ◌++◌, List, Some, map, length, OnOk, IfOk};
 ghost use Rattle.dubp_atoms.specs.Same.{Text};
-ghost use Rattle.dubp_undo.specs.Numbers.{settled};
-ghost use Rattle.dubp_undo.specs.States.{states, AtMostMore};
 ghost use Rattle.dubp_block.specs.Text.{IsBlock};
-ghost use Rattle.dubp_block.specs.declared.block.Block.{Block as BlockValue};
 ghost use Rattle.dubp_docs.specs.declared.hashing.TxHashes.{TxHashes as TxHashesValue};
 ghost use Rattle.dubp_chain.specs.Chains.{Chain};
 ghost use Rattle.dubp_chain.specs.Money.{hashes_in, made_sources, dividends_at};
 ghost use Rattle.dubp_facts.specs.Facts.{IsNext};
 ghost use Rattle.dubp_sindex.specs.Accounts.{accounts};
 ghost use Rattle.dubp_money_steps.specs.Steps.{cleared_units_by};
-ghost use Rattle.dubp_money_steps.specs.Left.{sources_left};
-ghost use Rattle.dubp_money.specs.Index.{HasRows, Keeps, Sets};
-ghost use Rattle.dubp_money.specs.Texts.{Grows, Fits};
+ghost use Rattle.dubp_money.specs.Index.{StandsFor};
+ghost use Rattle.dubp_money.specs.Texts.{Grows};
 ghost use Rattle.dubp_money.specs.Blocks.{paid};
 ghost use Rattle.dubp_money.specs.Tables.{totals_of};
 ghost use Rattle.dubp_money.specs.Applied.{IsApplied, ArePaid, Follows, money_records};
@@ -74,15 +70,14 @@ fn write_index<L: StepBook>(
 ) -> Result<Written, NoMemory>
     requires block { IsBlock block.now }
     requires hashes { map (λ (h : TxHashesValue). h.whole) hashes.now ≡ hashes_in block.now }
-    ensures at { OnOk result ((c : Chain) → Follows c block.now head.now members.now made → Fits (accounts index.old) c → HasRows index.old (sources_left (accounts index.old) c) → ⟦<SIndex as Tables<SourceRows>>⟧.at index.new (states (sources_left (accounts index.new)) (block.now ∷ c))) }
-    ensures fits { OnOk result ((c : Chain) → Follows c block.now head.now members.now made → Fits (accounts index.old) c → Fits (accounts index.new) (block.now ∷ c)) }
-    ensures records { OnOk result ((c : Chain) → Follows c block.now head.now members.now made → Fits (accounts index.old) c → HasRows index.old (sources_left (accounts index.old) c) → out.new.items ≡ out.old.items ++ money_records c block.now) }
+    ensures at { OnOk result ((c : Chain) → Follows c block.now head.now members.now made → StandsFor index.old c → StandsFor index.new (block.now ∷ c)) }
+    ensures records { OnOk result ((c : Chain) → Follows c block.now head.now members.now made → StandsFor index.old c → out.new.items ≡ out.old.items ++ money_records c block.now) }
     ensures made { IfOk result (λ w. (c : Chain) → Follows c block.now head.now members.now made → w.made ≡ length (made_sources (block.now ∷ c))) }
-    ensures cleared { IfOk result (λ w. (c : Chain) → Follows c block.now head.now members.now made → Fits (accounts index.old) c → HasRows index.old (sources_left (accounts index.old) c) → w.cleared ≡ cleared_units_by c block.now) }
-    ensures sets { OnOk result ((c : Chain) → Follows c block.now head.now members.now made → Fits (accounts index.old) c → HasRows index.old (sources_left (accounts index.old) c) → Sets (5 * length (money_records c block.now)) index.old index.new) }
-    ensures steps { OnOk result ((c : Chain) → Follows c block.now head.now members.now made → Fits (accounts index.old) c → HasRows index.old (sources_left (accounts index.old) c) → steps.new ≤ steps.old + 5 * length (money_records c block.now)) }
+    ensures cleared { IfOk result (λ w. (c : Chain) → Follows c block.now head.now members.now made → StandsFor index.old c → w.cleared ≡ cleared_units_by c block.now) }
+    ensures steps { OnOk result ((c : Chain) → Follows c block.now head.now members.now made → StandsFor index.old c → steps.new ≤ steps.old + 5 * length (money_records c block.now)) }
     ensures texts { Grows (accounts index.old) (accounts index.new) }
-    ensures keeps { Keeps index.old index.new }
+    ensures others { ⟦<SIndex as Tables<SourceRows>>⟧.others index.new ≡ ⟦<SIndex as Tables<SourceRows>>⟧.others index.old }
+    ensures count { ⟦<SIndex as Tables<SourceRows>>⟧.count index.new + steps.old ≤ ⟦<SIndex as Tables<SourceRows>>⟧.count index.old + steps.new }
 {
     let payment = payment_of(block, head);
     let behind = count_made(block, payment, members, made)?;
@@ -107,7 +102,7 @@ fn write_index<L: StepBook>(
     })
 }
 
-/// The same in the tables of the sources. What is marked stays so.
+/// The same in the tables of the sources. What is kept stays so.
 fn write_sources<L: StepBook>(
     sources: &mut Sources,
     alloc: Global,
@@ -125,14 +120,12 @@ fn write_sources<L: StepBook>(
     ensures records { OnOk result ((c : Chain) → Follows c block.now head.now members.now made → ⟦<Sources as Tables<Block>>⟧.at sources.old c → out.new.items ≡ out.old.items ++ money_records c block.now) }
     ensures made { IfOk result (λ w. (c : Chain) → Follows c block.now head.now members.now made → w.made ≡ length (made_sources (block.now ∷ c))) }
     ensures cleared { IfOk result (λ w. (c : Chain) → Follows c block.now head.now members.now made → ⟦<Sources as Tables<Block>>⟧.at sources.old c → w.cleared ≡ cleared_units_by c block.now) }
-    ensures marked { (c : Chain) → ⟦<Sources as Tables<Block>>⟧.marked sources.old c → ⟦<Sources as Tables<Block>>⟧.marked sources.new c }
-    ensures waits { (o : Chain) (i : ℕ) → ⟦<Sources as Tables<Block>>⟧.waits sources.old o i → ⟦<Sources as Tables<Block>>⟧.waits sources.new o i }
-    ensures ahead { ⟦<Sources as Tables<Block>>⟧.ahead_costs sources.new ≡ ⟦<Sources as Tables<Block>>⟧.ahead_costs sources.old }
-    ensures costs_stay { settled (⟦<Sources as Tables<Block>>⟧.costs sources.new) ≡ settled (⟦<Sources as Tables<Block>>⟧.costs sources.old) }
-    ensures costs { OnOk result ((c : Chain) → Follows c block.now head.now members.now made → ⟦<Sources as Tables<Block>>⟧.at sources.old c → AtMostMore (5 * length (money_records c block.now)) (⟦<Sources as Tables<Block>>⟧.costs sources.old) (⟦<Sources as Tables<Block>>⟧.costs sources.new)) }
+    ensures others { ⟦<Sources as Tables<Block>>⟧.others sources.new ≡ ⟦<Sources as Tables<Block>>⟧.others sources.old }
+    ensures count { ⟦<Sources as Tables<Block>>⟧.count sources.new + steps.old ≤ ⟦<Sources as Tables<Block>>⟧.count sources.old + steps.new }
+    ensures stays { (n : ⟦<Sources as Tables<Block>>⟧.Now) (c : Chain) → ⟦<Sources as Tables<Block>>⟧.is (⟦<Sources as Tables<Block>>⟧.names sources.old) n c → ⟦<Sources as Tables<Block>>⟧.is (⟦<Sources as Tables<Block>>⟧.names sources.new) n c }
     ensures steps { OnOk result ((c : Chain) → Follows c block.now head.now members.now made → ⟦<Sources as Tables<Block>>⟧.at sources.old c → steps.new ≤ steps.old + 5 * length (money_records c block.now)) }
 {
-    let written = write_index(
+    write_index(
         &mut sources.index,
         alloc,
         block,
@@ -142,8 +135,7 @@ fn write_sources<L: StepBook>(
         made,
         out,
         steps,
-    )?;
-    Ok(written)
+    )
 }
 
 /// The totals of a chain with a block, whose head this is, from the units that the chain cleared and what the block wrote.
@@ -177,21 +169,17 @@ fn write_facts<L: StepBook>(
     steps: &mut Steps<L>,
 ) -> Result<(), NoMemory>
     ensures at { OnOk result ((c : Chain) → ⟦<Facts as Tables<Block>>⟧.at facts.old c → IsNext c block.now head.now → ⟦<Facts as Tables<Block>>⟧.at facts.new (block.now ∷ c)) }
-    ensures marked { (c : Chain) → ⟦<Facts as Tables<Block>>⟧.marked facts.old c → ⟦<Facts as Tables<Block>>⟧.marked facts.new c }
-    ensures waits { (o : Chain) (i : ℕ) → ⟦<Facts as Tables<Block>>⟧.waits facts.old o i → ⟦<Facts as Tables<Block>>⟧.waits facts.new o i }
-    ensures ahead { ⟦<Facts as Tables<Block>>⟧.ahead_costs facts.new ≡ ⟦<Facts as Tables<Block>>⟧.ahead_costs facts.old }
-    ensures costs_stay { settled (⟦<Facts as Tables<Block>>⟧.costs facts.new) ≡ settled (⟦<Facts as Tables<Block>>⟧.costs facts.old) }
-    ensures costs { OnOk result (AtMostMore 2 (⟦<Facts as Tables<Block>>⟧.costs facts.old) (⟦<Facts as Tables<Block>>⟧.costs facts.new)) }
+    ensures others { ⟦<Facts as Tables<Block>>⟧.others facts.new ≡ ⟦<Facts as Tables<Block>>⟧.others facts.old }
+    ensures count { ⟦<Facts as Tables<Block>>⟧.count facts.new + steps.old ≤ ⟦<Facts as Tables<Block>>⟧.count facts.old + steps.new }
     ensures steps { OnOk result (steps.new ≤ steps.old + 2) }
 {
-    facts.laws();
     facts.write(block, head, steps)?;
     Ok(())
 }
 
 /// Writes the block, whose head this is, into the sources, the tables beside them and the facts, and appends its records of money.
 ///
-/// `before` are the totals of the chain. What is marked stays so.
+/// `before` are the totals of the chain. What is kept stays so.
 pub(crate) fn write_all<L: StepBook>(
     sources: &mut Sources,
     beside: &mut HashesAndTotals,
@@ -207,25 +195,13 @@ pub(crate) fn write_all<L: StepBook>(
 ) -> Result<(), NoMemory>
     requires block { IsBlock block.now }
     requires hashes { map (λ (h : TxHashesValue). h.whole) hashes.now ≡ hashes_in block.now }
-    ensures sources { OnOk result ((c : Chain) → IsApplied c block.now head.now → ArePaid (block.now ∷ c) head.now members.now → before ≡ totals_of c → ⟦<Sources as Tables<Block>>⟧.at sources.old c → ⟦<Sources as Tables<Block>>⟧.at sources.new (block.now ∷ c)) }
-    ensures beside { OnOk result ((c : Chain) → IsApplied c block.now head.now → ArePaid (block.now ∷ c) head.now members.now → before ≡ totals_of c → ⟦<Sources as Tables<Block>>⟧.at sources.old c → ⟦<HashesAndTotals as Tables<Block>>⟧.at beside.old c → ⟦<HashesAndTotals as Tables<Block>>⟧.at beside.new (block.now ∷ c)) }
-    ensures facts { OnOk result ((c : Chain) → IsApplied c block.now head.now → ⟦<Facts as Tables<Block>>⟧.at facts.old c → ⟦<Facts as Tables<Block>>⟧.at facts.new (block.now ∷ c)) }
+    ensures at { OnOk result ((c : Chain) → IsApplied c block.now head.now → ArePaid (block.now ∷ c) head.now members.now → before ≡ totals_of c → ⟦<Sources as Tables<Block>>⟧.at sources.old c → ⟦<HashesAndTotals as Tables<Block>>⟧.at beside.old c → ⟦<Facts as Tables<Block>>⟧.at facts.old c → ⟦<Sources as Tables<Block>>⟧.at sources.new (block.now ∷ c) × ⟦<HashesAndTotals as Tables<Block>>⟧.at beside.new (block.now ∷ c) × ⟦<Facts as Tables<Block>>⟧.at facts.new (block.now ∷ c)) }
     ensures records { OnOk result ((c : Chain) → IsApplied c block.now head.now → ArePaid (block.now ∷ c) head.now members.now → before ≡ totals_of c → ⟦<Sources as Tables<Block>>⟧.at sources.old c → out.new.items ≡ out.old.items ++ money_records c block.now) }
-    ensures sources_marked { (c : Chain) → ⟦<Sources as Tables<Block>>⟧.marked sources.old c → ⟦<Sources as Tables<Block>>⟧.marked sources.new c }
-    ensures sources_waits { (o : Chain) (i : ℕ) → ⟦<Sources as Tables<Block>>⟧.waits sources.old o i → ⟦<Sources as Tables<Block>>⟧.waits sources.new o i }
-    ensures sources_ahead { ⟦<Sources as Tables<Block>>⟧.ahead_costs sources.new ≡ ⟦<Sources as Tables<Block>>⟧.ahead_costs sources.old }
-    ensures sources_costs_stay { settled (⟦<Sources as Tables<Block>>⟧.costs sources.new) ≡ settled (⟦<Sources as Tables<Block>>⟧.costs sources.old) }
-    ensures beside_marked { (c : Chain) → ⟦<HashesAndTotals as Tables<Block>>⟧.marked beside.old c → ⟦<HashesAndTotals as Tables<Block>>⟧.marked beside.new c }
-    ensures beside_waits { (o : Chain) (i : ℕ) → ⟦<HashesAndTotals as Tables<Block>>⟧.waits beside.old o i → ⟦<HashesAndTotals as Tables<Block>>⟧.waits beside.new o i }
-    ensures beside_ahead { ⟦<HashesAndTotals as Tables<Block>>⟧.ahead_costs beside.new ≡ ⟦<HashesAndTotals as Tables<Block>>⟧.ahead_costs beside.old }
-    ensures beside_costs_stay { settled (⟦<HashesAndTotals as Tables<Block>>⟧.costs beside.new) ≡ settled (⟦<HashesAndTotals as Tables<Block>>⟧.costs beside.old) }
-    ensures facts_marked { (c : Chain) → ⟦<Facts as Tables<Block>>⟧.marked facts.old c → ⟦<Facts as Tables<Block>>⟧.marked facts.new c }
-    ensures facts_waits { (o : Chain) (i : ℕ) → ⟦<Facts as Tables<Block>>⟧.waits facts.old o i → ⟦<Facts as Tables<Block>>⟧.waits facts.new o i }
-    ensures facts_ahead { ⟦<Facts as Tables<Block>>⟧.ahead_costs facts.new ≡ ⟦<Facts as Tables<Block>>⟧.ahead_costs facts.old }
-    ensures facts_costs_stay { settled (⟦<Facts as Tables<Block>>⟧.costs facts.new) ≡ settled (⟦<Facts as Tables<Block>>⟧.costs facts.old) }
-    ensures sources_costs { OnOk result ((c : Chain) → IsApplied c block.now head.now → ArePaid (block.now ∷ c) head.now members.now → before ≡ totals_of c → ⟦<Sources as Tables<Block>>⟧.at sources.old c → AtMostMore (5 * length (money_records c block.now)) (⟦<Sources as Tables<Block>>⟧.costs sources.old) (⟦<Sources as Tables<Block>>⟧.costs sources.new)) }
-    ensures beside_costs { OnOk result (AtMostMore (length hashes.now + 1) (⟦<HashesAndTotals as Tables<Block>>⟧.costs beside.old) (⟦<HashesAndTotals as Tables<Block>>⟧.costs beside.new)) }
-    ensures facts_costs { OnOk result (AtMostMore 2 (⟦<Facts as Tables<Block>>⟧.costs facts.old) (⟦<Facts as Tables<Block>>⟧.costs facts.new)) }
+    ensures sources_others { ⟦<Sources as Tables<Block>>⟧.others sources.new ≡ ⟦<Sources as Tables<Block>>⟧.others sources.old }
+    ensures beside_others { ⟦<HashesAndTotals as Tables<Block>>⟧.others beside.new ≡ ⟦<HashesAndTotals as Tables<Block>>⟧.others beside.old }
+    ensures facts_others { ⟦<Facts as Tables<Block>>⟧.others facts.new ≡ ⟦<Facts as Tables<Block>>⟧.others facts.old }
+    ensures count { ⟦<Sources as Tables<Block>>⟧.count sources.new + ⟦<HashesAndTotals as Tables<Block>>⟧.count beside.new + ⟦<Facts as Tables<Block>>⟧.count facts.new + steps.old ≤ ⟦<Sources as Tables<Block>>⟧.count sources.old + ⟦<HashesAndTotals as Tables<Block>>⟧.count beside.old + ⟦<Facts as Tables<Block>>⟧.count facts.old + steps.new }
+    ensures stays { (n : ⟦<Sources as Tables<Block>>⟧.Now) (c : Chain) → ⟦<Sources as Tables<Block>>⟧.is (⟦<Sources as Tables<Block>>⟧.names sources.old) n c → ⟦<Sources as Tables<Block>>⟧.is (⟦<Sources as Tables<Block>>⟧.names sources.new) n c }
     ensures steps { OnOk result ((c : Chain) → IsApplied c block.now head.now → ArePaid (block.now ∷ c) head.now members.now → before ≡ totals_of c → ⟦<Sources as Tables<Block>>⟧.at sources.old c → steps.new ≤ steps.old + (5 * length (money_records c block.now) + (length hashes.now + 3))) }
 {
     let written = write_sources(

@@ -1,3 +1,2 @@
-pub mod Beside
 pub mod Last
 pub mod Rows

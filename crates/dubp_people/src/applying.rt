@@ -1,6 +1,4 @@
 ghost use Rattle.std.specs.Prelude.{◌≡◌, ℕ, ◌+◌, ◌*◌, ◌≤◌, ◌∷◌, ◌++◌, List, length, OnOk, OnErr};
-ghost use Rattle.dubp_undo.specs.Numbers.{settled};
-ghost use Rattle.dubp_undo.specs.States.{AtMostMore};
 ghost use Rattle.dubp_chain.specs.Chains.{Chain};
 ghost use Rattle.dubp_people_apply.specs.OfSteps.{people_records};
 ghost use Rattle.dubp_people.specs.Applied.{IsApplied};
@@ -18,8 +16,8 @@ use std::sync::ledger::Ledger as StepBook;
 
 /// Writes the block, whose head this is, behind the chain, and appends its records of people in the order of the protocol.
 ///
-/// It adds at most eight steps for each of these records, and eight. What is marked stays so. `NoMemory` where there is no room: the
-/// records are as before then, and what was written until then stands in the tables until they go back to what was marked.
+/// It adds at most eight steps for each of these records, and eight. What is kept stays so. `NoMemory` where there is no room: the
+/// records are as before then, and what was written until then stands in the tables until they go back to what is kept.
 pub fn apply<L: StepBook>(
     alloc: Global,
     people: &mut Registry,
@@ -30,11 +28,8 @@ pub fn apply<L: StepBook>(
 ) -> Result<(), NoMemory>
     ensures at { OnOk result ((c : Chain) → IsApplied c block.now head.now → ⟦<Registry as Tables<Block>>⟧.at people.old c → ⟦<Registry as Tables<Block>>⟧.at people.new (block.now ∷ c)) }
     ensures records { OnOk result ((c : Chain) → IsApplied c block.now head.now → ⟦<Registry as Tables<Block>>⟧.at people.old c → out.new.items ≡ out.old.items ++ people_records c block.now) }
-    ensures marked { (c : Chain) → ⟦<Registry as Tables<Block>>⟧.marked people.old c → ⟦<Registry as Tables<Block>>⟧.marked people.new c }
-    ensures waits { (o : Chain) (i : ℕ) → ⟦<Registry as Tables<Block>>⟧.waits people.old o i → ⟦<Registry as Tables<Block>>⟧.waits people.new o i }
-    ensures ahead { ⟦<Registry as Tables<Block>>⟧.ahead_costs people.new ≡ ⟦<Registry as Tables<Block>>⟧.ahead_costs people.old }
-    ensures costs_stay { settled (⟦<Registry as Tables<Block>>⟧.costs people.new) ≡ settled (⟦<Registry as Tables<Block>>⟧.costs people.old) }
-    ensures costs { OnOk result ((c : Chain) → IsApplied c block.now head.now → ⟦<Registry as Tables<Block>>⟧.at people.old c → AtMostMore (8 * length (people_records c block.now) + 8) (⟦<Registry as Tables<Block>>⟧.costs people.old) (⟦<Registry as Tables<Block>>⟧.costs people.new)) }
+    ensures others { ⟦<Registry as Tables<Block>>⟧.others people.new ≡ ⟦<Registry as Tables<Block>>⟧.others people.old }
+    ensures count { ⟦<Registry as Tables<Block>>⟧.count people.new + steps.old ≤ ⟦<Registry as Tables<Block>>⟧.count people.old + steps.new }
     ensures steps { OnOk result ((c : Chain) → IsApplied c block.now head.now → ⟦<Registry as Tables<Block>>⟧.at people.old c → steps.new ≤ steps.old + (8 * length (people_records c block.now) + 8)) }
     ensures refused { OnErr result (out.new.items ≡ out.old.items) }
 {

@@ -3,10 +3,9 @@ ghost use Rattle.std.specs.Option.{option_map_or};
 ghost use Rattle.std.specs.Cmp.Lexicographic.{slice_cmp};
 ghost use Rattle.std.specs.Ordering.{nat_cmp};
 ghost use Rattle.dubp_atoms.specs.Same.{Text, same_text};
-ghost use Rattle.dubp_undo.specs.Definition.{IsMarked, IsAt};
+ghost use Rattle.dubp_undo.specs.Definition.{IsAt};
 ghost use Rattle.dubp_undo.specs.MovingTable.{get};
-ghost use Rattle.dubp_undo.specs.Numbers.{counts, settled};
-ghost use Rattle.dubp_undo.specs.States.{states, AtMostMore};
+ghost use Rattle.dubp_undo.specs.States.{states};
 ghost use Rattle.dubp_chain.specs.Chains.{Chain, params};
 ghost use Rattle.dubp_chain.specs.Heads.{time_of};
 ghost use Rattle.dubp_chain.specs.Live.{received};
@@ -111,12 +110,9 @@ fn note<L: StepBook>(
     is: bool,
     steps: &mut Steps<L>,
 ) -> Result<(), NoMemory>
-    ensures now { OnOk result ((k : Text) → is_some (get (slice_cmp nat_cmp) kicked.new.now k) ≡ (if same_text k key then is else is_some (get (slice_cmp nat_cmp) kicked.old.now k))) }
-    ensures marked { (c : Chain) → IsMarked (slice_cmp nat_cmp) kicked_at kicked.old.past c → IsMarked (slice_cmp nat_cmp) kicked_at kicked.new.past c }
-    ensures ahead { kicked.new.ahead ≡ kicked.old.ahead }
-    ensures root { kicked.new.root ≡ kicked.old.root }
-    ensures costs_stay { settled (counts kicked.new.past) ≡ settled (counts kicked.old.past) }
-    ensures costs { OnOk result (AtMostMore 1 (counts kicked.old.past) (counts kicked.new.past)) }
+    ensures now { OnOk result ((k : Text) → is_some (get (slice_cmp nat_cmp) kicked.new.table.now k) ≡ (if same_text k key then is else is_some (get (slice_cmp nat_cmp) kicked.old.table.now k))) }
+    ensures others { ⟦<KickedTable as Tables<Block>>⟧.others kicked.new ≡ ⟦<KickedTable as Tables<Block>>⟧.others kicked.old }
+    ensures count { ⟦<KickedTable as Tables<Block>>⟧.count kicked.new + steps.old ≤ ⟦<KickedTable as Tables<Block>>⟧.count kicked.old + steps.new }
     ensures steps { OnOk result (steps.new ≤ steps.old + 1) }
 {
     if kicked.get(key).is_some() == is {
@@ -143,12 +139,9 @@ fn renew<L: StepBook>(
     entry: &Record,
     steps: &mut Steps<L>,
 ) -> Result<(), NoMemory>
-    ensures now { OnOk result ((c : Chain) → ⟦<IIndex as Tables<IdentityRows>>⟧.at identities.now (states identities_left c) → ⟦<MIndex as Tables<MemberRows>>⟧.at memberships.now (states memberships_left c) → ⟦<CIndex as Tables<CertRows>>⟧.at certifications.now (states certifications_left c) → (k : Text) → is_some (get (slice_cmp nat_cmp) kicked.new.now k) ≡ (if touches k entry.now then kicked_by next.now.params next.now.time (received c k) (identity_row c k) (membership_row c k) else is_some (get (slice_cmp nat_cmp) kicked.old.now k))) }
-    ensures marked { (c : Chain) → IsMarked (slice_cmp nat_cmp) kicked_at kicked.old.past c → IsMarked (slice_cmp nat_cmp) kicked_at kicked.new.past c }
-    ensures ahead { kicked.new.ahead ≡ kicked.old.ahead }
-    ensures root { kicked.new.root ≡ kicked.old.root }
-    ensures costs_stay { settled (counts kicked.new.past) ≡ settled (counts kicked.old.past) }
-    ensures costs { OnOk result (AtMostMore 1 (counts kicked.old.past) (counts kicked.new.past)) }
+    ensures now { OnOk result ((c : Chain) → ⟦<IIndex as Tables<IdentityRows>>⟧.at identities.now (states identities_left c) → ⟦<MIndex as Tables<MemberRows>>⟧.at memberships.now (states memberships_left c) → ⟦<CIndex as Tables<CertRows>>⟧.at certifications.now (states certifications_left c) → (k : Text) → is_some (get (slice_cmp nat_cmp) kicked.new.table.now k) ≡ (if touches k entry.now then kicked_by next.now.params next.now.time (received c k) (identity_row c k) (membership_row c k) else is_some (get (slice_cmp nat_cmp) kicked.old.table.now k))) }
+    ensures others { ⟦<KickedTable as Tables<Block>>⟧.others kicked.new ≡ ⟦<KickedTable as Tables<Block>>⟧.others kicked.old }
+    ensures count { ⟦<KickedTable as Tables<Block>>⟧.count kicked.new + steps.old ≤ ⟦<KickedTable as Tables<Block>>⟧.count kicked.old + steps.new }
     ensures steps { OnOk result (steps.new ≤ steps.old + 1) }
 {
     match touched(entry) {
@@ -173,12 +166,9 @@ pub(crate) fn write_kicked<L: StepBook>(
     records: &[Record],
     steps: &mut Steps<L>,
 ) -> Result<(), NoMemory>
-    ensures at { OnOk result ((c : Chain) (b : BlockValue) → IsWritten c b next.now → records.now ≡ people_records c b → ⟦<IIndex as Tables<IdentityRows>>⟧.at identities.now (states identities_left (b ∷ c)) → ⟦<MIndex as Tables<MemberRows>>⟧.at memberships.now (states memberships_left (b ∷ c)) → ⟦<CIndex as Tables<CertRows>>⟧.at certifications.now (states certifications_left (b ∷ c)) → IsAt (slice_cmp nat_cmp) kicked_at kicked.old.now c → IsAt (slice_cmp nat_cmp) kicked_at kicked.new.now (b ∷ c)) }
-    ensures marked { (c : Chain) → IsMarked (slice_cmp nat_cmp) kicked_at kicked.old.past c → IsMarked (slice_cmp nat_cmp) kicked_at kicked.new.past c }
-    ensures ahead { kicked.new.ahead ≡ kicked.old.ahead }
-    ensures root { kicked.new.root ≡ kicked.old.root }
-    ensures costs_stay { settled (counts kicked.new.past) ≡ settled (counts kicked.old.past) }
-    ensures costs { OnOk result (AtMostMore (length records.now) (counts kicked.old.past) (counts kicked.new.past)) }
+    ensures at { OnOk result ((c : Chain) (b : BlockValue) → IsWritten c b next.now → records.now ≡ people_records c b → ⟦<IIndex as Tables<IdentityRows>>⟧.at identities.now (states identities_left (b ∷ c)) → ⟦<MIndex as Tables<MemberRows>>⟧.at memberships.now (states memberships_left (b ∷ c)) → ⟦<CIndex as Tables<CertRows>>⟧.at certifications.now (states certifications_left (b ∷ c)) → IsAt (slice_cmp nat_cmp) kicked_at kicked.old.table.now c → IsAt (slice_cmp nat_cmp) kicked_at kicked.new.table.now (b ∷ c)) }
+    ensures others { ⟦<KickedTable as Tables<Block>>⟧.others kicked.new ≡ ⟦<KickedTable as Tables<Block>>⟧.others kicked.old }
+    ensures count { ⟦<KickedTable as Tables<Block>>⟧.count kicked.new + steps.old ≤ ⟦<KickedTable as Tables<Block>>⟧.count kicked.old + steps.new }
     ensures steps { OnOk result (steps.new ≤ steps.old + length records.now) }
 {
     for record in records {

@@ -1,8 +1,7 @@
 ghost use Rattle.std.specs.Prelude.{◌≡◌, ℕ, ◌+◌, ◌≤◌, ◌∷◌, ◌++◌, List, length, OnOk};
 ghost use Rattle.std.specs.Cmp.Lexicographic.{slice_cmp};
 ghost use Rattle.std.specs.Ordering.{nat_cmp};
-ghost use Rattle.dubp_undo.specs.Numbers.{settled};
-ghost use Rattle.dubp_undo.specs.States.{states, AtMostMore};
+ghost use Rattle.dubp_undo.specs.States.{states};
 ghost use Rattle.dubp_chain.specs.Chains.{Chain};
 ghost use Rattle.dubp_people_apply.specs.OfSteps.{people_records};
 ghost use Rattle.dubp_registry.specs.OfLeft.{queue_left};
@@ -27,7 +26,7 @@ use std::sync::ledger::Ledger as StepBook;
 
 /// Writes the block into the three indexes and the queue, and appends its records of people.
 ///
-/// `facts` are those of the chain below the block, and `since` is its time in seconds, where it has a block. What is marked stays so.
+/// `facts` are those of the chain below the block, and `since` is its time in seconds, where it has a block. What is kept stays so.
 fn write_indexes<L: StepBook>(
     alloc: Global,
     indexes: &mut Indexes,
@@ -42,16 +41,9 @@ fn write_indexes<L: StepBook>(
     ensures indexes { OnOk result ((c : Chain) → ⟦<Facts as Tables<Block>>⟧.at facts.now c → IsWritten c block.now next.now → IsSince c since → ⟦<Indexes as Tables<Block>>⟧.at indexes.old c → ⟦<Queue as Tables<Entries>>⟧.at queue.old (states queue_left c) → ⟦<Indexes as Tables<Block>>⟧.at indexes.new (block.now ∷ c)) }
     ensures queue { OnOk result ((c : Chain) → ⟦<Facts as Tables<Block>>⟧.at facts.now c → IsWritten c block.now next.now → IsSince c since → ⟦<Indexes as Tables<Block>>⟧.at indexes.old c → ⟦<Queue as Tables<Entries>>⟧.at queue.old (states queue_left c) → ⟦<Queue as Tables<Entries>>⟧.at queue.new (states queue_left (block.now ∷ c))) }
     ensures records { OnOk result ((c : Chain) → ⟦<Facts as Tables<Block>>⟧.at facts.now c → IsWritten c block.now next.now → IsSince c since → ⟦<Indexes as Tables<Block>>⟧.at indexes.old c → ⟦<Queue as Tables<Entries>>⟧.at queue.old (states queue_left c) → out.new.items ≡ out.old.items ++ people_records c block.now) }
-    ensures marked { (c : Chain) → ⟦<Indexes as Tables<Block>>⟧.marked indexes.old c → ⟦<Indexes as Tables<Block>>⟧.marked indexes.new c }
-    ensures waits { (o : Chain) (i : ℕ) → ⟦<Indexes as Tables<Block>>⟧.waits indexes.old o i → ⟦<Indexes as Tables<Block>>⟧.waits indexes.new o i }
-    ensures ahead { ⟦<Indexes as Tables<Block>>⟧.ahead_costs indexes.new ≡ ⟦<Indexes as Tables<Block>>⟧.ahead_costs indexes.old }
-    ensures costs_stay { settled (⟦<Indexes as Tables<Block>>⟧.costs indexes.new) ≡ settled (⟦<Indexes as Tables<Block>>⟧.costs indexes.old) }
-    ensures queue_marked { (c : Chain) → ⟦<Queue as Tables<Entries>>⟧.marked queue.old (states queue_left c) → ⟦<Queue as Tables<Entries>>⟧.marked queue.new (states queue_left c) }
-    ensures queue_waits { (o : Chain) (i : ℕ) → ⟦<Queue as Tables<Entries>>⟧.waits queue.old (states queue_left o) i → ⟦<Queue as Tables<Entries>>⟧.waits queue.new (states queue_left o) i }
-    ensures queue_ahead { ⟦<Queue as Tables<Entries>>⟧.ahead_costs queue.new ≡ ⟦<Queue as Tables<Entries>>⟧.ahead_costs queue.old }
-    ensures queue_costs_stay { settled (⟦<Queue as Tables<Entries>>⟧.costs queue.new) ≡ settled (⟦<Queue as Tables<Entries>>⟧.costs queue.old) }
-    ensures costs { OnOk result ((c : Chain) → ⟦<Facts as Tables<Block>>⟧.at facts.now c → IsWritten c block.now next.now → IsSince c since → ⟦<Indexes as Tables<Block>>⟧.at indexes.old c → ⟦<Queue as Tables<Entries>>⟧.at queue.old (states queue_left c) → AtMostMore (most_sets block.now + (membership_sets c block.now + certification_sets c block.now)) (⟦<Indexes as Tables<Block>>⟧.costs indexes.old) (⟦<Indexes as Tables<Block>>⟧.costs indexes.new)) }
-    ensures queue_costs { OnOk result ((c : Chain) → ⟦<Facts as Tables<Block>>⟧.at facts.now c → IsWritten c block.now next.now → IsSince c since → ⟦<Indexes as Tables<Block>>⟧.at indexes.old c → ⟦<Queue as Tables<Entries>>⟧.at queue.old (states queue_left c) → AtMostMore (queue_sets c block.now) (⟦<Queue as Tables<Entries>>⟧.costs queue.old) (⟦<Queue as Tables<Entries>>⟧.costs queue.new)) }
+    ensures indexes_others { ⟦<Indexes as Tables<Block>>⟧.others indexes.new ≡ ⟦<Indexes as Tables<Block>>⟧.others indexes.old }
+    ensures queue_others { ⟦<Queue as Tables<Entries>>⟧.others queue.new ≡ ⟦<Queue as Tables<Entries>>⟧.others queue.old }
+    ensures count { ⟦<Indexes as Tables<Block>>⟧.count indexes.new + ⟦<Queue as Tables<Entries>>⟧.count queue.new + steps.old ≤ ⟦<Indexes as Tables<Block>>⟧.count indexes.old + ⟦<Queue as Tables<Entries>>⟧.count queue.old + steps.new }
     ensures steps { OnOk result ((c : Chain) → ⟦<Facts as Tables<Block>>⟧.at facts.now c → IsWritten c block.now next.now → IsSince c since → ⟦<Indexes as Tables<Block>>⟧.at indexes.old c → ⟦<Queue as Tables<Entries>>⟧.at queue.old (states queue_left c) → steps.new ≤ steps.old + (most_sets block.now + (membership_sets c block.now + certification_sets c block.now + queue_sets c block.now))) }
 {
     write_identities(&mut indexes.tables.first.tables, block, steps)?;
@@ -83,11 +75,8 @@ pub(crate) fn write_others<L: StepBook>(
     steps: &mut Steps<L>,
 ) -> Result<(), NoMemory>
     ensures at { OnOk result ((c : Chain) → IsWritten c block.now next.now → IsNext c block.now head.now → records.now ≡ people_records c block.now → ⟦<Indexes as Tables<Block>>⟧.at indexes.now (block.now ∷ c) → ⟦<Queue as Tables<Entries>>⟧.at others.old.tables.first.tables (states queue_left (block.now ∷ c)) → ⟦<KickedTable as Tables<Block>>⟧.at others.old.tables.second c → ⟦<Facts as Tables<Block>>⟧.at others.old.tables.third c → ⟦<Others as Tables<Block>>⟧.at others.new (block.now ∷ c)) }
-    ensures marked { (c : Chain) → ⟦<Others as Tables<Block>>⟧.marked others.old c → ⟦<Others as Tables<Block>>⟧.marked others.new c }
-    ensures waits { (o : Chain) (i : ℕ) → ⟦<Others as Tables<Block>>⟧.waits others.old o i → ⟦<Others as Tables<Block>>⟧.waits others.new o i }
-    ensures ahead { ⟦<Others as Tables<Block>>⟧.ahead_costs others.new ≡ ⟦<Others as Tables<Block>>⟧.ahead_costs others.old }
-    ensures costs_stay { settled (⟦<Others as Tables<Block>>⟧.costs others.new) ≡ settled (⟦<Others as Tables<Block>>⟧.costs others.old) }
-    ensures costs { OnOk result (AtMostMore (length records.now + 2) (⟦<Others as Tables<Block>>⟧.costs others.old) (⟦<Others as Tables<Block>>⟧.costs others.new)) }
+    ensures others { ⟦<Others as Tables<Block>>⟧.others others.new ≡ ⟦<Others as Tables<Block>>⟧.others others.old }
+    ensures count { ⟦<Others as Tables<Block>>⟧.count others.new + steps.old ≤ ⟦<Others as Tables<Block>>⟧.count others.old + steps.new }
     ensures steps { OnOk result (steps.new ≤ steps.old + (length records.now + 2)) }
 {
     write_kicked(
@@ -111,14 +100,10 @@ fn write_facts<L: StepBook>(
     steps: &mut Steps<L>,
 ) -> Result<(), NoMemory>
     ensures at { OnOk result ((c : Chain) → ⟦<Facts as Tables<Block>>⟧.at facts.old c → IsNext c block.now head.now → ⟦<Facts as Tables<Block>>⟧.at facts.new (block.now ∷ c)) }
-    ensures marked { (c : Chain) → ⟦<Facts as Tables<Block>>⟧.marked facts.old c → ⟦<Facts as Tables<Block>>⟧.marked facts.new c }
-    ensures waits { (o : Chain) (i : ℕ) → ⟦<Facts as Tables<Block>>⟧.waits facts.old o i → ⟦<Facts as Tables<Block>>⟧.waits facts.new o i }
-    ensures ahead { ⟦<Facts as Tables<Block>>⟧.ahead_costs facts.new ≡ ⟦<Facts as Tables<Block>>⟧.ahead_costs facts.old }
-    ensures costs_stay { settled (⟦<Facts as Tables<Block>>⟧.costs facts.new) ≡ settled (⟦<Facts as Tables<Block>>⟧.costs facts.old) }
-    ensures costs { OnOk result (AtMostMore 2 (⟦<Facts as Tables<Block>>⟧.costs facts.old) (⟦<Facts as Tables<Block>>⟧.costs facts.new)) }
+    ensures others { ⟦<Facts as Tables<Block>>⟧.others facts.new ≡ ⟦<Facts as Tables<Block>>⟧.others facts.old }
+    ensures count { ⟦<Facts as Tables<Block>>⟧.count facts.new + steps.old ≤ ⟦<Facts as Tables<Block>>⟧.count facts.old + steps.new }
     ensures steps { OnOk result (steps.new ≤ steps.old + 2) }
 {
-    facts.laws();
     facts.write(block, head, steps)?;
     Ok(())
 }
@@ -136,19 +121,11 @@ pub(crate) fn write_lines<L: StepBook>(
 ) -> Result<(), NoMemory>
     ensures indexes { OnOk result ((c : Chain) → IsWritten c block.now next.now → IsSince c since → ⟦<Indexes as Tables<Block>>⟧.at indexes.old c → ⟦<Others as Tables<Block>>⟧.at others.old c → ⟦<Indexes as Tables<Block>>⟧.at indexes.new (block.now ∷ c)) }
     ensures queue { OnOk result ((c : Chain) → IsWritten c block.now next.now → IsSince c since → ⟦<Indexes as Tables<Block>>⟧.at indexes.old c → ⟦<Others as Tables<Block>>⟧.at others.old c → ⟦<Queue as Tables<Entries>>⟧.at others.new.tables.first.tables (states queue_left (block.now ∷ c))) }
-    ensures kicked { others.new.tables.second ≡ others.old.tables.second }
-    ensures facts { others.new.tables.third ≡ others.old.tables.third }
+    ensures beside { (others.new.tables.second ≡ others.old.tables.second) × (others.new.tables.third ≡ others.old.tables.third) }
     ensures records { OnOk result ((c : Chain) → IsWritten c block.now next.now → IsSince c since → ⟦<Indexes as Tables<Block>>⟧.at indexes.old c → ⟦<Others as Tables<Block>>⟧.at others.old c → out.new.items ≡ out.old.items ++ people_records c block.now) }
-    ensures marked { (c : Chain) → ⟦<Indexes as Tables<Block>>⟧.marked indexes.old c → ⟦<Indexes as Tables<Block>>⟧.marked indexes.new c }
-    ensures waits { (o : Chain) (i : ℕ) → ⟦<Indexes as Tables<Block>>⟧.waits indexes.old o i → ⟦<Indexes as Tables<Block>>⟧.waits indexes.new o i }
-    ensures ahead { ⟦<Indexes as Tables<Block>>⟧.ahead_costs indexes.new ≡ ⟦<Indexes as Tables<Block>>⟧.ahead_costs indexes.old }
-    ensures costs_stay { settled (⟦<Indexes as Tables<Block>>⟧.costs indexes.new) ≡ settled (⟦<Indexes as Tables<Block>>⟧.costs indexes.old) }
-    ensures others_marked { (c : Chain) → ⟦<Others as Tables<Block>>⟧.marked others.old c → ⟦<Others as Tables<Block>>⟧.marked others.new c }
-    ensures others_waits { (o : Chain) (i : ℕ) → ⟦<Others as Tables<Block>>⟧.waits others.old o i → ⟦<Others as Tables<Block>>⟧.waits others.new o i }
-    ensures others_ahead { ⟦<Others as Tables<Block>>⟧.ahead_costs others.new ≡ ⟦<Others as Tables<Block>>⟧.ahead_costs others.old }
-    ensures others_costs_stay { settled (⟦<Others as Tables<Block>>⟧.costs others.new) ≡ settled (⟦<Others as Tables<Block>>⟧.costs others.old) }
-    ensures costs { OnOk result ((c : Chain) → IsWritten c block.now next.now → IsSince c since → ⟦<Indexes as Tables<Block>>⟧.at indexes.old c → ⟦<Others as Tables<Block>>⟧.at others.old c → AtMostMore (most_sets block.now + (membership_sets c block.now + certification_sets c block.now)) (⟦<Indexes as Tables<Block>>⟧.costs indexes.old) (⟦<Indexes as Tables<Block>>⟧.costs indexes.new)) }
-    ensures others_costs { OnOk result ((c : Chain) → IsWritten c block.now next.now → IsSince c since → ⟦<Indexes as Tables<Block>>⟧.at indexes.old c → ⟦<Others as Tables<Block>>⟧.at others.old c → AtMostMore (queue_sets c block.now) (⟦<Others as Tables<Block>>⟧.costs others.old) (⟦<Others as Tables<Block>>⟧.costs others.new)) }
+    ensures others { ⟦<Indexes as Tables<Block>>⟧.others indexes.new ≡ ⟦<Indexes as Tables<Block>>⟧.others indexes.old }
+    ensures others_others { ⟦<Others as Tables<Block>>⟧.others others.new ≡ ⟦<Others as Tables<Block>>⟧.others others.old }
+    ensures count { ⟦<Indexes as Tables<Block>>⟧.count indexes.new + ⟦<Others as Tables<Block>>⟧.count others.new + steps.old ≤ ⟦<Indexes as Tables<Block>>⟧.count indexes.old + ⟦<Others as Tables<Block>>⟧.count others.old + steps.new }
     ensures steps { OnOk result ((c : Chain) → IsWritten c block.now next.now → IsSince c since → ⟦<Indexes as Tables<Block>>⟧.at indexes.old c → ⟦<Others as Tables<Block>>⟧.at others.old c → steps.new ≤ steps.old + (most_sets block.now + (membership_sets c block.now + certification_sets c block.now + queue_sets c block.now))) }
 {
     write_indexes(

@@ -1,8 +1,7 @@
--- How many keys were set while what is due was taken, and by all of the block.
-use Rattle.std.proofs.Common.{◌≡◌, ℕ, ◌+◌, ◌*◌, ◌≤◌, false, List, length, refl, ap, ◌∙◌, subst, arith}
+-- How many steps were taken while what is due was taken, and by all of the block.
+use Rattle.std.proofs.Common.{◌≡◌, ℕ, ◌+◌, ◌*◌, ◌≤◌, false, length, refl, ap, ◌∙◌, arith}
 use Rattle.std.specs.BTreeSet.{contains, btree_set_len}
 use Rattle.dubp_atoms.specs.Same.{Text}
-use Rattle.dubp_undo.specs.States.{AtMostMore}
 use Rattle.dubp_block.specs.declared.block.Block.{Block}
 use Rattle.dubp_chain.specs.Chains.{Chain}
 use Rattle.dubp_chain.specs.Tables as chain
@@ -11,7 +10,6 @@ use Rattle.dubp_steps.specs.Loops.{Standing, is_noted}
 use Rattle.dubp_people_apply.specs.declared.ended.Ended.{Ended}
 use Rattle.dubp_people_apply.specs.Taking.{AreNoted}
 use Rattle.dubp_people_apply.specs.Counting.{expired_by, revoked_by, ended_by, IsOneMore, IsCounted, IsWithin, HasLengths, membership_sets, certification_sets, queue_sets}
-use Rattle.dubp_people_apply.proofs.Numbers.{none_more, more_within}
 
 -- ---- one entry
 
@@ -48,84 +46,31 @@ one_of (chain.Due.Certification x y) = refl
 
 -- ---- none yet, and one more
 
-pub none_counted : (sets : Ended) (m c q : List ℕ) (steps : ℕ) → IsCounted sets sets m m c c q q steps steps
-none_counted sets m c q steps = record {
-  expired = 0;
-  revoked = 0;
-  ended = 0;
-  are_expired = omega arith;
-  are_revoked = omega arith;
-  are_ended = omega arith;
-  memberships = none_more 0 m;
-  certifications = none_more 0 c;
-  queue = none_more 0 q;
-  most = omega arith;
-}
+pub none_counted : (sets : Ended) (steps : ℕ) → IsCounted sets sets steps steps
+none_counted sets steps = record { expired = 0; revoked = 0; ended = 0; are_expired = omega arith; are_revoked = omega arith; are_ended = omega arith; most = omega arith }
 
-pub one_counted : (old mid new : Ended) (due : chain.Due) (m m' m'' c c' c'' q q' q'' : List ℕ) (steps steps' steps'' : ℕ) → IsCounted old mid m m' c c' q q' steps steps' → IsOneMore due mid new
-    → AtMostMore (revoked_by due) m' m'' → AtMostMore (5 * ended_by due) c' c'' → AtMostMore 1 q' q'' → steps'' ≤ steps' + (1 + (revoked_by due + 5 * ended_by due))
-    → IsCounted old new m m'' c c'' q q'' steps steps''
-one_counted old mid new due m m' m'' c c' c'' q q' q'' steps steps' steps'' counted more first second third most =
-    let one = one_of due in
-    let x = counted.are_expired in
-    let r = counted.are_revoked in
-    let e = counted.are_ended in
-    let mx = more.expired in
-    let mr = more.revoked in
-    let me = more.ended in
-    let before = counted.most in
+pub one_counted : (old mid new : Ended) (due : chain.Due) (steps steps' steps'' : ℕ) → IsCounted old mid steps steps' → IsOneMore due mid new → steps'' ≤ steps' + (1 + (revoked_by due + 5 * ended_by due))
+    → IsCounted old new steps steps''
+one_counted old mid new due steps steps' steps'' counted more most =
     record {
       expired = counted.expired + expired_by due;
       revoked = counted.revoked + revoked_by due;
       ended = counted.ended + ended_by due;
-      are_expired = omega (arith, x, mx);
-      are_revoked = omega (arith, r, mr);
-      are_ended = omega (arith, e, me);
-      memberships = more_within counted.revoked (revoked_by due) (counted.revoked + revoked_by due) (omega arith) counted.memberships first;
-      certifications = more_within (5 * counted.ended) (5 * ended_by due) (5 * (counted.ended + ended_by due)) (omega arith) counted.certifications second;
-      queue = more_within (counted.expired + (counted.revoked + counted.ended)) 1 ((counted.expired + expired_by due) + ((counted.revoked + revoked_by due) + (counted.ended + ended_by due))) (omega (arith, one)) counted.queue third;
-      most = omega (arith, one, before, most);
+      are_expired = omega (arith, counted.are_expired, more.expired);
+      are_revoked = omega (arith, counted.are_revoked, more.revoked);
+      are_ended = omega (arith, counted.are_ended, more.ended);
+      most = omega (arith, one_of due, counted.most, most);
     }
 
 -- ---- the lines before it
 
-pub all_within : (b : Block) (old new : Ended) (m m' m'' c c' c'' q q' q'' q''' : List ℕ) (s s' s'' s''' : ℕ)
-    → AtMostMore (length b.joiners + length b.actives + length b.leavers + length b.revoked) m m' → AtMostMore (4 * (length b.joiners + length b.actives) + length b.revoked) q q'
-    → s' ≤ s + (5 * (length b.joiners + length b.actives) + length b.leavers + 2 * length b.revoked)
-    → AtMostMore (5 * length b.certifications) c c' → AtMostMore (2 * length b.certifications) q' q'' → s'' ≤ s' + 7 * length b.certifications
-    → IsCounted old new m' m'' c' c'' q'' q''' s'' s''' → IsWithin b new m m'' c c'' q q''' s s'''
-all_within b old new m m' m'' c c' c'' q q' q'' q''' s s' s'' s''' m1 q1 s1 c2 q2 s2 counted =
-    let x = counted.are_expired in
-    let r = counted.are_revoked in
-    let e = counted.are_ended in
-    let last = counted.most in
-    record {
-      memberships = more_within (length b.joiners + length b.actives + length b.leavers + length b.revoked) counted.revoked (length b.joiners + length b.actives + length b.leavers + length b.revoked + btree_set_len new.revoked) (omega (arith, r)) m1 counted.memberships;
-      certifications = more_within (5 * length b.certifications) (5 * counted.ended) (5 * length b.certifications + 5 * btree_set_len new.ended) (omega (arith, e)) c2 counted.certifications;
-      queue = more_within (4 * (length b.joiners + length b.actives) + length b.revoked + 2 * length b.certifications) (counted.expired + (counted.revoked + counted.ended))
-          (4 * (length b.joiners + length b.actives) + length b.revoked + 2 * length b.certifications + (btree_set_len new.expired + (btree_set_len new.revoked + btree_set_len new.ended))) (omega (arith, x, r, e))
-          (more_within (4 * (length b.joiners + length b.actives) + length b.revoked) (2 * length b.certifications) (4 * (length b.joiners + length b.actives) + length b.revoked + 2 * length b.certifications) (omega arith) q1 q2) counted.queue;
-      most = omega (arith, x, r, e, s1, s2, last);
-    }
+pub all_within : (b : Block) (old new : Ended) (s s' s'' s''' : ℕ)
+    → s' ≤ s + (5 * (length b.joiners + length b.actives) + length b.leavers + 2 * length b.revoked) → s'' ≤ s' + 7 * length b.certifications
+    → IsCounted old new s'' s''' → IsWithin b new s s'''
+all_within b old new s s' s'' s''' s1 s2 counted =
+    omega (arith, counted.are_expired, counted.are_revoked, counted.are_ended, s1, s2, counted.most)
 
 -- ---- as long as the records
 
-module _ (c : Chain) (b : Block) (sets : Ended) (has : HasLengths c b sets) where
-  pub memberships_within : {m m' : List ℕ} → AtMostMore (length b.joiners + length b.actives + length b.leavers + length b.revoked + btree_set_len sets.revoked) m m' → AtMostMore (membership_sets c b) m m'
-  memberships_within {m = m} {m' = m'} p = subst (λ n. AtMostMore (length b.joiners + length b.actives + length b.leavers + length b.revoked + n) m m') has.revoked p
-
-  pub certifications_within : {m m' : List ℕ} → AtMostMore (5 * length b.certifications + 5 * btree_set_len sets.ended) m m' → AtMostMore (certification_sets c b) m m'
-  certifications_within {m = m} {m' = m'} p = subst (λ n. AtMostMore (5 * length b.certifications + 5 * n) m m') has.ended p
-
-  pub queue_within : {m m' : List ℕ}
-      → AtMostMore (4 * (length b.joiners + length b.actives) + length b.revoked + 2 * length b.certifications + (btree_set_len sets.expired + (btree_set_len sets.revoked + btree_set_len sets.ended))) m m' → AtMostMore (queue_sets c b) m m'
-  queue_within {m = m} {m' = m'} p =
-      subst (λ (n : ℕ × (ℕ × ℕ)). AtMostMore (4 * (length b.joiners + length b.actives) + length b.revoked + 2 * length b.certifications + (n.0 + (n.1.0 + n.1.1))) m m')
-      (λ i. (has.expired i, (has.revoked i, has.ended i))) p
-
-  pub steps_within : (s s' : ℕ)
-      → s' ≤ s
-      + (5 * (length b.joiners + length b.actives) + length b.leavers + 2 * length b.revoked + 7 * length b.certifications
-      + (btree_set_len sets.expired + (2 * btree_set_len sets.revoked + 6 * btree_set_len sets.ended)))
-      → s' ≤ s + (membership_sets c b + certification_sets c b + queue_sets c b)
-  steps_within s s' most = let x = has.expired in let r = has.revoked in let e = has.ended in omega (arith, x, r, e, most)
+pub steps_within : (c : Chain) (b : Block) (sets : Ended) → HasLengths c b sets → (s s' : ℕ) → IsWithin b sets s s' → s' ≤ s + (membership_sets c b + certification_sets c b + queue_sets c b)
+steps_within c b sets has s s' most = omega (arith, has.expired, has.revoked, has.ended, most)

@@ -26,7 +26,7 @@ use Rattle.dubp_steps.proofs.Sections.{leaves}
 use Rattle.dubp_people_apply.specs.declared.ended.Ended.{Ended}
 use Rattle.dubp_people_apply.specs.Held.{HasMemberships, HasCertifications, HasEntries}
 use Rattle.dubp_people_apply.specs.Lines.{Stands, StandsCertified, queue_after_memberships}
-use Rattle.dubp_people_apply.specs.Taking.{AreNoted, StandAs, HasAllTaken}
+use Rattle.dubp_people_apply.specs.Taking.{AreNoted, StandAs, HasAllTaken, AreLeftBy}
 use Rattle.dubp_people_apply.proofs.Small.{memberships_small, certifications_small}
 
 -- ---- before the block
@@ -108,13 +108,12 @@ module _ {M : List Members → Type 0} {C : List Rows → Type 0} {Q P : List Qu
       → AreNoted sets (is_over_at_once c b) (is_revoked_at_once c b) (is_ended_at_once c b) → StandAs M C P sets (after_lines c b)
   lines_stand sets first second noted = record { queue = second.queue; memberships = first.rows; certifications = second.rows; sets = noted }
 
-module _ {M : List Members → Type 0} {C : List Rows → Type 0} {Q : List Queued → Type 0} (c : Chain) (b : Block) where
-  -- with what is due taken
-  pub taken_memberships : (sets : Ended) → HasAllTaken c b M C Q sets → HasMemberships M (membership_row (b ∷ c))
-  taken_memberships sets all = subst (HasMemberships M) (λ i k. all.taken.memberships k i) all.stand.memberships
-
-  pub taken_certifications : (sets : Ended) → HasAllTaken c b M C Q sets → HasCertifications C (certification_row (b ∷ c))
-  taken_certifications sets all = subst (HasCertifications C) (λ i x y. all.taken.certifications x y i) all.stand.certifications
-
-  pub taken_entries : (sets : Ended) → HasAllTaken c b M C Q sets → HasEntries Q (is_queued (b ∷ c))
-  taken_entries sets all = subst (HasEntries Q) (λ i at due. all.taken.queue at due i) all.stand.queue
+-- with what is due taken
+pub left_with : {M : List Members → Type 0} {C : List Rows → Type 0} {Q : List Queued → Type 0}
+    → ((s t : List Members) → M s → M (members s ∷ t)) → ((s t : List Rows) → C s → C (newest empty s ∷ t)) → ((s t : List Queued) → Q s → Q (queued s ∷ t))
+    → (c : Chain) (b : Block) (sets : Ended) → HasAllTaken c b M C Q sets → AreLeftBy (b ∷ c) M C Q
+left_with {M = M} {C = C} {Q = Q} m k q c b sets all = record {
+  memberships = memberships_with m c b (subst (HasMemberships M) (λ i k. all.taken.memberships k i) all.stand.memberships);
+  certifications = certifications_with k c b (subst (HasCertifications C) (λ i x y. all.taken.certifications x y i) all.stand.certifications);
+  queue = queue_with q c b (subst (HasEntries Q) (λ i at due. all.taken.queue at due i) all.stand.queue);
+}

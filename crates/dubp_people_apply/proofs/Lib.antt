@@ -1,4 +1,3 @@
-pub mod Numbers
 pub mod Entries
 pub mod Small
 pub mod MemberLines

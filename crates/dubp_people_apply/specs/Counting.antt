@@ -1,7 +1,6 @@
--- How many keys a block sets in each index, as the marks count them. Protocol: tables, records.
-use Rattle.std.specs.Prelude.{◌≡◌, ℕ, ◌+◌, ◌*◌, ◌≤◌, List, length}
+-- How many keys a block sets at most in each index, and how many steps that takes. Protocol: tables, records.
+use Rattle.std.specs.Prelude.{◌≡◌, ℕ, ◌+◌, ◌*◌, ◌≤◌, length}
 use Rattle.std.specs.BTreeSet.{btree_set_len}
-use Rattle.dubp_undo.specs.States.{AtMostMore}
 use Rattle.dubp_block.specs.declared.block.Block.{Block}
 use Rattle.dubp_chain.specs.Chains.{Chain}
 use Rattle.dubp_chain.specs.Tables.{Due}
@@ -31,7 +30,7 @@ SetsFit =
     (c : Chain) (b : Block) (kicked : ℕ) → kicked ≤ length (people_records c b)
     → 4 * (length b.identities + length b.joiners + length b.excluded) + (membership_sets c b + certification_sets c b + queue_sets c b) + kicked + 2 ≤ 8 * length (people_records c b) + 8
 
--- What follows says the same on the way there, where the sets of the records grow.
+-- What follows says on the way there how many steps are taken, where the sets of the records grow.
 
 -- which set an entry that is taken joins
 abbrev pub expired_by : Due → ℕ
@@ -54,28 +53,22 @@ pub record IsOneMore (due : Due) (old new : Ended) : Type 0 where
   pub revoked : btree_set_len new.revoked ≡ btree_set_len old.revoked + revoked_by due
   pub ended : btree_set_len new.ended ≡ btree_set_len old.ended + ended_by due
 
--- so many keys were set in each index, and so many steps were taken, where the sets grew by so many
-pub record IsCounted (old new : Ended) (m m' c c' q q' : List ℕ) (steps steps' : ℕ) : Type 0 where
+-- so many steps were taken, where the sets grew by so many
+pub record IsCounted (old new : Ended) (steps steps' : ℕ) : Type 0 where
   pub expired : ℕ
   pub revoked : ℕ
   pub ended : ℕ
   pub are_expired : btree_set_len new.expired ≡ btree_set_len old.expired + expired
   pub are_revoked : btree_set_len new.revoked ≡ btree_set_len old.revoked + revoked
   pub are_ended : btree_set_len new.ended ≡ btree_set_len old.ended + ended
-  pub memberships : AtMostMore revoked m m'
-  pub certifications : AtMostMore (5 * ended) c c'
-  pub queue : AtMostMore (expired + (revoked + ended)) q q'
   pub most : steps' ≤ steps + (expired + (2 * revoked + 6 * ended))
 
 -- the lines, and what was taken behind them
-pub record IsWithin (b : Block) (sets : Ended) (m m' c c' q q' : List ℕ) (steps steps' : ℕ) : Type 0 where
-  pub memberships : AtMostMore (length b.joiners + length b.actives + length b.leavers + length b.revoked + btree_set_len sets.revoked) m m'
-  pub certifications : AtMostMore (5 * length b.certifications + 5 * btree_set_len sets.ended) c c'
-  pub queue : AtMostMore
-      (4 * (length b.joiners + length b.actives) + length b.revoked + 2 * length b.certifications + (btree_set_len sets.expired + (btree_set_len sets.revoked + btree_set_len sets.ended))) q q'
-  pub most : steps' ≤ steps
-      + (5 * (length b.joiners + length b.actives) + length b.leavers + 2 * length b.revoked + 7 * length b.certifications
-      + (btree_set_len sets.expired + (2 * btree_set_len sets.revoked + 6 * btree_set_len sets.ended)))
+abbrev pub IsWithin : Block → Ended → ℕ → ℕ → Type 0
+IsWithin b sets steps steps' =
+    steps' ≤ steps
+    + (5 * (length b.joiners + length b.actives) + length b.leavers + 2 * length b.revoked + 7 * length b.certifications
+    + (btree_set_len sets.expired + (2 * btree_set_len sets.revoked + 6 * btree_set_len sets.ended)))
 
 -- the sets are as long as the lists of records
 pub record HasLengths (c : Chain) (b : Block) (sets : Ended) : Type 0 where

@@ -1,7 +1,6 @@
 ghost use Rattle.std.specs.Prelude.{◌≡◌, ℕ, ◌+◌, ◌*◌, ◌≤◌, List, ◌∷◌, length, OnOk, Option, option_map, fold, IfSome};
 ghost use Rattle.std.specs.FinMap.{insert, empty};
-ghost use Rattle.dubp_undo.specs.Numbers.{settled};
-ghost use Rattle.dubp_undo.specs.States.{AtMostMore, newest};
+ghost use Rattle.dubp_undo.specs.States.{newest};
 ghost use Rattle.dubp_chain.specs.Chains.{Chain};
 ghost use Rattle.dubp_chain.specs.Tables.{CertificationRow};
 ghost use Rattle.dubp_cindex.specs.Rows.{Rows};
@@ -23,27 +22,6 @@ use dubp_left::{Facts, Next};
 use dubp_undo::Tables;
 use std::sync::ledger::Ledger as StepBook;
 
-/// Puts the row of the pair. It keeps as many states as before.
-pub(crate) fn put_row<L: StepBook>(
-    certifications: &mut CIndex,
-    from: Key,
-    to: Key,
-    row: CertRow,
-    steps: &mut Steps<L>,
-) -> Result<(), NoMemory>
-    ensures at { OnOk result ((s t : List Rows) → ⟦<CIndex as Tables<CertRows>>⟧.at certifications.old s → ⟦<CIndex as Tables<CertRows>>⟧.at certifications.new (insert (newest empty s) (from, to) row ∷ t)) }
-    ensures certifications_marked { (s : List Rows) → ⟦<CIndex as Tables<CertRows>>⟧.marked certifications.old s → ⟦<CIndex as Tables<CertRows>>⟧.marked certifications.new s }
-    ensures certifications_waits { (o : List Rows) (i : ℕ) → ⟦<CIndex as Tables<CertRows>>⟧.waits certifications.old o i → ⟦<CIndex as Tables<CertRows>>⟧.waits certifications.new o i }
-    ensures certifications_ahead { ⟦<CIndex as Tables<CertRows>>⟧.ahead_costs certifications.new ≡ ⟦<CIndex as Tables<CertRows>>⟧.ahead_costs certifications.old }
-    ensures certifications_costs_stay { settled (⟦<CIndex as Tables<CertRows>>⟧.costs certifications.new) ≡ settled (⟦<CIndex as Tables<CertRows>>⟧.costs certifications.old) }
-    ensures certifications_costs { OnOk result (AtMostMore 5 (⟦<CIndex as Tables<CertRows>>⟧.costs certifications.old) (⟦<CIndex as Tables<CertRows>>⟧.costs certifications.new)) }
-    ensures steps { OnOk result (steps.new ≤ steps.old + 5) }
-{
-    certifications.laws();
-    certifications.put_row(from, to, row, steps)?;
-    Ok(())
-}
-
 /// The end of the row leaves the queue.
 fn take_end_out<L: StepBook>(
     queue: &mut Queue,
@@ -55,11 +33,8 @@ fn take_end_out<L: StepBook>(
 ) -> Result<(), NoMemory>
     ensures entries { OnOk result ((waiting : Waiting) (before : Option CertificationRow) → row.now ≡ option_map cert_entry before → IfSome before (EndIsSmall lasting)
         → HasEntries (⟦<Queue as Tables<Entries>>⟧.at queue.old) waiting → HasEntries (⟦<Queue as Tables<Entries>>⟧.at queue.new) (without_end lasting from to before waiting)) }
-    ensures queue_marked { (s : List Queued) → ⟦<Queue as Tables<Entries>>⟧.marked queue.old s → ⟦<Queue as Tables<Entries>>⟧.marked queue.new s }
-    ensures queue_waits { (o : List Queued) (i : ℕ) → ⟦<Queue as Tables<Entries>>⟧.waits queue.old o i → ⟦<Queue as Tables<Entries>>⟧.waits queue.new o i }
-    ensures queue_ahead { ⟦<Queue as Tables<Entries>>⟧.ahead_costs queue.new ≡ ⟦<Queue as Tables<Entries>>⟧.ahead_costs queue.old }
-    ensures queue_costs_stay { settled (⟦<Queue as Tables<Entries>>⟧.costs queue.new) ≡ settled (⟦<Queue as Tables<Entries>>⟧.costs queue.old) }
-    ensures queue_costs { OnOk result (AtMostMore 1 (⟦<Queue as Tables<Entries>>⟧.costs queue.old) (⟦<Queue as Tables<Entries>>⟧.costs queue.new)) }
+    ensures queue_others { ⟦<Queue as Tables<Entries>>⟧.others queue.new ≡ ⟦<Queue as Tables<Entries>>⟧.others queue.old }
+    ensures count { ⟦<Queue as Tables<Entries>>⟧.count queue.new + steps.old ≤ ⟦<Queue as Tables<Entries>>⟧.count queue.old + steps.new }
     ensures steps { OnOk result (steps.new ≤ steps.old + 1) }
 {
     match row {
@@ -82,11 +57,8 @@ fn replan<L: StepBook>(
 ) -> Result<(), NoMemory>
     ensures entries { OnOk result ((waiting : Waiting) (before : Option CertificationRow) → IsReplacedPair next.now.params.sig_validity made line.now.from line.now.to row.now before waiting
         → HasEntries (⟦<Queue as Tables<Entries>>⟧.at queue.old) waiting → HasEntries (⟦<Queue as Tables<Entries>>⟧.at queue.new) (λ time due. certify_entry next.now.time next.now.params.sig_validity made line.now.from line.now.to time due (waiting time due))) }
-    ensures queue_marked { (s : List Queued) → ⟦<Queue as Tables<Entries>>⟧.marked queue.old s → ⟦<Queue as Tables<Entries>>⟧.marked queue.new s }
-    ensures queue_waits { (o : List Queued) (i : ℕ) → ⟦<Queue as Tables<Entries>>⟧.waits queue.old o i → ⟦<Queue as Tables<Entries>>⟧.waits queue.new o i }
-    ensures queue_ahead { ⟦<Queue as Tables<Entries>>⟧.ahead_costs queue.new ≡ ⟦<Queue as Tables<Entries>>⟧.ahead_costs queue.old }
-    ensures queue_costs_stay { settled (⟦<Queue as Tables<Entries>>⟧.costs queue.new) ≡ settled (⟦<Queue as Tables<Entries>>⟧.costs queue.old) }
-    ensures queue_costs { OnOk result (AtMostMore 2 (⟦<Queue as Tables<Entries>>⟧.costs queue.old) (⟦<Queue as Tables<Entries>>⟧.costs queue.new)) }
+    ensures queue_others { ⟦<Queue as Tables<Entries>>⟧.others queue.new ≡ ⟦<Queue as Tables<Entries>>⟧.others queue.old }
+    ensures count { ⟦<Queue as Tables<Entries>>⟧.count queue.new + steps.old ≤ ⟦<Queue as Tables<Entries>>⟧.count queue.old + steps.new }
     ensures steps { OnOk result (steps.new ≤ steps.old + 2) }
 {
     let lasting = next.params.sig_validity;
@@ -109,16 +81,9 @@ fn certify<L: StepBook>(
     ensures stands { OnOk result ((c : Chain) (rows : Certifications) (waiting : Waiting) → ⟦<Facts as Tables<Block>>⟧.at facts.now c → IsWritten c block.now next.now
         → StandsCertified c block.now (⟦<CIndex as Tables<CertRows>>⟧.at certifications.old) (⟦<Queue as Tables<Entries>>⟧.at queue.old) rows waiting
         → StandsCertified c block.now (⟦<CIndex as Tables<CertRows>>⟧.at certifications.new) (⟦<Queue as Tables<Entries>>⟧.at queue.new) (λ x y. certify_line c block.now x y (rows x y) line.now) (λ time due. certify_queue c block.now time due (waiting time due) line.now)) }
-    ensures certifications_marked { (s : List Rows) → ⟦<CIndex as Tables<CertRows>>⟧.marked certifications.old s → ⟦<CIndex as Tables<CertRows>>⟧.marked certifications.new s }
-    ensures certifications_waits { (o : List Rows) (i : ℕ) → ⟦<CIndex as Tables<CertRows>>⟧.waits certifications.old o i → ⟦<CIndex as Tables<CertRows>>⟧.waits certifications.new o i }
-    ensures certifications_ahead { ⟦<CIndex as Tables<CertRows>>⟧.ahead_costs certifications.new ≡ ⟦<CIndex as Tables<CertRows>>⟧.ahead_costs certifications.old }
-    ensures certifications_costs_stay { settled (⟦<CIndex as Tables<CertRows>>⟧.costs certifications.new) ≡ settled (⟦<CIndex as Tables<CertRows>>⟧.costs certifications.old) }
-    ensures queue_marked { (s : List Queued) → ⟦<Queue as Tables<Entries>>⟧.marked queue.old s → ⟦<Queue as Tables<Entries>>⟧.marked queue.new s }
-    ensures queue_waits { (o : List Queued) (i : ℕ) → ⟦<Queue as Tables<Entries>>⟧.waits queue.old o i → ⟦<Queue as Tables<Entries>>⟧.waits queue.new o i }
-    ensures queue_ahead { ⟦<Queue as Tables<Entries>>⟧.ahead_costs queue.new ≡ ⟦<Queue as Tables<Entries>>⟧.ahead_costs queue.old }
-    ensures queue_costs_stay { settled (⟦<Queue as Tables<Entries>>⟧.costs queue.new) ≡ settled (⟦<Queue as Tables<Entries>>⟧.costs queue.old) }
-    ensures certifications_costs { OnOk result (AtMostMore 5 (⟦<CIndex as Tables<CertRows>>⟧.costs certifications.old) (⟦<CIndex as Tables<CertRows>>⟧.costs certifications.new)) }
-    ensures queue_costs { OnOk result (AtMostMore 2 (⟦<Queue as Tables<Entries>>⟧.costs queue.old) (⟦<Queue as Tables<Entries>>⟧.costs queue.new)) }
+    ensures certifications_others { ⟦<CIndex as Tables<CertRows>>⟧.others certifications.new ≡ ⟦<CIndex as Tables<CertRows>>⟧.others certifications.old }
+    ensures queue_others { ⟦<Queue as Tables<Entries>>⟧.others queue.new ≡ ⟦<Queue as Tables<Entries>>⟧.others queue.old }
+    ensures count { ⟦<CIndex as Tables<CertRows>>⟧.count certifications.new + ⟦<Queue as Tables<Entries>>⟧.count queue.new + steps.old ≤ ⟦<CIndex as Tables<CertRows>>⟧.count certifications.old + ⟦<Queue as Tables<Entries>>⟧.count queue.old + steps.new }
     ensures steps { OnOk result (steps.new ≤ steps.old + 7) }
 {
     let made = time_of_certification(facts, block, line);
@@ -129,7 +94,7 @@ fn certify<L: StepBook>(
         written: block.number,
         live: next.time < later(made, next.params.sig_validity),
     };
-    put_row(certifications, line.from, line.to, row, steps)
+    certifications.put_row(line.from, line.to, row, steps)
 }
 
 /// Each line of Certifications gives its pair a certification made anew.
@@ -145,16 +110,9 @@ fn certify_all<L: StepBook>(
     ensures stands { OnOk result ((c : Chain) (rows : Certifications) (waiting : Waiting) → ⟦<Facts as Tables<Block>>⟧.at facts.now c → IsWritten c block.now next.now
         → StandsCertified c block.now (⟦<CIndex as Tables<CertRows>>⟧.at certifications.old) (⟦<Queue as Tables<Entries>>⟧.at queue.old) rows waiting
         → StandsCertified c block.now (⟦<CIndex as Tables<CertRows>>⟧.at certifications.new) (⟦<Queue as Tables<Entries>>⟧.at queue.new) (λ x y. fold (certify_line c block.now x y) (rows x y) lines.now) (λ time due. fold (certify_queue c block.now time due) (waiting time due) lines.now)) }
-    ensures certifications_marked { (s : List Rows) → ⟦<CIndex as Tables<CertRows>>⟧.marked certifications.old s → ⟦<CIndex as Tables<CertRows>>⟧.marked certifications.new s }
-    ensures certifications_waits { (o : List Rows) (i : ℕ) → ⟦<CIndex as Tables<CertRows>>⟧.waits certifications.old o i → ⟦<CIndex as Tables<CertRows>>⟧.waits certifications.new o i }
-    ensures certifications_ahead { ⟦<CIndex as Tables<CertRows>>⟧.ahead_costs certifications.new ≡ ⟦<CIndex as Tables<CertRows>>⟧.ahead_costs certifications.old }
-    ensures certifications_costs_stay { settled (⟦<CIndex as Tables<CertRows>>⟧.costs certifications.new) ≡ settled (⟦<CIndex as Tables<CertRows>>⟧.costs certifications.old) }
-    ensures queue_marked { (s : List Queued) → ⟦<Queue as Tables<Entries>>⟧.marked queue.old s → ⟦<Queue as Tables<Entries>>⟧.marked queue.new s }
-    ensures queue_waits { (o : List Queued) (i : ℕ) → ⟦<Queue as Tables<Entries>>⟧.waits queue.old o i → ⟦<Queue as Tables<Entries>>⟧.waits queue.new o i }
-    ensures queue_ahead { ⟦<Queue as Tables<Entries>>⟧.ahead_costs queue.new ≡ ⟦<Queue as Tables<Entries>>⟧.ahead_costs queue.old }
-    ensures queue_costs_stay { settled (⟦<Queue as Tables<Entries>>⟧.costs queue.new) ≡ settled (⟦<Queue as Tables<Entries>>⟧.costs queue.old) }
-    ensures certifications_costs { OnOk result (AtMostMore (5 * length lines.now) (⟦<CIndex as Tables<CertRows>>⟧.costs certifications.old) (⟦<CIndex as Tables<CertRows>>⟧.costs certifications.new)) }
-    ensures queue_costs { OnOk result (AtMostMore (2 * length lines.now) (⟦<Queue as Tables<Entries>>⟧.costs queue.old) (⟦<Queue as Tables<Entries>>⟧.costs queue.new)) }
+    ensures certifications_others { ⟦<CIndex as Tables<CertRows>>⟧.others certifications.new ≡ ⟦<CIndex as Tables<CertRows>>⟧.others certifications.old }
+    ensures queue_others { ⟦<Queue as Tables<Entries>>⟧.others queue.new ≡ ⟦<Queue as Tables<Entries>>⟧.others queue.old }
+    ensures count { ⟦<CIndex as Tables<CertRows>>⟧.count certifications.new + ⟦<Queue as Tables<Entries>>⟧.count queue.new + steps.old ≤ ⟦<CIndex as Tables<CertRows>>⟧.count certifications.old + ⟦<Queue as Tables<Entries>>⟧.count queue.old + steps.new }
     ensures steps { OnOk result (steps.new ≤ steps.old + 7 * length lines.now) }
 {
     for line in lines {
@@ -178,16 +136,9 @@ pub fn write_certifications<L: StepBook>(
     ensures stands { OnOk result ((c : Chain) (rows : Certifications) (waiting : Waiting) → ⟦<Facts as Tables<Block>>⟧.at facts.now c → IsWritten c block.now next.now
         → StandsCertified c block.now (⟦<CIndex as Tables<CertRows>>⟧.at certifications.old) (⟦<Queue as Tables<Entries>>⟧.at queue.old) rows waiting
         → StandsCertified c block.now (⟦<CIndex as Tables<CertRows>>⟧.at certifications.new) (⟦<Queue as Tables<Entries>>⟧.at queue.new) (λ x y. certification_after_lines c block.now x y (rows x y)) (λ time due. fold (certify_queue c block.now time due) (waiting time due) block.now.certifications)) }
-    ensures certifications_marked { (s : List Rows) → ⟦<CIndex as Tables<CertRows>>⟧.marked certifications.old s → ⟦<CIndex as Tables<CertRows>>⟧.marked certifications.new s }
-    ensures certifications_waits { (o : List Rows) (i : ℕ) → ⟦<CIndex as Tables<CertRows>>⟧.waits certifications.old o i → ⟦<CIndex as Tables<CertRows>>⟧.waits certifications.new o i }
-    ensures certifications_ahead { ⟦<CIndex as Tables<CertRows>>⟧.ahead_costs certifications.new ≡ ⟦<CIndex as Tables<CertRows>>⟧.ahead_costs certifications.old }
-    ensures certifications_costs_stay { settled (⟦<CIndex as Tables<CertRows>>⟧.costs certifications.new) ≡ settled (⟦<CIndex as Tables<CertRows>>⟧.costs certifications.old) }
-    ensures queue_marked { (s : List Queued) → ⟦<Queue as Tables<Entries>>⟧.marked queue.old s → ⟦<Queue as Tables<Entries>>⟧.marked queue.new s }
-    ensures queue_waits { (o : List Queued) (i : ℕ) → ⟦<Queue as Tables<Entries>>⟧.waits queue.old o i → ⟦<Queue as Tables<Entries>>⟧.waits queue.new o i }
-    ensures queue_ahead { ⟦<Queue as Tables<Entries>>⟧.ahead_costs queue.new ≡ ⟦<Queue as Tables<Entries>>⟧.ahead_costs queue.old }
-    ensures queue_costs_stay { settled (⟦<Queue as Tables<Entries>>⟧.costs queue.new) ≡ settled (⟦<Queue as Tables<Entries>>⟧.costs queue.old) }
-    ensures certifications_costs { OnOk result (AtMostMore (5 * length block.now.certifications) (⟦<CIndex as Tables<CertRows>>⟧.costs certifications.old) (⟦<CIndex as Tables<CertRows>>⟧.costs certifications.new)) }
-    ensures queue_costs { OnOk result (AtMostMore (2 * length block.now.certifications) (⟦<Queue as Tables<Entries>>⟧.costs queue.old) (⟦<Queue as Tables<Entries>>⟧.costs queue.new)) }
+    ensures certifications_others { ⟦<CIndex as Tables<CertRows>>⟧.others certifications.new ≡ ⟦<CIndex as Tables<CertRows>>⟧.others certifications.old }
+    ensures queue_others { ⟦<Queue as Tables<Entries>>⟧.others queue.new ≡ ⟦<Queue as Tables<Entries>>⟧.others queue.old }
+    ensures count { ⟦<CIndex as Tables<CertRows>>⟧.count certifications.new + ⟦<Queue as Tables<Entries>>⟧.count queue.new + steps.old ≤ ⟦<CIndex as Tables<CertRows>>⟧.count certifications.old + ⟦<Queue as Tables<Entries>>⟧.count queue.old + steps.new }
     ensures steps { OnOk result (steps.new ≤ steps.old + 7 * length block.now.certifications) }
 {
     let lines = block.certifications.as_slice();

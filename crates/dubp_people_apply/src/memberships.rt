@@ -1,6 +1,4 @@
 ghost use Rattle.std.specs.Prelude.{◌≡◌, ℕ, ◌+◌, ◌*◌, ◌≤◌, List, length, OnOk, option_map, fold};
-ghost use Rattle.dubp_undo.specs.Numbers.{settled};
-ghost use Rattle.dubp_undo.specs.States.{AtMostMore};
 ghost use Rattle.dubp_block.specs.declared.block.Block.{Block as BlockValue};
 ghost use Rattle.dubp_chain.specs.Chains.{Chain};
 ghost use Rattle.dubp_mindex.specs.Members.{Members};
@@ -34,16 +32,9 @@ fn enter<L: StepBook>(
     ensures stands { OnOk result ((c : Chain) (rows : Memberships) (waiting : Waiting) → ⟦<Facts as Tables<Block>>⟧.at facts.now c → IsWritten c block.now next.now
         → Stands c block.now (⟦<MIndex as Tables<MemberRows>>⟧.at memberships.old) (⟦<Queue as Tables<Entries>>⟧.at queue.old) rows waiting
         → Stands c block.now (⟦<MIndex as Tables<MemberRows>>⟧.at memberships.new) (⟦<Queue as Tables<Entries>>⟧.at queue.new) (λ k. enter_line c block.now k (rows k) line.now) (λ time due. enter_queue c block.now time due (waiting time due) line.now)) }
-    ensures memberships_marked { (s : List Members) → ⟦<MIndex as Tables<MemberRows>>⟧.marked memberships.old s → ⟦<MIndex as Tables<MemberRows>>⟧.marked memberships.new s }
-    ensures memberships_waits { (o : List Members) (i : ℕ) → ⟦<MIndex as Tables<MemberRows>>⟧.waits memberships.old o i → ⟦<MIndex as Tables<MemberRows>>⟧.waits memberships.new o i }
-    ensures memberships_ahead { ⟦<MIndex as Tables<MemberRows>>⟧.ahead_costs memberships.new ≡ ⟦<MIndex as Tables<MemberRows>>⟧.ahead_costs memberships.old }
-    ensures memberships_costs_stay { settled (⟦<MIndex as Tables<MemberRows>>⟧.costs memberships.new) ≡ settled (⟦<MIndex as Tables<MemberRows>>⟧.costs memberships.old) }
-    ensures queue_marked { (s : List Queued) → ⟦<Queue as Tables<Entries>>⟧.marked queue.old s → ⟦<Queue as Tables<Entries>>⟧.marked queue.new s }
-    ensures queue_waits { (o : List Queued) (i : ℕ) → ⟦<Queue as Tables<Entries>>⟧.waits queue.old o i → ⟦<Queue as Tables<Entries>>⟧.waits queue.new o i }
-    ensures queue_ahead { ⟦<Queue as Tables<Entries>>⟧.ahead_costs queue.new ≡ ⟦<Queue as Tables<Entries>>⟧.ahead_costs queue.old }
-    ensures queue_costs_stay { settled (⟦<Queue as Tables<Entries>>⟧.costs queue.new) ≡ settled (⟦<Queue as Tables<Entries>>⟧.costs queue.old) }
-    ensures memberships_costs { OnOk result (AtMostMore 1 (⟦<MIndex as Tables<MemberRows>>⟧.costs memberships.old) (⟦<MIndex as Tables<MemberRows>>⟧.costs memberships.new)) }
-    ensures queue_costs { OnOk result (AtMostMore 4 (⟦<Queue as Tables<Entries>>⟧.costs queue.old) (⟦<Queue as Tables<Entries>>⟧.costs queue.new)) }
+    ensures memberships_others { ⟦<MIndex as Tables<MemberRows>>⟧.others memberships.new ≡ ⟦<MIndex as Tables<MemberRows>>⟧.others memberships.old }
+    ensures queue_others { ⟦<Queue as Tables<Entries>>⟧.others queue.new ≡ ⟦<Queue as Tables<Entries>>⟧.others queue.old }
+    ensures count { ⟦<MIndex as Tables<MemberRows>>⟧.count memberships.new + ⟦<Queue as Tables<Entries>>⟧.count queue.new + steps.old ≤ ⟦<MIndex as Tables<MemberRows>>⟧.count memberships.old + ⟦<Queue as Tables<Entries>>⟧.count queue.old + steps.new }
     ensures steps { OnOk result (steps.new ≤ steps.old + 5) }
 {
     let lasting = next.params.ms_validity;
@@ -73,16 +64,9 @@ fn enter_all<L: StepBook>(
     ensures stands { OnOk result ((c : Chain) (rows : Memberships) (waiting : Waiting) → ⟦<Facts as Tables<Block>>⟧.at facts.now c → IsWritten c block.now next.now
         → Stands c block.now (⟦<MIndex as Tables<MemberRows>>⟧.at memberships.old) (⟦<Queue as Tables<Entries>>⟧.at queue.old) rows waiting
         → Stands c block.now (⟦<MIndex as Tables<MemberRows>>⟧.at memberships.new) (⟦<Queue as Tables<Entries>>⟧.at queue.new) (λ k. fold (enter_line c block.now k) (rows k) lines.now) (λ time due. fold (enter_queue c block.now time due) (waiting time due) lines.now)) }
-    ensures memberships_marked { (s : List Members) → ⟦<MIndex as Tables<MemberRows>>⟧.marked memberships.old s → ⟦<MIndex as Tables<MemberRows>>⟧.marked memberships.new s }
-    ensures memberships_waits { (o : List Members) (i : ℕ) → ⟦<MIndex as Tables<MemberRows>>⟧.waits memberships.old o i → ⟦<MIndex as Tables<MemberRows>>⟧.waits memberships.new o i }
-    ensures memberships_ahead { ⟦<MIndex as Tables<MemberRows>>⟧.ahead_costs memberships.new ≡ ⟦<MIndex as Tables<MemberRows>>⟧.ahead_costs memberships.old }
-    ensures memberships_costs_stay { settled (⟦<MIndex as Tables<MemberRows>>⟧.costs memberships.new) ≡ settled (⟦<MIndex as Tables<MemberRows>>⟧.costs memberships.old) }
-    ensures queue_marked { (s : List Queued) → ⟦<Queue as Tables<Entries>>⟧.marked queue.old s → ⟦<Queue as Tables<Entries>>⟧.marked queue.new s }
-    ensures queue_waits { (o : List Queued) (i : ℕ) → ⟦<Queue as Tables<Entries>>⟧.waits queue.old o i → ⟦<Queue as Tables<Entries>>⟧.waits queue.new o i }
-    ensures queue_ahead { ⟦<Queue as Tables<Entries>>⟧.ahead_costs queue.new ≡ ⟦<Queue as Tables<Entries>>⟧.ahead_costs queue.old }
-    ensures queue_costs_stay { settled (⟦<Queue as Tables<Entries>>⟧.costs queue.new) ≡ settled (⟦<Queue as Tables<Entries>>⟧.costs queue.old) }
-    ensures memberships_costs { OnOk result (AtMostMore (length lines.now) (⟦<MIndex as Tables<MemberRows>>⟧.costs memberships.old) (⟦<MIndex as Tables<MemberRows>>⟧.costs memberships.new)) }
-    ensures queue_costs { OnOk result (AtMostMore (4 * length lines.now) (⟦<Queue as Tables<Entries>>⟧.costs queue.old) (⟦<Queue as Tables<Entries>>⟧.costs queue.new)) }
+    ensures memberships_others { ⟦<MIndex as Tables<MemberRows>>⟧.others memberships.new ≡ ⟦<MIndex as Tables<MemberRows>>⟧.others memberships.old }
+    ensures queue_others { ⟦<Queue as Tables<Entries>>⟧.others queue.new ≡ ⟦<Queue as Tables<Entries>>⟧.others queue.old }
+    ensures count { ⟦<MIndex as Tables<MemberRows>>⟧.count memberships.new + ⟦<Queue as Tables<Entries>>⟧.count queue.new + steps.old ≤ ⟦<MIndex as Tables<MemberRows>>⟧.count memberships.old + ⟦<Queue as Tables<Entries>>⟧.count queue.old + steps.new }
     ensures steps { OnOk result (steps.new ≤ steps.old + 5 * length lines.now) }
 {
     for line in lines {
@@ -101,11 +85,8 @@ fn leave<L: StepBook>(
     ensures stands { OnOk result ((c : Chain) (queue : QueueValue) (rows : Memberships) (waiting : Waiting)
         → Stands c block.now (⟦<MIndex as Tables<MemberRows>>⟧.at memberships.old) (⟦<Queue as Tables<Entries>>⟧.at queue) rows waiting
         → Stands c block.now (⟦<MIndex as Tables<MemberRows>>⟧.at memberships.new) (⟦<Queue as Tables<Entries>>⟧.at queue) (λ k. leave_line block.now k (rows k) line.now) waiting) }
-    ensures memberships_marked { (s : List Members) → ⟦<MIndex as Tables<MemberRows>>⟧.marked memberships.old s → ⟦<MIndex as Tables<MemberRows>>⟧.marked memberships.new s }
-    ensures memberships_waits { (o : List Members) (i : ℕ) → ⟦<MIndex as Tables<MemberRows>>⟧.waits memberships.old o i → ⟦<MIndex as Tables<MemberRows>>⟧.waits memberships.new o i }
-    ensures memberships_ahead { ⟦<MIndex as Tables<MemberRows>>⟧.ahead_costs memberships.new ≡ ⟦<MIndex as Tables<MemberRows>>⟧.ahead_costs memberships.old }
-    ensures memberships_costs_stay { settled (⟦<MIndex as Tables<MemberRows>>⟧.costs memberships.new) ≡ settled (⟦<MIndex as Tables<MemberRows>>⟧.costs memberships.old) }
-    ensures memberships_costs { OnOk result (AtMostMore 1 (⟦<MIndex as Tables<MemberRows>>⟧.costs memberships.old) (⟦<MIndex as Tables<MemberRows>>⟧.costs memberships.new)) }
+    ensures memberships_others { ⟦<MIndex as Tables<MemberRows>>⟧.others memberships.new ≡ ⟦<MIndex as Tables<MemberRows>>⟧.others memberships.old }
+    ensures count { ⟦<MIndex as Tables<MemberRows>>⟧.count memberships.new + steps.old ≤ ⟦<MIndex as Tables<MemberRows>>⟧.count memberships.old + steps.new }
     ensures steps { OnOk result (steps.new ≤ steps.old + 1) }
 {
     match memberships.row(line.key) {
@@ -132,11 +113,8 @@ fn leave_all<L: StepBook>(
     ensures stands { OnOk result ((c : Chain) (queue : QueueValue) (rows : Memberships) (waiting : Waiting)
         → Stands c block.now (⟦<MIndex as Tables<MemberRows>>⟧.at memberships.old) (⟦<Queue as Tables<Entries>>⟧.at queue) rows waiting
         → Stands c block.now (⟦<MIndex as Tables<MemberRows>>⟧.at memberships.new) (⟦<Queue as Tables<Entries>>⟧.at queue) (λ k. fold (leave_line block.now k) (rows k) lines.now) waiting) }
-    ensures memberships_marked { (s : List Members) → ⟦<MIndex as Tables<MemberRows>>⟧.marked memberships.old s → ⟦<MIndex as Tables<MemberRows>>⟧.marked memberships.new s }
-    ensures memberships_waits { (o : List Members) (i : ℕ) → ⟦<MIndex as Tables<MemberRows>>⟧.waits memberships.old o i → ⟦<MIndex as Tables<MemberRows>>⟧.waits memberships.new o i }
-    ensures memberships_ahead { ⟦<MIndex as Tables<MemberRows>>⟧.ahead_costs memberships.new ≡ ⟦<MIndex as Tables<MemberRows>>⟧.ahead_costs memberships.old }
-    ensures memberships_costs_stay { settled (⟦<MIndex as Tables<MemberRows>>⟧.costs memberships.new) ≡ settled (⟦<MIndex as Tables<MemberRows>>⟧.costs memberships.old) }
-    ensures memberships_costs { OnOk result (AtMostMore (length lines.now) (⟦<MIndex as Tables<MemberRows>>⟧.costs memberships.old) (⟦<MIndex as Tables<MemberRows>>⟧.costs memberships.new)) }
+    ensures memberships_others { ⟦<MIndex as Tables<MemberRows>>⟧.others memberships.new ≡ ⟦<MIndex as Tables<MemberRows>>⟧.others memberships.old }
+    ensures count { ⟦<MIndex as Tables<MemberRows>>⟧.count memberships.new + steps.old ≤ ⟦<MIndex as Tables<MemberRows>>⟧.count memberships.old + steps.new }
     ensures steps { OnOk result (steps.new ≤ steps.old + length lines.now) }
 {
     for line in lines {
@@ -156,16 +134,9 @@ fn revoke<L: StepBook>(
     ensures stands { OnOk result ((c : Chain) (b : BlockValue) (rows : Memberships) (waiting : Waiting) → IsWritten c b next.now
         → Stands c b (⟦<MIndex as Tables<MemberRows>>⟧.at memberships.old) (⟦<Queue as Tables<Entries>>⟧.at queue.old) rows waiting
         → Stands c b (⟦<MIndex as Tables<MemberRows>>⟧.at memberships.new) (⟦<Queue as Tables<Entries>>⟧.at queue.new) (λ k. revoke_line k (rows k) line.now) (λ time due. revoke_queue due (waiting time due) line.now)) }
-    ensures memberships_marked { (s : List Members) → ⟦<MIndex as Tables<MemberRows>>⟧.marked memberships.old s → ⟦<MIndex as Tables<MemberRows>>⟧.marked memberships.new s }
-    ensures memberships_waits { (o : List Members) (i : ℕ) → ⟦<MIndex as Tables<MemberRows>>⟧.waits memberships.old o i → ⟦<MIndex as Tables<MemberRows>>⟧.waits memberships.new o i }
-    ensures memberships_ahead { ⟦<MIndex as Tables<MemberRows>>⟧.ahead_costs memberships.new ≡ ⟦<MIndex as Tables<MemberRows>>⟧.ahead_costs memberships.old }
-    ensures memberships_costs_stay { settled (⟦<MIndex as Tables<MemberRows>>⟧.costs memberships.new) ≡ settled (⟦<MIndex as Tables<MemberRows>>⟧.costs memberships.old) }
-    ensures queue_marked { (s : List Queued) → ⟦<Queue as Tables<Entries>>⟧.marked queue.old s → ⟦<Queue as Tables<Entries>>⟧.marked queue.new s }
-    ensures queue_waits { (o : List Queued) (i : ℕ) → ⟦<Queue as Tables<Entries>>⟧.waits queue.old o i → ⟦<Queue as Tables<Entries>>⟧.waits queue.new o i }
-    ensures queue_ahead { ⟦<Queue as Tables<Entries>>⟧.ahead_costs queue.new ≡ ⟦<Queue as Tables<Entries>>⟧.ahead_costs queue.old }
-    ensures queue_costs_stay { settled (⟦<Queue as Tables<Entries>>⟧.costs queue.new) ≡ settled (⟦<Queue as Tables<Entries>>⟧.costs queue.old) }
-    ensures memberships_costs { OnOk result (AtMostMore 1 (⟦<MIndex as Tables<MemberRows>>⟧.costs memberships.old) (⟦<MIndex as Tables<MemberRows>>⟧.costs memberships.new)) }
-    ensures queue_costs { OnOk result (AtMostMore 1 (⟦<Queue as Tables<Entries>>⟧.costs queue.old) (⟦<Queue as Tables<Entries>>⟧.costs queue.new)) }
+    ensures memberships_others { ⟦<MIndex as Tables<MemberRows>>⟧.others memberships.new ≡ ⟦<MIndex as Tables<MemberRows>>⟧.others memberships.old }
+    ensures queue_others { ⟦<Queue as Tables<Entries>>⟧.others queue.new ≡ ⟦<Queue as Tables<Entries>>⟧.others queue.old }
+    ensures count { ⟦<MIndex as Tables<MemberRows>>⟧.count memberships.new + ⟦<Queue as Tables<Entries>>⟧.count queue.new + steps.old ≤ ⟦<MIndex as Tables<MemberRows>>⟧.count memberships.old + ⟦<Queue as Tables<Entries>>⟧.count queue.old + steps.new }
     ensures steps { OnOk result (steps.new ≤ steps.old + 2) }
 {
     match memberships.row(line.key) {
@@ -193,16 +164,9 @@ fn revoke_all<L: StepBook>(
     ensures stands { OnOk result ((c : Chain) (b : BlockValue) (rows : Memberships) (waiting : Waiting) → IsWritten c b next.now
         → Stands c b (⟦<MIndex as Tables<MemberRows>>⟧.at memberships.old) (⟦<Queue as Tables<Entries>>⟧.at queue.old) rows waiting
         → Stands c b (⟦<MIndex as Tables<MemberRows>>⟧.at memberships.new) (⟦<Queue as Tables<Entries>>⟧.at queue.new) (λ k. fold (revoke_line k) (rows k) lines.now) (λ time due. fold (revoke_queue due) (waiting time due) lines.now)) }
-    ensures memberships_marked { (s : List Members) → ⟦<MIndex as Tables<MemberRows>>⟧.marked memberships.old s → ⟦<MIndex as Tables<MemberRows>>⟧.marked memberships.new s }
-    ensures memberships_waits { (o : List Members) (i : ℕ) → ⟦<MIndex as Tables<MemberRows>>⟧.waits memberships.old o i → ⟦<MIndex as Tables<MemberRows>>⟧.waits memberships.new o i }
-    ensures memberships_ahead { ⟦<MIndex as Tables<MemberRows>>⟧.ahead_costs memberships.new ≡ ⟦<MIndex as Tables<MemberRows>>⟧.ahead_costs memberships.old }
-    ensures memberships_costs_stay { settled (⟦<MIndex as Tables<MemberRows>>⟧.costs memberships.new) ≡ settled (⟦<MIndex as Tables<MemberRows>>⟧.costs memberships.old) }
-    ensures queue_marked { (s : List Queued) → ⟦<Queue as Tables<Entries>>⟧.marked queue.old s → ⟦<Queue as Tables<Entries>>⟧.marked queue.new s }
-    ensures queue_waits { (o : List Queued) (i : ℕ) → ⟦<Queue as Tables<Entries>>⟧.waits queue.old o i → ⟦<Queue as Tables<Entries>>⟧.waits queue.new o i }
-    ensures queue_ahead { ⟦<Queue as Tables<Entries>>⟧.ahead_costs queue.new ≡ ⟦<Queue as Tables<Entries>>⟧.ahead_costs queue.old }
-    ensures queue_costs_stay { settled (⟦<Queue as Tables<Entries>>⟧.costs queue.new) ≡ settled (⟦<Queue as Tables<Entries>>⟧.costs queue.old) }
-    ensures memberships_costs { OnOk result (AtMostMore (length lines.now) (⟦<MIndex as Tables<MemberRows>>⟧.costs memberships.old) (⟦<MIndex as Tables<MemberRows>>⟧.costs memberships.new)) }
-    ensures queue_costs { OnOk result (AtMostMore (length lines.now) (⟦<Queue as Tables<Entries>>⟧.costs queue.old) (⟦<Queue as Tables<Entries>>⟧.costs queue.new)) }
+    ensures memberships_others { ⟦<MIndex as Tables<MemberRows>>⟧.others memberships.new ≡ ⟦<MIndex as Tables<MemberRows>>⟧.others memberships.old }
+    ensures queue_others { ⟦<Queue as Tables<Entries>>⟧.others queue.new ≡ ⟦<Queue as Tables<Entries>>⟧.others queue.old }
+    ensures count { ⟦<MIndex as Tables<MemberRows>>⟧.count memberships.new + ⟦<Queue as Tables<Entries>>⟧.count queue.new + steps.old ≤ ⟦<MIndex as Tables<MemberRows>>⟧.count memberships.old + ⟦<Queue as Tables<Entries>>⟧.count queue.old + steps.new }
     ensures steps { OnOk result (steps.new ≤ steps.old + 2 * length lines.now) }
 {
     for line in lines {
@@ -226,16 +190,9 @@ pub fn write_memberships<L: StepBook>(
     ensures stands { OnOk result ((c : Chain) (rows : Memberships) (waiting : Waiting) → ⟦<Facts as Tables<Block>>⟧.at facts.now c → IsWritten c block.now next.now
         → Stands c block.now (⟦<MIndex as Tables<MemberRows>>⟧.at memberships.old) (⟦<Queue as Tables<Entries>>⟧.at queue.old) rows waiting
         → Stands c block.now (⟦<MIndex as Tables<MemberRows>>⟧.at memberships.new) (⟦<Queue as Tables<Entries>>⟧.at queue.new) (λ k. membership_after_lines c block.now k (rows k)) (λ time due. fold (revoke_queue due) (fold (enter_queue c block.now time due) (fold (enter_queue c block.now time due) (waiting time due) block.now.joiners) block.now.actives) block.now.revoked)) }
-    ensures memberships_marked { (s : List Members) → ⟦<MIndex as Tables<MemberRows>>⟧.marked memberships.old s → ⟦<MIndex as Tables<MemberRows>>⟧.marked memberships.new s }
-    ensures memberships_waits { (o : List Members) (i : ℕ) → ⟦<MIndex as Tables<MemberRows>>⟧.waits memberships.old o i → ⟦<MIndex as Tables<MemberRows>>⟧.waits memberships.new o i }
-    ensures memberships_ahead { ⟦<MIndex as Tables<MemberRows>>⟧.ahead_costs memberships.new ≡ ⟦<MIndex as Tables<MemberRows>>⟧.ahead_costs memberships.old }
-    ensures memberships_costs_stay { settled (⟦<MIndex as Tables<MemberRows>>⟧.costs memberships.new) ≡ settled (⟦<MIndex as Tables<MemberRows>>⟧.costs memberships.old) }
-    ensures queue_marked { (s : List Queued) → ⟦<Queue as Tables<Entries>>⟧.marked queue.old s → ⟦<Queue as Tables<Entries>>⟧.marked queue.new s }
-    ensures queue_waits { (o : List Queued) (i : ℕ) → ⟦<Queue as Tables<Entries>>⟧.waits queue.old o i → ⟦<Queue as Tables<Entries>>⟧.waits queue.new o i }
-    ensures queue_ahead { ⟦<Queue as Tables<Entries>>⟧.ahead_costs queue.new ≡ ⟦<Queue as Tables<Entries>>⟧.ahead_costs queue.old }
-    ensures queue_costs_stay { settled (⟦<Queue as Tables<Entries>>⟧.costs queue.new) ≡ settled (⟦<Queue as Tables<Entries>>⟧.costs queue.old) }
-    ensures memberships_costs { OnOk result (AtMostMore (length block.now.joiners + length block.now.actives + length block.now.leavers + length block.now.revoked) (⟦<MIndex as Tables<MemberRows>>⟧.costs memberships.old) (⟦<MIndex as Tables<MemberRows>>⟧.costs memberships.new)) }
-    ensures queue_costs { OnOk result (AtMostMore (4 * (length block.now.joiners + length block.now.actives) + length block.now.revoked) (⟦<Queue as Tables<Entries>>⟧.costs queue.old) (⟦<Queue as Tables<Entries>>⟧.costs queue.new)) }
+    ensures memberships_others { ⟦<MIndex as Tables<MemberRows>>⟧.others memberships.new ≡ ⟦<MIndex as Tables<MemberRows>>⟧.others memberships.old }
+    ensures queue_others { ⟦<Queue as Tables<Entries>>⟧.others queue.new ≡ ⟦<Queue as Tables<Entries>>⟧.others queue.old }
+    ensures count { ⟦<MIndex as Tables<MemberRows>>⟧.count memberships.new + ⟦<Queue as Tables<Entries>>⟧.count queue.new + steps.old ≤ ⟦<MIndex as Tables<MemberRows>>⟧.count memberships.old + ⟦<Queue as Tables<Entries>>⟧.count queue.old + steps.new }
     ensures steps { OnOk result (steps.new ≤ steps.old + (5 * (length block.now.joiners + length block.now.actives) + length block.now.leavers + 2 * length block.now.revoked)) }
 {
     let joiners = block.joiners.as_slice();

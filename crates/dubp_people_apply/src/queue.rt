@@ -1,6 +1,4 @@
 ghost use Rattle.std.specs.Prelude.{◌≡◌, ℕ, ◌+◌, ◌*◌, ◌≤◌, ◌<◌, ◌^◌, List, Option, IfSome, OnOk, option_map};
-ghost use Rattle.dubp_undo.specs.Numbers.{settled};
-ghost use Rattle.dubp_undo.specs.States.{AtMostMore};
 ghost use Rattle.dubp_chain.specs.Tables.{MembershipRow};
 ghost use Rattle.dubp_expiry.specs.Entries.{Queued};
 ghost use Rattle.dubp_left.specs.Left.{due_of, member_entry};
@@ -37,11 +35,8 @@ pub(crate) fn take_out<L: StepBook>(
     steps: &mut Steps<L>,
 ) -> Result<(), NoMemory>
     ensures entries { OnOk result ((waiting : Waiting) → HasEntries (⟦<Queue as Tables<Entries>>⟧.at queue.old) waiting → HasEntries (⟦<Queue as Tables<Entries>>⟧.at queue.new) (without_entry time (due_of due) waiting)) }
-    ensures marked { (s : List Queued) → ⟦<Queue as Tables<Entries>>⟧.marked queue.old s → ⟦<Queue as Tables<Entries>>⟧.marked queue.new s }
-    ensures waits { (o : List Queued) (i : ℕ) → ⟦<Queue as Tables<Entries>>⟧.waits queue.old o i → ⟦<Queue as Tables<Entries>>⟧.waits queue.new o i }
-    ensures ahead { ⟦<Queue as Tables<Entries>>⟧.ahead_costs queue.new ≡ ⟦<Queue as Tables<Entries>>⟧.ahead_costs queue.old }
-    ensures costs_stay { settled (⟦<Queue as Tables<Entries>>⟧.costs queue.new) ≡ settled (⟦<Queue as Tables<Entries>>⟧.costs queue.old) }
-    ensures costs { OnOk result (AtMostMore 1 (⟦<Queue as Tables<Entries>>⟧.costs queue.old) (⟦<Queue as Tables<Entries>>⟧.costs queue.new)) }
+    ensures others { ⟦<Queue as Tables<Entries>>⟧.others queue.new ≡ ⟦<Queue as Tables<Entries>>⟧.others queue.old }
+    ensures count { ⟦<Queue as Tables<Entries>>⟧.count queue.new + steps.old ≤ ⟦<Queue as Tables<Entries>>⟧.count queue.old + steps.new }
     ensures steps { OnOk result (steps.new ≤ steps.old + 1) }
 {
     queue.cancel(time, due, steps)?;
@@ -57,11 +52,8 @@ pub(crate) fn plan_later<L: StepBook>(
     steps: &mut Steps<L>,
 ) -> Result<(), NoMemory>
     ensures entries { OnOk result ((waiting : Waiting) → HasEntries (⟦<Queue as Tables<Entries>>⟧.at queue.old) waiting → HasEntries (⟦<Queue as Tables<Entries>>⟧.at queue.new) (with_later now time (due_of due) waiting)) }
-    ensures marked { (s : List Queued) → ⟦<Queue as Tables<Entries>>⟧.marked queue.old s → ⟦<Queue as Tables<Entries>>⟧.marked queue.new s }
-    ensures waits { (o : List Queued) (i : ℕ) → ⟦<Queue as Tables<Entries>>⟧.waits queue.old o i → ⟦<Queue as Tables<Entries>>⟧.waits queue.new o i }
-    ensures ahead { ⟦<Queue as Tables<Entries>>⟧.ahead_costs queue.new ≡ ⟦<Queue as Tables<Entries>>⟧.ahead_costs queue.old }
-    ensures costs_stay { settled (⟦<Queue as Tables<Entries>>⟧.costs queue.new) ≡ settled (⟦<Queue as Tables<Entries>>⟧.costs queue.old) }
-    ensures costs { OnOk result (AtMostMore 1 (⟦<Queue as Tables<Entries>>⟧.costs queue.old) (⟦<Queue as Tables<Entries>>⟧.costs queue.new)) }
+    ensures others { ⟦<Queue as Tables<Entries>>⟧.others queue.new ≡ ⟦<Queue as Tables<Entries>>⟧.others queue.old }
+    ensures count { ⟦<Queue as Tables<Entries>>⟧.count queue.new + steps.old ≤ ⟦<Queue as Tables<Entries>>⟧.count queue.old + steps.new }
     ensures steps { OnOk result (steps.new ≤ steps.old + 1) }
 {
     if now < time {
@@ -81,11 +73,8 @@ fn take_ends_out<L: StepBook>(
 ) -> Result<(), NoMemory>
     ensures entries { OnOk result ((waiting : Waiting) (before : Option MembershipRow) → row.now ≡ option_map member_entry before → IfSome before (EndsAreSmall lasting)
         → HasEntries (⟦<Queue as Tables<Entries>>⟧.at queue.old) waiting → HasEntries (⟦<Queue as Tables<Entries>>⟧.at queue.new) (without_ends lasting key before waiting)) }
-    ensures marked { (s : List Queued) → ⟦<Queue as Tables<Entries>>⟧.marked queue.old s → ⟦<Queue as Tables<Entries>>⟧.marked queue.new s }
-    ensures waits { (o : List Queued) (i : ℕ) → ⟦<Queue as Tables<Entries>>⟧.waits queue.old o i → ⟦<Queue as Tables<Entries>>⟧.waits queue.new o i }
-    ensures ahead { ⟦<Queue as Tables<Entries>>⟧.ahead_costs queue.new ≡ ⟦<Queue as Tables<Entries>>⟧.ahead_costs queue.old }
-    ensures costs_stay { settled (⟦<Queue as Tables<Entries>>⟧.costs queue.new) ≡ settled (⟦<Queue as Tables<Entries>>⟧.costs queue.old) }
-    ensures costs { OnOk result (AtMostMore 2 (⟦<Queue as Tables<Entries>>⟧.costs queue.old) (⟦<Queue as Tables<Entries>>⟧.costs queue.new)) }
+    ensures others { ⟦<Queue as Tables<Entries>>⟧.others queue.new ≡ ⟦<Queue as Tables<Entries>>⟧.others queue.old }
+    ensures count { ⟦<Queue as Tables<Entries>>⟧.count queue.new + steps.old ≤ ⟦<Queue as Tables<Entries>>⟧.count queue.old + steps.new }
     ensures steps { OnOk result (steps.new ≤ steps.old + 2) }
 {
     match row {
@@ -111,11 +100,8 @@ pub(crate) fn replan<L: StepBook>(
 ) -> Result<(), NoMemory>
     ensures entries { OnOk result ((waiting : Waiting) (before : Option MembershipRow) → IsReplaced lasting made key row.now before waiting
         → HasEntries (⟦<Queue as Tables<Entries>>⟧.at queue.old) waiting → HasEntries (⟦<Queue as Tables<Entries>>⟧.at queue.new) (λ time due. enter_entry now lasting made key time due (waiting time due))) }
-    ensures marked { (s : List Queued) → ⟦<Queue as Tables<Entries>>⟧.marked queue.old s → ⟦<Queue as Tables<Entries>>⟧.marked queue.new s }
-    ensures waits { (o : List Queued) (i : ℕ) → ⟦<Queue as Tables<Entries>>⟧.waits queue.old o i → ⟦<Queue as Tables<Entries>>⟧.waits queue.new o i }
-    ensures ahead { ⟦<Queue as Tables<Entries>>⟧.ahead_costs queue.new ≡ ⟦<Queue as Tables<Entries>>⟧.ahead_costs queue.old }
-    ensures costs_stay { settled (⟦<Queue as Tables<Entries>>⟧.costs queue.new) ≡ settled (⟦<Queue as Tables<Entries>>⟧.costs queue.old) }
-    ensures costs { OnOk result (AtMostMore 4 (⟦<Queue as Tables<Entries>>⟧.costs queue.old) (⟦<Queue as Tables<Entries>>⟧.costs queue.new)) }
+    ensures others { ⟦<Queue as Tables<Entries>>⟧.others queue.new ≡ ⟦<Queue as Tables<Entries>>⟧.others queue.old }
+    ensures count { ⟦<Queue as Tables<Entries>>⟧.count queue.new + steps.old ≤ ⟦<Queue as Tables<Entries>>⟧.count queue.old + steps.new }
     ensures steps { OnOk result (steps.new ≤ steps.old + 4) }
 {
     take_ends_out(queue, row, key, lasting, steps)?;

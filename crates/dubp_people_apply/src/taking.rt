@@ -2,8 +2,6 @@ ghost use Rattle.std.specs.Prelude.{◌≡◌, ℕ, ◌+◌, ◌≤◌, List, �
 ghost use Rattle.std.specs.Ordering.{is_eq};
 ghost use Rattle.std.specs.BTreeSet.{contains, btree_set_len};
 ghost use Rattle.dubp_atoms.specs.Same.{same_text};
-ghost use Rattle.dubp_undo.specs.Numbers.{settled};
-ghost use Rattle.dubp_undo.specs.States.{AtMostMore};
 ghost use Rattle.dubp_block.specs.declared.block.Block.{Block as BlockValue};
 ghost use Rattle.dubp_chain.specs.Chains.{Chain};
 ghost use Rattle.dubp_validity.specs.Reduced.{set_ended};
@@ -20,7 +18,6 @@ ghost use Rattle.dubp_people_apply.specs.Counting.{revoked_by, ended_by, IsOneMo
 ghost use Rattle.dubp_people_apply.specs.Held.{Memberships, Certifications, HasMemberships, HasCertifications, HasEntries};
 ghost use Rattle.dubp_people_apply.specs.Taking.{IsSince, AreNoted, StandAs, IsBehindAny, HasAllTaken};
 
-use crate::certifications::put_row;
 use crate::ended::Ended;
 use crate::queue::take_out;
 use dubp_atoms::{Key, NoMemory, Steps};
@@ -51,11 +48,8 @@ fn revoke_row<L: StepBook>(
 ) -> Result<(), NoMemory>
     ensures rows { OnOk result ((rows : Memberships) → HasMemberships (⟦<MIndex as Tables<MemberRows>>⟧.at memberships.old) rows
         → HasMemberships (⟦<MIndex as Tables<MemberRows>>⟧.at memberships.new) (λ k. if same_text k key then option_map set_revoked (rows k) else rows k)) }
-    ensures memberships_marked { (s : List Members) → ⟦<MIndex as Tables<MemberRows>>⟧.marked memberships.old s → ⟦<MIndex as Tables<MemberRows>>⟧.marked memberships.new s }
-    ensures memberships_waits { (o : List Members) (i : ℕ) → ⟦<MIndex as Tables<MemberRows>>⟧.waits memberships.old o i → ⟦<MIndex as Tables<MemberRows>>⟧.waits memberships.new o i }
-    ensures memberships_ahead { ⟦<MIndex as Tables<MemberRows>>⟧.ahead_costs memberships.new ≡ ⟦<MIndex as Tables<MemberRows>>⟧.ahead_costs memberships.old }
-    ensures memberships_costs_stay { settled (⟦<MIndex as Tables<MemberRows>>⟧.costs memberships.new) ≡ settled (⟦<MIndex as Tables<MemberRows>>⟧.costs memberships.old) }
-    ensures costs { OnOk result (AtMostMore 1 (⟦<MIndex as Tables<MemberRows>>⟧.costs memberships.old) (⟦<MIndex as Tables<MemberRows>>⟧.costs memberships.new)) }
+    ensures memberships_others { ⟦<MIndex as Tables<MemberRows>>⟧.others memberships.new ≡ ⟦<MIndex as Tables<MemberRows>>⟧.others memberships.old }
+    ensures count { ⟦<MIndex as Tables<MemberRows>>⟧.count memberships.new + steps.old ≤ ⟦<MIndex as Tables<MemberRows>>⟧.count memberships.old + steps.new }
     ensures steps { OnOk result (steps.new ≤ steps.old + 1) }
 {
     match memberships.row(key) {
@@ -79,11 +73,8 @@ fn end_row<L: StepBook>(
 ) -> Result<(), NoMemory>
     ensures rows { OnOk result ((rows : Certifications) → HasCertifications (⟦<CIndex as Tables<CertRows>>⟧.at certifications.old) rows
         → HasCertifications (⟦<CIndex as Tables<CertRows>>⟧.at certifications.new) (λ x y. if same_text x from && same_text y to then option_map set_ended (rows x y) else rows x y)) }
-    ensures certifications_marked { (s : List Rows) → ⟦<CIndex as Tables<CertRows>>⟧.marked certifications.old s → ⟦<CIndex as Tables<CertRows>>⟧.marked certifications.new s }
-    ensures certifications_waits { (o : List Rows) (i : ℕ) → ⟦<CIndex as Tables<CertRows>>⟧.waits certifications.old o i → ⟦<CIndex as Tables<CertRows>>⟧.waits certifications.new o i }
-    ensures certifications_ahead { ⟦<CIndex as Tables<CertRows>>⟧.ahead_costs certifications.new ≡ ⟦<CIndex as Tables<CertRows>>⟧.ahead_costs certifications.old }
-    ensures certifications_costs_stay { settled (⟦<CIndex as Tables<CertRows>>⟧.costs certifications.new) ≡ settled (⟦<CIndex as Tables<CertRows>>⟧.costs certifications.old) }
-    ensures costs { OnOk result (AtMostMore 5 (⟦<CIndex as Tables<CertRows>>⟧.costs certifications.old) (⟦<CIndex as Tables<CertRows>>⟧.costs certifications.new)) }
+    ensures certifications_others { ⟦<CIndex as Tables<CertRows>>⟧.others certifications.new ≡ ⟦<CIndex as Tables<CertRows>>⟧.others certifications.old }
+    ensures count { ⟦<CIndex as Tables<CertRows>>⟧.count certifications.new + steps.old ≤ ⟦<CIndex as Tables<CertRows>>⟧.count certifications.old + steps.new }
     ensures steps { OnOk result (steps.new ≤ steps.old + 5) }
 {
     match certifications.row(from, to) {
@@ -93,7 +84,7 @@ fn end_row<L: StepBook>(
                 live: false,
                 ..before
             };
-            put_row(certifications, from, to, row, steps)
+            certifications.put_row(from, to, row, steps)
         }
     }
 }
@@ -109,17 +100,10 @@ fn change<L: StepBook>(
     ensures stand { OnOk result ((queue : QueueValue) (s : Standing) (time : ℕ) → HasEntries (⟦<Queue as Tables<Entries>>⟧.at queue) (take time (due_of due.now) s).queue
         → HasMemberships (⟦<MIndex as Tables<MemberRows>>⟧.at memberships.old) s.memberships → HasCertifications (⟦<CIndex as Tables<CertRows>>⟧.at certifications.old) s.certifications → AreNoted ended.old s.over s.revoked s.ended
         → StandAs (⟦<MIndex as Tables<MemberRows>>⟧.at memberships.new) (⟦<CIndex as Tables<CertRows>>⟧.at certifications.new) (⟦<Queue as Tables<Entries>>⟧.at queue) ended.new (take time (due_of due.now) s)) }
-    ensures memberships_marked { (s : List Members) → ⟦<MIndex as Tables<MemberRows>>⟧.marked memberships.old s → ⟦<MIndex as Tables<MemberRows>>⟧.marked memberships.new s }
-    ensures memberships_waits { (o : List Members) (i : ℕ) → ⟦<MIndex as Tables<MemberRows>>⟧.waits memberships.old o i → ⟦<MIndex as Tables<MemberRows>>⟧.waits memberships.new o i }
-    ensures memberships_ahead { ⟦<MIndex as Tables<MemberRows>>⟧.ahead_costs memberships.new ≡ ⟦<MIndex as Tables<MemberRows>>⟧.ahead_costs memberships.old }
-    ensures memberships_costs_stay { settled (⟦<MIndex as Tables<MemberRows>>⟧.costs memberships.new) ≡ settled (⟦<MIndex as Tables<MemberRows>>⟧.costs memberships.old) }
-    ensures certifications_marked { (s : List Rows) → ⟦<CIndex as Tables<CertRows>>⟧.marked certifications.old s → ⟦<CIndex as Tables<CertRows>>⟧.marked certifications.new s }
-    ensures certifications_waits { (o : List Rows) (i : ℕ) → ⟦<CIndex as Tables<CertRows>>⟧.waits certifications.old o i → ⟦<CIndex as Tables<CertRows>>⟧.waits certifications.new o i }
-    ensures certifications_ahead { ⟦<CIndex as Tables<CertRows>>⟧.ahead_costs certifications.new ≡ ⟦<CIndex as Tables<CertRows>>⟧.ahead_costs certifications.old }
-    ensures certifications_costs_stay { settled (⟦<CIndex as Tables<CertRows>>⟧.costs certifications.new) ≡ settled (⟦<CIndex as Tables<CertRows>>⟧.costs certifications.old) }
+    ensures memberships_others { ⟦<MIndex as Tables<MemberRows>>⟧.others memberships.new ≡ ⟦<MIndex as Tables<MemberRows>>⟧.others memberships.old }
+    ensures certifications_others { ⟦<CIndex as Tables<CertRows>>⟧.others certifications.new ≡ ⟦<CIndex as Tables<CertRows>>⟧.others certifications.old }
+    ensures count { ⟦<MIndex as Tables<MemberRows>>⟧.count memberships.new + ⟦<CIndex as Tables<CertRows>>⟧.count certifications.new + steps.old ≤ ⟦<MIndex as Tables<MemberRows>>⟧.count memberships.old + ⟦<CIndex as Tables<CertRows>>⟧.count certifications.old + steps.new }
     ensures more { OnOk result ((s : Standing) → AreNoted ended.old s.over s.revoked s.ended → is_noted s (due_of due.now) ≡ false → IsOneMore (due_of due.now) ended.old ended.new) }
-    ensures memberships_costs { OnOk result (AtMostMore (revoked_by (due_of due.now)) (⟦<MIndex as Tables<MemberRows>>⟧.costs memberships.old) (⟦<MIndex as Tables<MemberRows>>⟧.costs memberships.new)) }
-    ensures certifications_costs { OnOk result (AtMostMore (5 * ended_by (due_of due.now)) (⟦<CIndex as Tables<CertRows>>⟧.costs certifications.old) (⟦<CIndex as Tables<CertRows>>⟧.costs certifications.new)) }
     ensures steps { OnOk result (steps.new ≤ steps.old + (revoked_by (due_of due.now) + 5 * ended_by (due_of due.now))) }
 {
     match due {
@@ -147,22 +131,11 @@ fn take_one<L: StepBook>(
 ) -> Result<(), NoMemory>
     ensures stand { OnOk result ((s : Standing) → StandAs (⟦<MIndex as Tables<MemberRows>>⟧.at memberships.old) (⟦<CIndex as Tables<CertRows>>⟧.at certifications.old) (⟦<Queue as Tables<Entries>>⟧.at queue.old) ended.old s
         → StandAs (⟦<MIndex as Tables<MemberRows>>⟧.at memberships.new) (⟦<CIndex as Tables<CertRows>>⟧.at certifications.new) (⟦<Queue as Tables<Entries>>⟧.at queue.new) ended.new (take time (due_of due.now) s)) }
-    ensures memberships_marked { (s : List Members) → ⟦<MIndex as Tables<MemberRows>>⟧.marked memberships.old s → ⟦<MIndex as Tables<MemberRows>>⟧.marked memberships.new s }
-    ensures memberships_waits { (o : List Members) (i : ℕ) → ⟦<MIndex as Tables<MemberRows>>⟧.waits memberships.old o i → ⟦<MIndex as Tables<MemberRows>>⟧.waits memberships.new o i }
-    ensures memberships_ahead { ⟦<MIndex as Tables<MemberRows>>⟧.ahead_costs memberships.new ≡ ⟦<MIndex as Tables<MemberRows>>⟧.ahead_costs memberships.old }
-    ensures memberships_costs_stay { settled (⟦<MIndex as Tables<MemberRows>>⟧.costs memberships.new) ≡ settled (⟦<MIndex as Tables<MemberRows>>⟧.costs memberships.old) }
-    ensures certifications_marked { (s : List Rows) → ⟦<CIndex as Tables<CertRows>>⟧.marked certifications.old s → ⟦<CIndex as Tables<CertRows>>⟧.marked certifications.new s }
-    ensures certifications_waits { (o : List Rows) (i : ℕ) → ⟦<CIndex as Tables<CertRows>>⟧.waits certifications.old o i → ⟦<CIndex as Tables<CertRows>>⟧.waits certifications.new o i }
-    ensures certifications_ahead { ⟦<CIndex as Tables<CertRows>>⟧.ahead_costs certifications.new ≡ ⟦<CIndex as Tables<CertRows>>⟧.ahead_costs certifications.old }
-    ensures certifications_costs_stay { settled (⟦<CIndex as Tables<CertRows>>⟧.costs certifications.new) ≡ settled (⟦<CIndex as Tables<CertRows>>⟧.costs certifications.old) }
-    ensures queue_marked { (s : List Queued) → ⟦<Queue as Tables<Entries>>⟧.marked queue.old s → ⟦<Queue as Tables<Entries>>⟧.marked queue.new s }
-    ensures queue_waits { (o : List Queued) (i : ℕ) → ⟦<Queue as Tables<Entries>>⟧.waits queue.old o i → ⟦<Queue as Tables<Entries>>⟧.waits queue.new o i }
-    ensures queue_ahead { ⟦<Queue as Tables<Entries>>⟧.ahead_costs queue.new ≡ ⟦<Queue as Tables<Entries>>⟧.ahead_costs queue.old }
-    ensures queue_costs_stay { settled (⟦<Queue as Tables<Entries>>⟧.costs queue.new) ≡ settled (⟦<Queue as Tables<Entries>>⟧.costs queue.old) }
+    ensures memberships_others { ⟦<MIndex as Tables<MemberRows>>⟧.others memberships.new ≡ ⟦<MIndex as Tables<MemberRows>>⟧.others memberships.old }
+    ensures certifications_others { ⟦<CIndex as Tables<CertRows>>⟧.others certifications.new ≡ ⟦<CIndex as Tables<CertRows>>⟧.others certifications.old }
+    ensures queue_others { ⟦<Queue as Tables<Entries>>⟧.others queue.new ≡ ⟦<Queue as Tables<Entries>>⟧.others queue.old }
+    ensures count { ⟦<MIndex as Tables<MemberRows>>⟧.count memberships.new + ⟦<CIndex as Tables<CertRows>>⟧.count certifications.new + ⟦<Queue as Tables<Entries>>⟧.count queue.new + steps.old ≤ ⟦<MIndex as Tables<MemberRows>>⟧.count memberships.old + ⟦<CIndex as Tables<CertRows>>⟧.count certifications.old + ⟦<Queue as Tables<Entries>>⟧.count queue.old + steps.new }
     ensures more { OnOk result ((s : Standing) → AreNoted ended.old s.over s.revoked s.ended → is_noted s (due_of due.now) ≡ false → IsOneMore (due_of due.now) ended.old ended.new) }
-    ensures memberships_costs { OnOk result (AtMostMore (revoked_by (due_of due.now)) (⟦<MIndex as Tables<MemberRows>>⟧.costs memberships.old) (⟦<MIndex as Tables<MemberRows>>⟧.costs memberships.new)) }
-    ensures certifications_costs { OnOk result (AtMostMore (5 * ended_by (due_of due.now)) (⟦<CIndex as Tables<CertRows>>⟧.costs certifications.old) (⟦<CIndex as Tables<CertRows>>⟧.costs certifications.new)) }
-    ensures queue_costs { OnOk result (AtMostMore 1 (⟦<Queue as Tables<Entries>>⟧.costs queue.old) (⟦<Queue as Tables<Entries>>⟧.costs queue.new)) }
     ensures steps { OnOk result (steps.new ≤ steps.old + (1 + (revoked_by (due_of due.now) + 5 * ended_by (due_of due.now)))) }
 {
     take_out(queue, time, *due, steps)?;
@@ -206,21 +179,13 @@ pub fn take_due<L: StepBook>(
     ensures taken { OnOk result ((c : Chain) (b : BlockValue) (s : Standing) → IsSound (b ∷ c) → IsSince c since → next.now.time ≡ now_of c b → IsTaking c b s
         → StandAs (⟦<MIndex as Tables<MemberRows>>⟧.at memberships.old) (⟦<CIndex as Tables<CertRows>>⟧.at certifications.old) (⟦<Queue as Tables<Entries>>⟧.at queue.old) ended.old s
         → HasAllTaken c b (⟦<MIndex as Tables<MemberRows>>⟧.at memberships.new) (⟦<CIndex as Tables<CertRows>>⟧.at certifications.new) (⟦<Queue as Tables<Entries>>⟧.at queue.new) ended.new) }
-    ensures memberships_marked { (s : List Members) → ⟦<MIndex as Tables<MemberRows>>⟧.marked memberships.old s → ⟦<MIndex as Tables<MemberRows>>⟧.marked memberships.new s }
-    ensures memberships_waits { (o : List Members) (i : ℕ) → ⟦<MIndex as Tables<MemberRows>>⟧.waits memberships.old o i → ⟦<MIndex as Tables<MemberRows>>⟧.waits memberships.new o i }
-    ensures memberships_ahead { ⟦<MIndex as Tables<MemberRows>>⟧.ahead_costs memberships.new ≡ ⟦<MIndex as Tables<MemberRows>>⟧.ahead_costs memberships.old }
-    ensures memberships_costs_stay { settled (⟦<MIndex as Tables<MemberRows>>⟧.costs memberships.new) ≡ settled (⟦<MIndex as Tables<MemberRows>>⟧.costs memberships.old) }
-    ensures certifications_marked { (s : List Rows) → ⟦<CIndex as Tables<CertRows>>⟧.marked certifications.old s → ⟦<CIndex as Tables<CertRows>>⟧.marked certifications.new s }
-    ensures certifications_waits { (o : List Rows) (i : ℕ) → ⟦<CIndex as Tables<CertRows>>⟧.waits certifications.old o i → ⟦<CIndex as Tables<CertRows>>⟧.waits certifications.new o i }
-    ensures certifications_ahead { ⟦<CIndex as Tables<CertRows>>⟧.ahead_costs certifications.new ≡ ⟦<CIndex as Tables<CertRows>>⟧.ahead_costs certifications.old }
-    ensures certifications_costs_stay { settled (⟦<CIndex as Tables<CertRows>>⟧.costs certifications.new) ≡ settled (⟦<CIndex as Tables<CertRows>>⟧.costs certifications.old) }
-    ensures queue_marked { (s : List Queued) → ⟦<Queue as Tables<Entries>>⟧.marked queue.old s → ⟦<Queue as Tables<Entries>>⟧.marked queue.new s }
-    ensures queue_waits { (o : List Queued) (i : ℕ) → ⟦<Queue as Tables<Entries>>⟧.waits queue.old o i → ⟦<Queue as Tables<Entries>>⟧.waits queue.new o i }
-    ensures queue_ahead { ⟦<Queue as Tables<Entries>>⟧.ahead_costs queue.new ≡ ⟦<Queue as Tables<Entries>>⟧.ahead_costs queue.old }
-    ensures queue_costs_stay { settled (⟦<Queue as Tables<Entries>>⟧.costs queue.new) ≡ settled (⟦<Queue as Tables<Entries>>⟧.costs queue.old) }
+    ensures memberships_others { ⟦<MIndex as Tables<MemberRows>>⟧.others memberships.new ≡ ⟦<MIndex as Tables<MemberRows>>⟧.others memberships.old }
+    ensures certifications_others { ⟦<CIndex as Tables<CertRows>>⟧.others certifications.new ≡ ⟦<CIndex as Tables<CertRows>>⟧.others certifications.old }
+    ensures queue_others { ⟦<Queue as Tables<Entries>>⟧.others queue.new ≡ ⟦<Queue as Tables<Entries>>⟧.others queue.old }
+    ensures count { ⟦<MIndex as Tables<MemberRows>>⟧.count memberships.new + ⟦<CIndex as Tables<CertRows>>⟧.count certifications.new + ⟦<Queue as Tables<Entries>>⟧.count queue.new + steps.old ≤ ⟦<MIndex as Tables<MemberRows>>⟧.count memberships.old + ⟦<CIndex as Tables<CertRows>>⟧.count certifications.old + ⟦<Queue as Tables<Entries>>⟧.count queue.old + steps.new }
     ensures counted { OnOk result ((c : Chain) (b : BlockValue) (s : Standing) → IsSound (b ∷ c) → IsSince c since → next.now.time ≡ now_of c b → IsTaking c b s
         → StandAs (⟦<MIndex as Tables<MemberRows>>⟧.at memberships.old) (⟦<CIndex as Tables<CertRows>>⟧.at certifications.old) (⟦<Queue as Tables<Entries>>⟧.at queue.old) ended.old s
-        → IsCounted ended.old ended.new (⟦<MIndex as Tables<MemberRows>>⟧.costs memberships.old) (⟦<MIndex as Tables<MemberRows>>⟧.costs memberships.new) (⟦<CIndex as Tables<CertRows>>⟧.costs certifications.old) (⟦<CIndex as Tables<CertRows>>⟧.costs certifications.new) (⟦<Queue as Tables<Entries>>⟧.costs queue.old) (⟦<Queue as Tables<Entries>>⟧.costs queue.new) steps.old steps.new) }
+        → IsCounted ended.old ended.new steps.old steps.new) }
 {
     let mut behind = place_of(since);
     // One entry a turn: no queue has as many.

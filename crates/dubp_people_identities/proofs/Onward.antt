@@ -1,38 +1,15 @@
--- What holds of the index of identities behind some of the lines, and how the parts of it join.
+-- The rows of identities behind some of the lines of a block, and behind all of them.
 use Rattle.std.proofs.Common.{◌≡◌, ℕ, zero, suc, ◌+◌, ◌<◌, ◌≤◌, List, [], ◌∷◌, length, take, fold, refl, sym, ap, subst, ◌∙◌, arith}
 use Rattle.std.specs.Prelude.{get_or}
 use Rattle.std.proofs.lemmas.List.Sums.{fold_more}
-use Rattle.dubp_undo.specs.Numbers.{add_last, settled}
-use Rattle.dubp_undo.specs.States.{AtMostMore, states}
+use Rattle.dubp_undo.specs.States.{states}
 use Rattle.dubp_chain.specs.Chains.{Chain}
 use Rattle.dubp_left.specs.Left.{identities_left}
-use Rattle.dubp_undo.proofs.Numbers.{add_last-add_last, settled-add_last}
 use Rattle.dubp_block.specs.declared.block.IdentityLine.{IdentityLine}
 use Rattle.dubp_iindex.specs.declared.index.IIndex.{IIndex}
 use Rattle.dubp_iindex.specs.contracts.index.IIndexTablesIdentityRows.TheImpl as tables
 use Rattle.dubp_iindex.specs.Rows.{Rows}
 use Rattle.dubp_people_identities.specs.Writing.{created, IsNewLine, AreNewLines}
-
-pub none_more : (n : ℕ) (ns : List ℕ) → AtMostMore n ns ns
-none_more n ns = record { more = 0; most = omega arith; is = nothing ns }
-  where
-    nothing : (ns : List ℕ) → ns ≡ add_last 0 ns
-    nothing [] = refl
-    nothing (m ∷ []) = ap (λ x. x ∷ []) (omega arith)
-    nothing (l ∷ m ∷ ns) = ap (λ x. l ∷ x) (nothing (m ∷ ns))
-
-pub more_and_more : {a b n : ℕ} {x y z : List ℕ} → a + b ≡ n → AtMostMore a x y → AtMostMore b y z → AtMostMore n x z
-more_and_more {x = x} e p q = record { more = p.more + q.more; most = omega (arith, p.most, q.most, e); is = q.is ∙ ap (add_last q.more) p.is ∙ add_last-add_last p.more q.more x }
-
-pub more_settled : {n : ℕ} {x y : List ℕ} → AtMostMore n x y → settled y ≡ settled x
-more_settled {x = x} p = ap settled p.is ∙ settled-add_last p.more x
-
--- what is marked and what waits stay, and so many keys were set at most
-pub record IsOnward (n : ℕ) (old now : IIndex) : Type 0 where
-  pub marked : (s : List Rows) → (tables.ghosts).marked old s → (tables.ghosts).marked now s
-  pub waits : (o : List Rows) (i : ℕ) → (tables.ghosts).waits old o i → (tables.ghosts).waits now o i
-  pub ahead : (tables.ghosts).ahead_costs now ≡ (tables.ghosts).ahead_costs old
-  pub costs : AtMostMore n ((tables.ghosts).costs old) ((tables.ghosts).costs now)
 
 -- the line at hand is new behind the lines before it
 pub new_at : (number : ℕ) (lines : List IdentityLine) (rows : Rows) (i : ℕ) (line : IdentityLine) → AreNewLines number rows lines → i < length lines → line ≡ get_or lines i line → IsNewLine (fold (created number) rows (take i lines)) line

@@ -1,10 +1,8 @@
 ghost use Rattle.std.specs.Prelude.{◌≡◌, ℕ, ◌+◌, ◌*◌, ◌≤◌, List, ◌∷◌, Bool, false, fold, length, OnOk, OnErr};
-ghost use Rattle.dubp_undo.specs.Numbers.{settled};
-ghost use Rattle.dubp_undo.specs.States.{states, AtMostMore};
+ghost use Rattle.dubp_undo.specs.States.{states};
 ghost use Rattle.dubp_chain.specs.Chains.{Chain};
 ghost use Rattle.dubp_left.specs.OfValidity.{IsSound};
-ghost use Rattle.std.specs.FinMap.{insert};
-ghost use Rattle.dubp_iindex.specs.Rows.{Rows, FitsRows};
+ghost use Rattle.dubp_iindex.specs.Rows.{Rows};
 ghost use Rattle.dubp_left.specs.Left.{identities_left};
 ghost use Rattle.dubp_people_identities.specs.Writing.{row_of, created, with_member, joined, UidsApart, IsNewLine, AreNewLines, most_sets};
 
@@ -16,18 +14,15 @@ use std::sync::ledger::Ledger as StepBook;
 
 /// Writes what the block makes of the identities: at most 4 steps for each line of Identities, Joiners and Excluded.
 ///
-/// What is marked stays so. `NoMemory` leaves the index between two lines.
+/// What is kept stays so. `NoMemory` leaves the index between two lines.
 pub fn write_identities<L: StepBook>(
     index: &mut IIndex,
     block: &Block,
     steps: &mut Steps<L>,
 ) -> Result<(), NoMemory>
     ensures at { OnOk result ((c : Chain) → IsSound (block.now ∷ c) → ⟦<IIndex as Tables<IdentityRows>>⟧.at index.old (states identities_left c) → ⟦<IIndex as Tables<IdentityRows>>⟧.at index.new (states identities_left (block.now ∷ c))) }
-    ensures marked { (s : List Rows) → ⟦<IIndex as Tables<IdentityRows>>⟧.marked index.old s → ⟦<IIndex as Tables<IdentityRows>>⟧.marked index.new s }
-    ensures waits { (o : List Rows) (i : ℕ) → ⟦<IIndex as Tables<IdentityRows>>⟧.waits index.old o i → ⟦<IIndex as Tables<IdentityRows>>⟧.waits index.new o i }
-    ensures ahead { ⟦<IIndex as Tables<IdentityRows>>⟧.ahead_costs index.new ≡ ⟦<IIndex as Tables<IdentityRows>>⟧.ahead_costs index.old }
-    ensures costs_stay { settled (⟦<IIndex as Tables<IdentityRows>>⟧.costs index.new) ≡ settled (⟦<IIndex as Tables<IdentityRows>>⟧.costs index.old) }
-    ensures costs { OnOk result (AtMostMore (most_sets block.now) (⟦<IIndex as Tables<IdentityRows>>⟧.costs index.old) (⟦<IIndex as Tables<IdentityRows>>⟧.costs index.new)) }
+    ensures others { ⟦<IIndex as Tables<IdentityRows>>⟧.others index.new ≡ ⟦<IIndex as Tables<IdentityRows>>⟧.others index.old }
+    ensures count { ⟦<IIndex as Tables<IdentityRows>>⟧.count index.new + steps.old ≤ ⟦<IIndex as Tables<IdentityRows>>⟧.count index.old + steps.new }
     ensures steps { OnOk result (steps.new ≤ steps.old + most_sets block.now) }
 {
     create_all(index, block.number, block.identities.as_slice(), steps)?;
@@ -44,11 +39,8 @@ fn create_all<L: StepBook>(
     steps: &mut Steps<L>,
 ) -> Result<(), NoMemory>
     ensures at { OnOk result ((rows : Rows) (t : List Rows) → AreNewLines number rows lines.now → ⟦<IIndex as Tables<IdentityRows>>⟧.at index.old (rows ∷ t) → ⟦<IIndex as Tables<IdentityRows>>⟧.at index.new (fold (created number) rows lines.now ∷ t)) }
-    ensures marked { (s : List Rows) → ⟦<IIndex as Tables<IdentityRows>>⟧.marked index.old s → ⟦<IIndex as Tables<IdentityRows>>⟧.marked index.new s }
-    ensures waits { (o : List Rows) (i : ℕ) → ⟦<IIndex as Tables<IdentityRows>>⟧.waits index.old o i → ⟦<IIndex as Tables<IdentityRows>>⟧.waits index.new o i }
-    ensures ahead { ⟦<IIndex as Tables<IdentityRows>>⟧.ahead_costs index.new ≡ ⟦<IIndex as Tables<IdentityRows>>⟧.ahead_costs index.old }
-    ensures costs_stay { settled (⟦<IIndex as Tables<IdentityRows>>⟧.costs index.new) ≡ settled (⟦<IIndex as Tables<IdentityRows>>⟧.costs index.old) }
-    ensures costs { OnOk result (AtMostMore (4 * length lines.now) (⟦<IIndex as Tables<IdentityRows>>⟧.costs index.old) (⟦<IIndex as Tables<IdentityRows>>⟧.costs index.new)) }
+    ensures others { ⟦<IIndex as Tables<IdentityRows>>⟧.others index.new ≡ ⟦<IIndex as Tables<IdentityRows>>⟧.others index.old }
+    ensures count { ⟦<IIndex as Tables<IdentityRows>>⟧.count index.new + steps.old ≤ ⟦<IIndex as Tables<IdentityRows>>⟧.count index.old + steps.new }
     ensures steps { OnOk result (steps.new ≤ steps.old + 4 * length lines.now) }
 {
     for line in lines {
@@ -65,11 +57,8 @@ fn create<L: StepBook>(
     steps: &mut Steps<L>,
 ) -> Result<(), NoMemory>
     ensures at { OnOk result ((rows : Rows) (t : List Rows) → IsNewLine rows line.now → ⟦<IIndex as Tables<IdentityRows>>⟧.at index.old (rows ∷ t) → ⟦<IIndex as Tables<IdentityRows>>⟧.at index.new (created number rows line.now ∷ t)) }
-    ensures marked { (s : List Rows) → ⟦<IIndex as Tables<IdentityRows>>⟧.marked index.old s → ⟦<IIndex as Tables<IdentityRows>>⟧.marked index.new s }
-    ensures waits { (o : List Rows) (i : ℕ) → ⟦<IIndex as Tables<IdentityRows>>⟧.waits index.old o i → ⟦<IIndex as Tables<IdentityRows>>⟧.waits index.new o i }
-    ensures ahead { ⟦<IIndex as Tables<IdentityRows>>⟧.ahead_costs index.new ≡ ⟦<IIndex as Tables<IdentityRows>>⟧.ahead_costs index.old }
-    ensures costs_stay { settled (⟦<IIndex as Tables<IdentityRows>>⟧.costs index.new) ≡ settled (⟦<IIndex as Tables<IdentityRows>>⟧.costs index.old) }
-    ensures costs { OnOk result (AtMostMore 4 (⟦<IIndex as Tables<IdentityRows>>⟧.costs index.old) (⟦<IIndex as Tables<IdentityRows>>⟧.costs index.new)) }
+    ensures others { ⟦<IIndex as Tables<IdentityRows>>⟧.others index.new ≡ ⟦<IIndex as Tables<IdentityRows>>⟧.others index.old }
+    ensures count { ⟦<IIndex as Tables<IdentityRows>>⟧.count index.new + steps.old ≤ ⟦<IIndex as Tables<IdentityRows>>⟧.count index.old + steps.new }
     ensures steps { OnOk result (steps.new ≤ steps.old + 4) }
 {
     let row = IdentityRow {
@@ -79,27 +68,7 @@ fn create<L: StepBook>(
         written: number,
         member: false,
     };
-    put(index, line.key, row, steps)?;
-    Ok(())
-}
-
-/// Puts the row.
-fn put<L: StepBook>(
-    index: &mut IIndex,
-    key: Key,
-    row: IdentityRow,
-    steps: &mut Steps<L>,
-) -> Result<(), NoMemory>
-    ensures at { OnOk result ((rows : Rows) (t : List Rows) → FitsRows rows key row → ⟦<IIndex as Tables<IdentityRows>>⟧.at index.old (rows ∷ t) → ⟦<IIndex as Tables<IdentityRows>>⟧.at index.new (insert rows key row ∷ t)) }
-    ensures marked { (s : List Rows) → ⟦<IIndex as Tables<IdentityRows>>⟧.marked index.old s → ⟦<IIndex as Tables<IdentityRows>>⟧.marked index.new s }
-    ensures waits { (o : List Rows) (i : ℕ) → ⟦<IIndex as Tables<IdentityRows>>⟧.waits index.old o i → ⟦<IIndex as Tables<IdentityRows>>⟧.waits index.new o i }
-    ensures ahead { ⟦<IIndex as Tables<IdentityRows>>⟧.ahead_costs index.new ≡ ⟦<IIndex as Tables<IdentityRows>>⟧.ahead_costs index.old }
-    ensures costs_stay { settled (⟦<IIndex as Tables<IdentityRows>>⟧.costs index.new) ≡ settled (⟦<IIndex as Tables<IdentityRows>>⟧.costs index.old) }
-    ensures costs { OnOk result (AtMostMore 4 (⟦<IIndex as Tables<IdentityRows>>⟧.costs index.old) (⟦<IIndex as Tables<IdentityRows>>⟧.costs index.new)) }
-    ensures steps { OnOk result (steps.new ≤ steps.old + 4) }
-{
-    index.laws();
-    index.put_row(key, row, steps)?;
+    index.put_row(line.key, row, steps)?;
     Ok(())
 }
 
@@ -110,11 +79,8 @@ fn join_all<L: StepBook>(
     steps: &mut Steps<L>,
 ) -> Result<(), NoMemory>
     ensures at { OnOk result ((rows : Rows) (t : List Rows) → UidsApart rows → ⟦<IIndex as Tables<IdentityRows>>⟧.at index.old (rows ∷ t) → ⟦<IIndex as Tables<IdentityRows>>⟧.at index.new (fold joined rows lines.now ∷ t)) }
-    ensures marked { (s : List Rows) → ⟦<IIndex as Tables<IdentityRows>>⟧.marked index.old s → ⟦<IIndex as Tables<IdentityRows>>⟧.marked index.new s }
-    ensures waits { (o : List Rows) (i : ℕ) → ⟦<IIndex as Tables<IdentityRows>>⟧.waits index.old o i → ⟦<IIndex as Tables<IdentityRows>>⟧.waits index.new o i }
-    ensures ahead { ⟦<IIndex as Tables<IdentityRows>>⟧.ahead_costs index.new ≡ ⟦<IIndex as Tables<IdentityRows>>⟧.ahead_costs index.old }
-    ensures costs_stay { settled (⟦<IIndex as Tables<IdentityRows>>⟧.costs index.new) ≡ settled (⟦<IIndex as Tables<IdentityRows>>⟧.costs index.old) }
-    ensures costs { OnOk result (AtMostMore (4 * length lines.now) (⟦<IIndex as Tables<IdentityRows>>⟧.costs index.old) (⟦<IIndex as Tables<IdentityRows>>⟧.costs index.new)) }
+    ensures others { ⟦<IIndex as Tables<IdentityRows>>⟧.others index.new ≡ ⟦<IIndex as Tables<IdentityRows>>⟧.others index.old }
+    ensures count { ⟦<IIndex as Tables<IdentityRows>>⟧.count index.new + steps.old ≤ ⟦<IIndex as Tables<IdentityRows>>⟧.count index.old + steps.new }
     ensures steps { OnOk result (steps.new ≤ steps.old + 4 * length lines.now) }
 {
     for line in lines {
@@ -130,11 +96,8 @@ fn exclude_all<L: StepBook>(
     steps: &mut Steps<L>,
 ) -> Result<(), NoMemory>
     ensures at { OnOk result ((rows : Rows) (t : List Rows) → UidsApart rows → ⟦<IIndex as Tables<IdentityRows>>⟧.at index.old (rows ∷ t) → ⟦<IIndex as Tables<IdentityRows>>⟧.at index.new (fold (with_member false) rows keys.now ∷ t)) }
-    ensures marked { (s : List Rows) → ⟦<IIndex as Tables<IdentityRows>>⟧.marked index.old s → ⟦<IIndex as Tables<IdentityRows>>⟧.marked index.new s }
-    ensures waits { (o : List Rows) (i : ℕ) → ⟦<IIndex as Tables<IdentityRows>>⟧.waits index.old o i → ⟦<IIndex as Tables<IdentityRows>>⟧.waits index.new o i }
-    ensures ahead { ⟦<IIndex as Tables<IdentityRows>>⟧.ahead_costs index.new ≡ ⟦<IIndex as Tables<IdentityRows>>⟧.ahead_costs index.old }
-    ensures costs_stay { settled (⟦<IIndex as Tables<IdentityRows>>⟧.costs index.new) ≡ settled (⟦<IIndex as Tables<IdentityRows>>⟧.costs index.old) }
-    ensures costs { OnOk result (AtMostMore (4 * length keys.now) (⟦<IIndex as Tables<IdentityRows>>⟧.costs index.old) (⟦<IIndex as Tables<IdentityRows>>⟧.costs index.new)) }
+    ensures others { ⟦<IIndex as Tables<IdentityRows>>⟧.others index.new ≡ ⟦<IIndex as Tables<IdentityRows>>⟧.others index.old }
+    ensures count { ⟦<IIndex as Tables<IdentityRows>>⟧.count index.new + steps.old ≤ ⟦<IIndex as Tables<IdentityRows>>⟧.count index.old + steps.new }
     ensures steps { OnOk result (steps.new ≤ steps.old + 4 * length keys.now) }
 {
     for key in keys {
@@ -151,16 +114,13 @@ fn set_member<L: StepBook>(
     steps: &mut Steps<L>,
 ) -> Result<(), NoMemory>
     ensures at { OnOk result ((rows : Rows) (t : List Rows) → UidsApart rows → ⟦<IIndex as Tables<IdentityRows>>⟧.at index.old (rows ∷ t) → ⟦<IIndex as Tables<IdentityRows>>⟧.at index.new (with_member member rows key ∷ t)) }
-    ensures marked { (s : List Rows) → ⟦<IIndex as Tables<IdentityRows>>⟧.marked index.old s → ⟦<IIndex as Tables<IdentityRows>>⟧.marked index.new s }
-    ensures waits { (o : List Rows) (i : ℕ) → ⟦<IIndex as Tables<IdentityRows>>⟧.waits index.old o i → ⟦<IIndex as Tables<IdentityRows>>⟧.waits index.new o i }
-    ensures ahead { ⟦<IIndex as Tables<IdentityRows>>⟧.ahead_costs index.new ≡ ⟦<IIndex as Tables<IdentityRows>>⟧.ahead_costs index.old }
-    ensures costs_stay { settled (⟦<IIndex as Tables<IdentityRows>>⟧.costs index.new) ≡ settled (⟦<IIndex as Tables<IdentityRows>>⟧.costs index.old) }
-    ensures costs { OnOk result (AtMostMore 4 (⟦<IIndex as Tables<IdentityRows>>⟧.costs index.old) (⟦<IIndex as Tables<IdentityRows>>⟧.costs index.new)) }
+    ensures others { ⟦<IIndex as Tables<IdentityRows>>⟧.others index.new ≡ ⟦<IIndex as Tables<IdentityRows>>⟧.others index.old }
+    ensures count { ⟦<IIndex as Tables<IdentityRows>>⟧.count index.new + steps.old ≤ ⟦<IIndex as Tables<IdentityRows>>⟧.count index.old + steps.new }
     ensures steps { OnOk result (steps.new ≤ steps.old + 4) }
 {
     match index.row(key) {
         Some(row) => {
-            put(index, key, IdentityRow { member, ..row }, steps)?;
+            index.put_row(key, IdentityRow { member, ..row }, steps)?;
             Ok(())
         }
         None => Ok(()),

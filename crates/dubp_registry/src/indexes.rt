@@ -46,34 +46,26 @@ pub struct Indexes {
 }
 
 impl Tables<Block> for Indexes {
-    ghost costs = { λ t. ⟦<IndexTables as Tables<Block>>⟧.costs t.tables };
+    ghost Now = { ⟦<IndexTables as Tables<Block>>⟧.Now };
 
-    ghost ahead_costs = { λ t. ⟦<IndexTables as Tables<Block>>⟧.ahead_costs t.tables };
+    ghost Names = { ⟦<IndexTables as Tables<Block>>⟧.Names };
 
-    ghost at = { λ t c. ⟦<IndexTables as Tables<Block>>⟧.at t.tables c };
+    ghost now = { λ t. ⟦<IndexTables as Tables<Block>>⟧.now t.tables };
 
-    ghost stands = { λ t c. ⟦<IndexTables as Tables<Block>>⟧.stands t.tables c };
+    ghost count = { λ t. ⟦<IndexTables as Tables<Block>>⟧.count t.tables };
 
-    ghost marked = { λ t c. ⟦<IndexTables as Tables<Block>>⟧.marked t.tables c };
-
-    ghost waits = { λ t o i. ⟦<IndexTables as Tables<Block>>⟧.waits t.tables o i };
-
-    ghost same = { λ t u. ⟦<IndexTables as Tables<Block>>⟧.same t.tables u.tables };
-
-    ghost marks = { λ t u. ⟦<IndexTables as Tables<Block>>⟧.marks t.tables u.tables };
-
-    ghost keeps = { λ t u. ⟦<IndexTables as Tables<Block>>⟧.keeps t.tables u.tables };
+    ghost others = { λ t. ⟦<IndexTables as Tables<Block>>⟧.others t.tables };
 
     ghost spare = { λ t. ⟦<IndexTables as Tables<Block>>⟧.spare t.tables };
 
-    ghost room = { λ t. ⟦<IndexTables as Tables<Block>>⟧.room t.tables };
+    ghost names = { λ t. ⟦<IndexTables as Tables<Block>>⟧.names t.tables };
+
+    ghost is = { ⟦<IndexTables as Tables<Block>>⟧.is };
+
+    ghost at = { λ t c. ⟦<IndexTables as Tables<Block>>⟧.at t.tables c };
 
     fn depth(&self) -> usize {
         self.tables.depth()
-    }
-
-    fn laws(&self) {
-        self.tables.laws();
     }
 
     fn mark(&mut self) -> Result<(), NoMemory> {
@@ -109,15 +101,19 @@ impl Tables<Block> for Indexes {
     fn drop_ahead(&mut self) {
         self.tables.drop_ahead();
     }
+
+    ghost is_at = { λ t c is. is };
+
+    ghost at_is = { λ t c is. is };
 }
 
 impl Indexes {
     /// Those of the empty chain. It takes no memory.
     pub fn new(alloc: Global) -> Indexes
-        ensures stands { ⟦<Indexes as Tables<Block>>⟧.stands result [] }
-        ensures costs { ⟦<Indexes as Tables<Block>>⟧.costs result ≡ [] }
-        ensures ahead { ⟦<Indexes as Tables<Block>>⟧.ahead_costs result ≡ [] }
-        ensures waits { (o : Chain) → ⟦<Indexes as Tables<Block>>⟧.waits result o 0 }
+        ensures at { ⟦<Indexes as Tables<Block>>⟧.at result [] }
+        ensures count { ⟦<Indexes as Tables<Block>>⟧.count result ≡ 0 }
+        ensures kept { (⟦<Indexes as Tables<Block>>⟧.others result).kept ≡ [] }
+        ensures ahead { (⟦<Indexes as Tables<Block>>⟧.others result).ahead ≡ [] }
     {
         Indexes {
             tables: Three::new(

@@ -37,34 +37,26 @@ pub struct Others {
 }
 
 impl Tables<Block> for Others {
-    ghost costs = { λ t. ⟦<OtherTables as Tables<Block>>⟧.costs t.tables };
+    ghost Now = { ⟦<OtherTables as Tables<Block>>⟧.Now };
 
-    ghost ahead_costs = { λ t. ⟦<OtherTables as Tables<Block>>⟧.ahead_costs t.tables };
+    ghost Names = { ⟦<OtherTables as Tables<Block>>⟧.Names };
 
-    ghost at = { λ t c. ⟦<OtherTables as Tables<Block>>⟧.at t.tables c };
+    ghost now = { λ t. ⟦<OtherTables as Tables<Block>>⟧.now t.tables };
 
-    ghost stands = { λ t c. ⟦<OtherTables as Tables<Block>>⟧.stands t.tables c };
+    ghost count = { λ t. ⟦<OtherTables as Tables<Block>>⟧.count t.tables };
 
-    ghost marked = { λ t c. ⟦<OtherTables as Tables<Block>>⟧.marked t.tables c };
-
-    ghost waits = { λ t o i. ⟦<OtherTables as Tables<Block>>⟧.waits t.tables o i };
-
-    ghost same = { λ t u. ⟦<OtherTables as Tables<Block>>⟧.same t.tables u.tables };
-
-    ghost marks = { λ t u. ⟦<OtherTables as Tables<Block>>⟧.marks t.tables u.tables };
-
-    ghost keeps = { λ t u. ⟦<OtherTables as Tables<Block>>⟧.keeps t.tables u.tables };
+    ghost others = { λ t. ⟦<OtherTables as Tables<Block>>⟧.others t.tables };
 
     ghost spare = { λ t. ⟦<OtherTables as Tables<Block>>⟧.spare t.tables };
 
-    ghost room = { λ t. ⟦<OtherTables as Tables<Block>>⟧.room t.tables };
+    ghost names = { λ t. ⟦<OtherTables as Tables<Block>>⟧.names t.tables };
+
+    ghost is = { ⟦<OtherTables as Tables<Block>>⟧.is };
+
+    ghost at = { λ t c. ⟦<OtherTables as Tables<Block>>⟧.at t.tables c };
 
     fn depth(&self) -> usize {
         self.tables.depth()
-    }
-
-    fn laws(&self) {
-        self.tables.laws();
     }
 
     fn mark(&mut self) -> Result<(), NoMemory> {
@@ -100,15 +92,19 @@ impl Tables<Block> for Others {
     fn drop_ahead(&mut self) {
         self.tables.drop_ahead();
     }
+
+    ghost is_at = { λ t c is. is };
+
+    ghost at_is = { λ t c is. is };
 }
 
 impl Others {
     /// Those of the empty chain. It takes no memory.
     pub fn new(alloc: Global) -> Others
-        ensures stands { ⟦<Others as Tables<Block>>⟧.stands result [] }
-        ensures costs { ⟦<Others as Tables<Block>>⟧.costs result ≡ [] }
-        ensures ahead { ⟦<Others as Tables<Block>>⟧.ahead_costs result ≡ [] }
-        ensures waits { (o : Chain) → ⟦<Others as Tables<Block>>⟧.waits result o 0 }
+        ensures at { ⟦<Others as Tables<Block>>⟧.at result [] }
+        ensures count { ⟦<Others as Tables<Block>>⟧.count result ≡ 0 }
+        ensures kept { (⟦<Others as Tables<Block>>⟧.others result).kept ≡ [] }
+        ensures ahead { (⟦<Others as Tables<Block>>⟧.others result).ahead ≡ [] }
     {
         Others {
             tables: Three::new(

@@ -24,34 +24,26 @@ pub struct Registry {
 }
 
 impl Tables<Block> for Registry {
-    ghost costs = { λ t. ⟦<RegistryTables as Tables<Block>>⟧.costs t.tables };
+    ghost Now = { ⟦<RegistryTables as Tables<Block>>⟧.Now };
 
-    ghost ahead_costs = { λ t. ⟦<RegistryTables as Tables<Block>>⟧.ahead_costs t.tables };
+    ghost Names = { ⟦<RegistryTables as Tables<Block>>⟧.Names };
 
-    ghost at = { λ t c. ⟦<RegistryTables as Tables<Block>>⟧.at t.tables c };
+    ghost now = { λ t. ⟦<RegistryTables as Tables<Block>>⟧.now t.tables };
 
-    ghost stands = { λ t c. ⟦<RegistryTables as Tables<Block>>⟧.stands t.tables c };
+    ghost count = { λ t. ⟦<RegistryTables as Tables<Block>>⟧.count t.tables };
 
-    ghost marked = { λ t c. ⟦<RegistryTables as Tables<Block>>⟧.marked t.tables c };
-
-    ghost waits = { λ t o i. ⟦<RegistryTables as Tables<Block>>⟧.waits t.tables o i };
-
-    ghost same = { λ t u. ⟦<RegistryTables as Tables<Block>>⟧.same t.tables u.tables };
-
-    ghost marks = { λ t u. ⟦<RegistryTables as Tables<Block>>⟧.marks t.tables u.tables };
-
-    ghost keeps = { λ t u. ⟦<RegistryTables as Tables<Block>>⟧.keeps t.tables u.tables };
+    ghost others = { λ t. ⟦<RegistryTables as Tables<Block>>⟧.others t.tables };
 
     ghost spare = { λ t. ⟦<RegistryTables as Tables<Block>>⟧.spare t.tables };
 
-    ghost room = { λ t. ⟦<RegistryTables as Tables<Block>>⟧.room t.tables };
+    ghost names = { λ t. ⟦<RegistryTables as Tables<Block>>⟧.names t.tables };
+
+    ghost is = { ⟦<RegistryTables as Tables<Block>>⟧.is };
+
+    ghost at = { λ t c. ⟦<RegistryTables as Tables<Block>>⟧.at t.tables c };
 
     fn depth(&self) -> usize {
         self.tables.depth()
-    }
-
-    fn laws(&self) {
-        self.tables.laws();
     }
 
     fn mark(&mut self) -> Result<(), NoMemory> {
@@ -87,15 +79,19 @@ impl Tables<Block> for Registry {
     fn drop_ahead(&mut self) {
         self.tables.drop_ahead();
     }
+
+    ghost is_at = { λ t c is. is };
+
+    ghost at_is = { λ t c is. is };
 }
 
 impl Registry {
     /// That of the empty chain. It takes no memory.
     pub fn new(alloc: Global) -> Registry
-        ensures stands { ⟦<Registry as Tables<Block>>⟧.stands result [] }
-        ensures costs { ⟦<Registry as Tables<Block>>⟧.costs result ≡ [] }
-        ensures ahead { ⟦<Registry as Tables<Block>>⟧.ahead_costs result ≡ [] }
-        ensures waits { (o : Chain) → ⟦<Registry as Tables<Block>>⟧.waits result o 0 }
+        ensures at { ⟦<Registry as Tables<Block>>⟧.at result [] }
+        ensures count { ⟦<Registry as Tables<Block>>⟧.count result ≡ 0 }
+        ensures kept { (⟦<Registry as Tables<Block>>⟧.others result).kept ≡ [] }
+        ensures ahead { (⟦<Registry as Tables<Block>>⟧.others result).ahead ≡ [] }
     {
         Registry {
             tables: Both::new(Indexes::new(alloc), Others::new(alloc)),

@@ -38,6 +38,5 @@ fn put_first_lines(alloc: Global, block: &Block, out: &mut Vec<Record>) -> Resul
     ensures { OnOk result (out.new.items ≡ out.old.items ++ line_records [] block.now) }
 {
     let none = Facts::new(alloc);
-    none.laws();
     put_line_records(&none, block, out)
 }

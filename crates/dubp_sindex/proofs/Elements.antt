@@ -1,7 +1,6 @@
 -- Elements of a list, named by recursion, and what tests on lists say of them.
-use Rattle.std.proofs.Common.{◌≡◌, Bool, true, false, cond, not, ◌||◌, ◌&&◌, List, [], ◌∷◌, ◌++◌, map, filter, refl, ap, sym, ◌∙◌, subst, true≢false, inl, inr, ◌⊎◌}
+use Rattle.std.proofs.Common.{◌≡◌, Bool, true, false, cond, not, ◌||◌, ◌&&◌, List, [], ◌∷◌, ◌++◌, map, filter, refl, ap, sym, subst, true≢false, inl, inr, ◌⊎◌}
 use Rattle.std.specs.List.{AllByRecursion, list_any}
-use Rattle.std.proofs.lemmas.List.Folds.{list_any-append}
 
 -- ---- tests
 
@@ -24,11 +23,6 @@ or_right false b e = e
 pub or_left : (a b : Bool) → (a || b) ≡ false → a ≡ false
 or_left true b e = e
 or_left false b e = refl
-
-pub or_true : (a b : Bool) → (a ≡ true) ⊎ (b ≡ true) → (a || b) ≡ true
-or_true true b h = refl
-or_true false b (inl h) = absurd (true≢false (sym h))
-or_true false b (inr h) = h
 
 -- what is not true is false
 pub is_false : (a : Bool) → (a ≡ true → ⊥) → a ≡ false
@@ -72,9 +66,6 @@ module _ {X : Type 0} where
   pub all_append : (P : X → Type 0) (xs ys : List X) → AllByRecursion P xs → AllByRecursion P ys → AllByRecursion P (xs ++ ys)
   all_append P [] ys h k = k
   all_append P (x ∷ xs) ys h k = (h.0, all_append P xs ys h.1 k)
-
-  pub any_left : (p : X → Bool) (xs ys : List X) → list_any p xs ≡ true → list_any p (xs ++ ys) ≡ true
-  any_left p xs ys h = list_any-append p xs ys ∙ or_true _ _ (inl h)
 
   pub in_any : (p : X → Bool) (xs : List X) (x : X) → IsIn x xs → p x ≡ true → list_any p xs ≡ true
   in_any p [] x there e = absurd there

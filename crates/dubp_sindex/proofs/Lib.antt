@@ -1,7 +1,6 @@
 pub mod Derived
 pub mod Elements
 pub mod Lookups
-pub mod Numbers
 pub mod Once
 pub mod Places
 pub mod Sources

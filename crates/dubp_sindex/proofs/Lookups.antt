@@ -100,9 +100,6 @@ under_units : (x y : ℕ × ℕ) → IsUnder x y → x.0 ≤ y.0
 under_units x y (inl lt) = omega (arith, lt)
 under_units x y (inr lt) = omega (arith, lt.0)
 
-under_all : (x y : ℕ × ℕ) → x.0 < y.0 → IsUnder x y
-under_all x y lt = inl lt
-
 -- behind a key that has the least units, only the key counts; with more units than it, only the units
 pub behind_into : (least : ℕ) (after k : ℕ × ℕ) → IsFrom least (Some after) k → IsAfter pair_cmp (Some after) k
 behind_into least after k from = is_under after k from.1

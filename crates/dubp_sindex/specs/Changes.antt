@@ -2,7 +2,7 @@
 use Rattle.std.specs.Prelude.{◌≡◌, ℕ, ◌+◌, ◌-◌, ◌≤◌, ◌==◌, ◌&&◌, Bool, false, List, Option, Some, None, option_map, if◌then◌else◌}
 use Rattle.std.specs.Option.{IfSome, option_map_or}
 use Rattle.dubp_cond.specs.declared.source.SourceId.{SourceId}
-use Rattle.dubp_undo.specs.MovingTable.{MovingTable, IsPlaced}
+use Rattle.dubp_undo.specs.MovingTable.{MovingTable, IsPlaced, PlacesStay}
 use Rattle.dubp_sindex.specs.declared.rows.Balance.{Balance}
 use Rattle.dubp_sindex.specs.declared.change.Change.{Change}
 use Rattle.dubp_sindex.specs.Rows.{Entry, row_at, same_source}
@@ -27,6 +27,11 @@ is_key k key = option_map_or (λ x. k.0 == x.0 && k.1 == x.1) key false
 -- a key of the order that can be set so many times without memory
 abbrev pub IsReady : ℕ → Option (ℕ × ℕ) → MovingTable (ℕ × ℕ) (Unit {0}) → Type 0
 IsReady n key t = IfSome key (λ k. IsPlaced pair_cmp k t.placed × (n ≤ t.room))
+
+-- what was placed stays so, and at most one set is taken from the room
+pub record TakesOne (old new : MovingTable (ℕ × ℕ) (Unit {0})) : Type 0 where
+  pub placed : PlacesStay pair_cmp old.placed new.placed
+  pub room : old.room ≤ new.room + 1
 
 -- the account has this balance after, and each other what it had
 abbrev pub IsMoved : ℕ → Option Balance → List Entry → List Entry → Type 0

@@ -1,5 +1,4 @@
-ghost use Rattle.std.specs.Prelude.{◌≡◌, ℕ, List, []};
-ghost use Rattle.dubp_sindex.specs.States.{States};
+ghost use Rattle.std.specs.Prelude.{◌≡◌, []};
 
 use crate::rows::{Balance, BalancesOf, OrderOf, SourceRows};
 use dubp_atoms::{NoMemory, Steps};
@@ -22,34 +21,26 @@ pub struct BalanceTables {
 }
 
 impl Tables<SourceRows> for BalanceTables {
-    ghost costs = { λ t. ⟦<Pair as Tables<SourceRows>>⟧.costs t.tables };
+    ghost Now = { ⟦<Pair as Tables<SourceRows>>⟧.Now };
 
-    ghost ahead_costs = { λ t. ⟦<Pair as Tables<SourceRows>>⟧.ahead_costs t.tables };
+    ghost Names = { ⟦<Pair as Tables<SourceRows>>⟧.Names };
 
-    ghost at = { λ t c. ⟦<Pair as Tables<SourceRows>>⟧.at t.tables c };
+    ghost now = { λ t. ⟦<Pair as Tables<SourceRows>>⟧.now t.tables };
 
-    ghost stands = { λ t c. ⟦<Pair as Tables<SourceRows>>⟧.stands t.tables c };
+    ghost count = { λ t. ⟦<Pair as Tables<SourceRows>>⟧.count t.tables };
 
-    ghost marked = { λ t c. ⟦<Pair as Tables<SourceRows>>⟧.marked t.tables c };
-
-    ghost waits = { λ t o i. ⟦<Pair as Tables<SourceRows>>⟧.waits t.tables o i };
-
-    ghost same = { λ t u. ⟦<Pair as Tables<SourceRows>>⟧.same t.tables u.tables };
-
-    ghost marks = { λ t u. ⟦<Pair as Tables<SourceRows>>⟧.marks t.tables u.tables };
-
-    ghost keeps = { λ t u. ⟦<Pair as Tables<SourceRows>>⟧.keeps t.tables u.tables };
+    ghost others = { λ t. ⟦<Pair as Tables<SourceRows>>⟧.others t.tables };
 
     ghost spare = { λ t. ⟦<Pair as Tables<SourceRows>>⟧.spare t.tables };
 
-    ghost room = { λ t. ⟦<Pair as Tables<SourceRows>>⟧.room t.tables };
+    ghost names = { λ t. ⟦<Pair as Tables<SourceRows>>⟧.names t.tables };
+
+    ghost is = { ⟦<Pair as Tables<SourceRows>>⟧.is };
+
+    ghost at = { λ t c. ⟦<Pair as Tables<SourceRows>>⟧.at t.tables c };
 
     fn depth(&self) -> usize {
         self.tables.depth()
-    }
-
-    fn laws(&self) {
-        self.tables.laws();
     }
 
     fn mark(&mut self) -> Result<(), NoMemory> {
@@ -86,16 +77,16 @@ impl Tables<SourceRows> for BalanceTables {
         self.tables.drop_ahead();
     }
 
-    ghost use Rattle.std.specs.Ordering.{nat_cmp};
-    ghost use Rattle.dubp_sindex.specs.Derived.{pair_cmp};
-    ghost use Rattle.dubp_sindex.specs.States.{balances_of, order_of};
+    ghost is_at = { λ t c is. is };
+
+    ghost at_is = { λ t c is. is };
 }
 
 fn no_pair(alloc: Global) -> Pair
-    ensures stands { ⟦<Pair as Tables<SourceRows>>⟧.stands result [] }
-    ensures costs { ⟦<Pair as Tables<SourceRows>>⟧.costs result ≡ [] }
-    ensures ahead { ⟦<Pair as Tables<SourceRows>>⟧.ahead_costs result ≡ [] }
-    ensures waits { (o : States) → ⟦<Pair as Tables<SourceRows>>⟧.waits result o 0 }
+    ensures at { ⟦<Pair as Tables<SourceRows>>⟧.at result [] }
+    ensures count { ⟦<Pair as Tables<SourceRows>>⟧.count result ≡ 0 }
+    ensures kept { (⟦<Pair as Tables<SourceRows>>⟧.others result).kept ≡ [] }
+    ensures ahead { (⟦<Pair as Tables<SourceRows>>⟧.others result).ahead ≡ [] }
 {
     Both::new(Leaf::new(alloc), Leaf::new(alloc))
 }
@@ -103,10 +94,10 @@ fn no_pair(alloc: Global) -> Pair
 impl BalanceTables {
     /// No account has a balance.
     pub fn new(alloc: Global) -> BalanceTables
-        ensures stands { ⟦<BalanceTables as Tables<SourceRows>>⟧.stands result [] }
-        ensures costs { ⟦<BalanceTables as Tables<SourceRows>>⟧.costs result ≡ [] }
-        ensures ahead { ⟦<BalanceTables as Tables<SourceRows>>⟧.ahead_costs result ≡ [] }
-        ensures waits { (o : States) → ⟦<BalanceTables as Tables<SourceRows>>⟧.waits result o 0 }
+        ensures at { ⟦<BalanceTables as Tables<SourceRows>>⟧.at result [] }
+        ensures count { ⟦<BalanceTables as Tables<SourceRows>>⟧.count result ≡ 0 }
+        ensures kept { (⟦<BalanceTables as Tables<SourceRows>>⟧.others result).kept ≡ [] }
+        ensures ahead { (⟦<BalanceTables as Tables<SourceRows>>⟧.others result).ahead ≡ [] }
     {
         BalanceTables {
             tables: no_pair(alloc),

@@ -1,6 +1,4 @@
-ghost use Rattle.std.specs.Prelude.{◌≡◌, ℕ, ◌+◌, ◌≤◌, ◌∷◌, List, min, option_map, IfOk, OnOk, OnErr};
-ghost use Rattle.dubp_undo.specs.Numbers.{settled};
-ghost use Rattle.dubp_undo.specs.States.{AtMostMore};
+ghost use Rattle.std.specs.Prelude.{◌≡◌, ◌+◌, ◌≤◌, ◌∷◌, List, min, option_map, IfOk, OnOk, OnErr};
 ghost use Rattle.dubp_sindex.specs.Rows.{Entry, units};
 ghost use Rattle.dubp_sindex.specs.Derived.{balance_at};
 ghost use Rattle.dubp_sindex.specs.States.{States, rows_of};
@@ -72,14 +70,11 @@ fn move_balance<L: StepBook>(
     steps: &mut Steps<L>,
 ) -> Result<(), NoMemory>
     ensures at { OnOk result ((s t : States) (rows : List Entry) → ⟦<BalanceTables as Tables<SourceRows>>⟧.at tables.old s → before ≡ balance_at account (rows_of s) → IsMoved account after (rows_of s) rows → ⟦<BalanceTables as Tables<SourceRows>>⟧.at tables.new (rows ∷ t)) }
-    ensures marked { (s : States) → ⟦<BalanceTables as Tables<SourceRows>>⟧.marked tables.old s → ⟦<BalanceTables as Tables<SourceRows>>⟧.marked tables.new s }
-    ensures waits { (o : States) (i : ℕ) → ⟦<BalanceTables as Tables<SourceRows>>⟧.waits tables.old o i → ⟦<BalanceTables as Tables<SourceRows>>⟧.waits tables.new o i }
-    ensures ahead { ⟦<BalanceTables as Tables<SourceRows>>⟧.ahead_costs tables.new ≡ ⟦<BalanceTables as Tables<SourceRows>>⟧.ahead_costs tables.old }
-    ensures costs_stay { settled (⟦<BalanceTables as Tables<SourceRows>>⟧.costs tables.new) ≡ settled (⟦<BalanceTables as Tables<SourceRows>>⟧.costs tables.old) }
-    ensures costs { OnOk result (AtMostMore 3 (⟦<BalanceTables as Tables<SourceRows>>⟧.costs tables.old) (⟦<BalanceTables as Tables<SourceRows>>⟧.costs tables.new)) }
+    ensures others { ⟦<BalanceTables as Tables<SourceRows>>⟧.others tables.new ≡ ⟦<BalanceTables as Tables<SourceRows>>⟧.others tables.old }
+    ensures count { ⟦<BalanceTables as Tables<SourceRows>>⟧.count tables.new + steps.old ≤ ⟦<BalanceTables as Tables<SourceRows>>⟧.count tables.old + steps.new }
     ensures steps { OnOk result (steps.new ≤ steps.old + 3) }
 
-    ensures refused { OnErr result (⟦<BalanceTables as Tables<SourceRows>>⟧.same tables.old tables.new) }
+    ensures refused { OnErr result (⟦<BalanceTables as Tables<SourceRows>>⟧.now tables.new ≡ ⟦<BalanceTables as Tables<SourceRows>>⟧.now tables.old) }
     ensures no_step { OnErr result (steps.new ≡ steps.old) }
 {
     tables.tables.first.ready(account, 1)?;
@@ -108,14 +103,11 @@ pub fn put<L: StepBook>(
     steps: &mut Steps<L>,
 ) -> Result<(), NoMemory>
     ensures at { OnOk result ((s t : States) (rows : List Entry) → ⟦<SourceTables as Tables<SourceRows>>⟧.at tables.old s → IsChanged id.now change (rows_of s) rows → ⟦<SourceTables as Tables<SourceRows>>⟧.at tables.new (rows ∷ t)) }
-    ensures marked { (s : States) → ⟦<SourceTables as Tables<SourceRows>>⟧.marked tables.old s → ⟦<SourceTables as Tables<SourceRows>>⟧.marked tables.new s }
-    ensures waits { (o : States) (i : ℕ) → ⟦<SourceTables as Tables<SourceRows>>⟧.waits tables.old o i → ⟦<SourceTables as Tables<SourceRows>>⟧.waits tables.new o i }
-    ensures ahead { ⟦<SourceTables as Tables<SourceRows>>⟧.ahead_costs tables.new ≡ ⟦<SourceTables as Tables<SourceRows>>⟧.ahead_costs tables.old }
-    ensures costs_stay { settled (⟦<SourceTables as Tables<SourceRows>>⟧.costs tables.new) ≡ settled (⟦<SourceTables as Tables<SourceRows>>⟧.costs tables.old) }
-    ensures costs { OnOk result (AtMostMore 5 (⟦<SourceTables as Tables<SourceRows>>⟧.costs tables.old) (⟦<SourceTables as Tables<SourceRows>>⟧.costs tables.new)) }
+    ensures others { ⟦<SourceTables as Tables<SourceRows>>⟧.others tables.new ≡ ⟦<SourceTables as Tables<SourceRows>>⟧.others tables.old }
+    ensures count { ⟦<SourceTables as Tables<SourceRows>>⟧.count tables.new + steps.old ≤ ⟦<SourceTables as Tables<SourceRows>>⟧.count tables.old + steps.new }
     ensures steps { OnOk result (steps.new ≤ steps.old + 5) }
 
-    ensures refused { OnErr result (⟦<SourceTables as Tables<SourceRows>>⟧.same tables.old tables.new) }
+    ensures refused { OnErr result (⟦<SourceTables as Tables<SourceRows>>⟧.now tables.new ≡ ⟦<SourceTables as Tables<SourceRows>>⟧.now tables.old) }
     ensures no_step { OnErr result (steps.new ≡ steps.old) }
 {
     let owner = owner(change.row, id);

@@ -1,16 +1,15 @@
 ghost use Rattle.std.specs.Prelude.{◌≡◌, ℕ, ◌+◌, ◌≤◌, ◌==◌, ◌∷◌, if◌then◌else◌, List, Some, None, OnOk, OnErr, IsOk, IsTrue};
-ghost use Rattle.dubp_undo.specs.Definition.{IsAt, IsMarked, SameMaps};
+ghost use Rattle.dubp_undo.specs.Definition.{IsAt};
 ghost use Rattle.dubp_undo.specs.MovingTable.{get, PlacesStay};
-ghost use Rattle.dubp_undo.specs.Numbers.{counts, settled};
-ghost use Rattle.dubp_undo.specs.States.{AtMostMore};
 ghost use Rattle.dubp_sindex.specs.Rows.{Entry};
 ghost use Rattle.dubp_sindex.specs.Derived.{pair_cmp, balance_at};
 ghost use Rattle.dubp_sindex.specs.States.{States, rows_of, order_of};
-ghost use Rattle.dubp_sindex.specs.Changes.{place_of, is_key, IsReady, IsMoved};
+ghost use Rattle.dubp_sindex.specs.Changes.{place_of, is_key, IsReady, TakesOne, IsMoved};
 
 use crate::balances::Order;
-use crate::rows::Balance;
+use crate::rows::{Balance, SourceRows};
 use dubp_atoms::{NoMemory, Steps};
+use dubp_undo::Tables;
 use std::sync::ledger::Ledger as StepBook;
 
 // Where an account with this balance stands.
@@ -36,10 +35,12 @@ fn stays(before: Option<Balance>, after: Option<Balance>) -> bool
 
 // Places the key, with room for two keys to be set.
 fn ready_place(order: &mut Order, key: Option<(u128, usize)>) -> Result<(), NoMemory>
-    ensures same { SameMaps order.old order.new }
-    ensures stay { PlacesStay pair_cmp order.old.placed order.new.placed }
-    ensures room { order.old.room ≤ order.new.room }
-    ensures ready { OnOk result (IsReady 2 key order.new) }
+    ensures now { ⟦<Order as Tables<SourceRows>>⟧.now order.new ≡ ⟦<Order as Tables<SourceRows>>⟧.now order.old }
+    ensures count { ⟦<Order as Tables<SourceRows>>⟧.count order.new ≡ ⟦<Order as Tables<SourceRows>>⟧.count order.old }
+    ensures others { ⟦<Order as Tables<SourceRows>>⟧.others order.new ≡ ⟦<Order as Tables<SourceRows>>⟧.others order.old }
+    ensures stay { PlacesStay pair_cmp order.old.table.placed order.new.table.placed }
+    ensures room { order.old.table.room ≤ order.new.table.room }
+    ensures ready { OnOk result (IsReady 2 key order.new.table) }
 {
     match key {
         Some(key) => {
@@ -57,19 +58,15 @@ fn set_place<L: StepBook>(
     value: Option<()>,
     steps: &mut Steps<L>,
 ) -> Result<(), NoMemory>
-    ensures order { OnOk result ((k : ℕ × ℕ) → get pair_cmp order.new.now k ≡ (if is_key k key then value else get pair_cmp order.old.now k)) }
-    ensures marked { (s : States) → IsMarked pair_cmp order_of order.old.past s → IsMarked pair_cmp order_of order.new.past s }
-    ensures ahead { order.new.ahead ≡ order.old.ahead }
-    ensures root { order.new.root ≡ order.old.root }
-    ensures costs_stay { settled (counts order.new.past) ≡ settled (counts order.old.past) }
-    ensures costs { OnOk result (AtMostMore 1 (counts order.old.past) (counts order.new.past)) }
+    ensures order { OnOk result ((k : ℕ × ℕ) → get pair_cmp order.new.table.now k ≡ (if is_key k key then value else get pair_cmp order.old.table.now k)) }
+    ensures others { ⟦<Order as Tables<SourceRows>>⟧.others order.new ≡ ⟦<Order as Tables<SourceRows>>⟧.others order.old }
+    ensures count { ⟦<Order as Tables<SourceRows>>⟧.count order.new + steps.old ≤ ⟦<Order as Tables<SourceRows>>⟧.count order.old + steps.new }
     ensures steps { OnOk result (steps.new ≤ steps.old + 1) }
-    ensures stay { OnOk result (PlacesStay pair_cmp order.old.placed order.new.placed) }
-    ensures room { order.old.room ≤ order.new.room + 1 }
+    ensures stay { TakesOne order.old.table order.new.table }
 
-    ensures refused { OnErr result (SameMaps order.old order.new) }
+    ensures refused { OnErr result (⟦<Order as Tables<SourceRows>>⟧.now order.new ≡ ⟦<Order as Tables<SourceRows>>⟧.now order.old) }
     ensures no_step { OnErr result (steps.new ≡ steps.old) }
-    ensures succeeds { IsReady 1 key order.old → IsOk result }
+    ensures succeeds { IsReady 1 key order.old.table → IsOk result }
 {
     match key {
         Some(key) => {
@@ -87,14 +84,11 @@ fn exchange<L: StepBook>(
     to: Option<(u128, usize)>,
     steps: &mut Steps<L>,
 ) -> Result<(), NoMemory>
-    ensures order { OnOk result ((k : ℕ × ℕ) → get pair_cmp order.new.now k ≡ (if is_key k to then Some tt else if is_key k from then None else get pair_cmp order.old.now k)) }
-    ensures marked { (s : States) → IsMarked pair_cmp order_of order.old.past s → IsMarked pair_cmp order_of order.new.past s }
-    ensures ahead { order.new.ahead ≡ order.old.ahead }
-    ensures root { order.new.root ≡ order.old.root }
-    ensures costs_stay { settled (counts order.new.past) ≡ settled (counts order.old.past) }
-    ensures costs { OnOk result (AtMostMore 2 (counts order.old.past) (counts order.new.past)) }
+    ensures order { OnOk result ((k : ℕ × ℕ) → get pair_cmp order.new.table.now k ≡ (if is_key k to then Some tt else if is_key k from then None else get pair_cmp order.old.table.now k)) }
+    ensures others { ⟦<Order as Tables<SourceRows>>⟧.others order.new ≡ ⟦<Order as Tables<SourceRows>>⟧.others order.old }
+    ensures count { ⟦<Order as Tables<SourceRows>>⟧.count order.new + steps.old ≤ ⟦<Order as Tables<SourceRows>>⟧.count order.old + steps.new }
     ensures steps { OnOk result (steps.new ≤ steps.old + 2) }
-    ensures succeeds { IsReady 2 from order.old → IsReady 2 to order.old → IsOk result }
+    ensures succeeds { IsReady 2 from order.old.table → IsReady 2 to order.old.table → IsOk result }
 {
     set_place(order, from, None, steps)?;
     set_place(order, to, Some(()), steps)?;
@@ -111,15 +105,12 @@ pub fn move_place<L: StepBook>(
     after: Option<Balance>,
     steps: &mut Steps<L>,
 ) -> Result<(), NoMemory>
-    ensures at { OnOk result ((s t : States) (rows : List Entry) → IsAt pair_cmp order_of order.old.now s → before ≡ balance_at account (rows_of s) → IsMoved account after (rows_of s) rows → IsAt pair_cmp order_of order.new.now (rows ∷ t)) }
-    ensures marked { (s : States) → IsMarked pair_cmp order_of order.old.past s → IsMarked pair_cmp order_of order.new.past s }
-    ensures ahead { order.new.ahead ≡ order.old.ahead }
-    ensures root { order.new.root ≡ order.old.root }
-    ensures costs_stay { settled (counts order.new.past) ≡ settled (counts order.old.past) }
-    ensures costs { OnOk result (AtMostMore 2 (counts order.old.past) (counts order.new.past)) }
+    ensures at { OnOk result ((s t : States) (rows : List Entry) → IsAt pair_cmp order_of order.old.table.now s → before ≡ balance_at account (rows_of s) → IsMoved account after (rows_of s) rows → IsAt pair_cmp order_of order.new.table.now (rows ∷ t)) }
+    ensures others { ⟦<Order as Tables<SourceRows>>⟧.others order.new ≡ ⟦<Order as Tables<SourceRows>>⟧.others order.old }
+    ensures count { ⟦<Order as Tables<SourceRows>>⟧.count order.new + steps.old ≤ ⟦<Order as Tables<SourceRows>>⟧.count order.old + steps.new }
     ensures steps { OnOk result (steps.new ≤ steps.old + 2) }
 
-    ensures refused { OnErr result (SameMaps order.old order.new) }
+    ensures refused { OnErr result (⟦<Order as Tables<SourceRows>>⟧.now order.new ≡ ⟦<Order as Tables<SourceRows>>⟧.now order.old) }
     ensures no_step { OnErr result (steps.new ≡ steps.old) }
 {
     if stays(before, after) {

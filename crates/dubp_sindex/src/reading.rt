@@ -1,4 +1,4 @@
-ghost use Rattle.std.specs.Prelude.{◌≡◌, ◌++◌, ◌∷◌, ◌<◌, ◌≤◌, ℕ, [], Some, OnOk, IfOk, IfSome, IfNone};
+ghost use Rattle.std.specs.Prelude.{◌≡◌, ◌++◌, ◌∷◌, ◌<◌, ◌≤◌, [], Some, OnOk, IfOk, IfSome, IfNone};
 ghost use Rattle.std.specs.Option.{option_map_or};
 ghost use Rattle.std.specs.Ordering.{nat_cmp};
 ghost use Rattle.dubp_cond.specs.SourceOrder.{derived_cmp};
@@ -59,8 +59,8 @@ impl SIndex {
     }
 
     fn balance_behind(&self, key: (u128, usize)) -> Option<(u128, usize)>
-        ensures found { IfSome result (λ k. IsLeast pair_cmp self.now.tables.third.tables.second.now (IsAfter pair_cmp (Some key)) (k, tt)) }
-        ensures none { IfNone result (HasNone pair_cmp self.now.tables.third.tables.second.now (IsAfter pair_cmp (Some key))) }
+        ensures found { IfSome result (λ k. IsLeast pair_cmp self.now.tables.third.tables.second.table.now (IsAfter pair_cmp (Some key)) (k, tt)) }
+        ensures none { IfNone result (HasNone pair_cmp self.now.tables.third.tables.second.table.now (IsAfter pair_cmp (Some key))) }
     {
         match self.tables.third.tables.second.next_after(Some(key)) {
             Some((found, ())) => Some(found),
@@ -69,8 +69,8 @@ impl SIndex {
     }
 
     fn balance_from(&self, least: u128) -> Option<(u128, usize)>
-        ensures found { IfSome result (λ k. IsLeast pair_cmp self.now.tables.third.tables.second.now (IsLeBy pair_cmp (least, 0)) (k, tt)) }
-        ensures none { IfNone result (HasNone pair_cmp self.now.tables.third.tables.second.now (IsLeBy pair_cmp (least, 0))) }
+        ensures found { IfSome result (λ k. IsLeast pair_cmp self.now.tables.third.tables.second.table.now (IsLeBy pair_cmp (least, 0)) (k, tt)) }
+        ensures none { IfNone result (HasNone pair_cmp self.now.tables.third.tables.second.table.now (IsLeBy pair_cmp (least, 0))) }
     {
         match self.tables.third.tables.second.next_from((least, 0)) {
             Some((found, ())) => Some(found),
@@ -80,7 +80,7 @@ impl SIndex {
 
     // How many unspent sources the account has.
     fn count_of(&self, account: usize) -> usize
-        ensures { result ≡ option_map_or (λ b. b.count) (get nat_cmp self.now.tables.third.tables.first.now account) 0 }
+        ensures { result ≡ option_map_or (λ b. b.count) (get nat_cmp self.now.tables.third.tables.first.table.now account) 0 }
     {
         match self.tables.third.tables.first.get(account) {
             Some(balance) => balance.count,
@@ -94,7 +94,7 @@ impl SIndex {
         found: &mut Vec<(SourceId, SourceRow)>,
         id: &SourceId,
     ) -> Result<(), NoMemory>
-        ensures { OnOk result (IfSome (get derived_cmp self.now.tables.first.now id.now) (λ row. found.new.items ≡ found.old.items ++ (id.now, row) ∷ [])) }
+        ensures { OnOk result (IfSome (get derived_cmp self.now.tables.first.table.now id.now) (λ row. found.new.items ≡ found.old.items ++ (id.now, row) ∷ [])) }
     {
         match self.tables.first.get(*id) {
             Some(row) => put_entry(found, (*id, row)),

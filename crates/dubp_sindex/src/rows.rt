@@ -1,4 +1,4 @@
-ghost use Rattle.std.specs.Prelude.{◌≡◌, List, []};
+ghost use Rattle.std.specs.Prelude.{List, []};
 ghost use Rattle.dubp_sindex.specs.States.{sources_of, places_of, balances_of, order_of};
 
 use crate::balances::BalanceTables;

@@ -1,4 +1,4 @@
-ghost use Rattle.std.specs.Prelude.{◌≡◌, ℕ, ◌+◌, ◌<◌, ◌≤◌, ◌++◌, ◌∷◌, List, [], Some, length, drop, slice_get, OnOk, OnErr, IfOk};
+ghost use Rattle.std.specs.Prelude.{◌≡◌, ◌<◌, ◌≤◌, List, [], Some, length, slice_get, OnOk, OnErr, IfOk};
 ghost use Rattle.dubp_atoms.specs.Same.{Text};
 ghost use Rattle.dubp_cond.specs.Conditions.{cond_text};
 ghost use Rattle.dubp_sindex.specs.Accounts.{accounts};
@@ -25,35 +25,27 @@ pub struct SIndex {
 }
 
 impl Tables<SourceRows> for SIndex {
-    ghost costs = { λ t. ⟦<SourceTables as Tables<SourceRows>>⟧.costs t.tables };
+    ghost Now = { ⟦<SourceTables as Tables<SourceRows>>⟧.Now };
 
-    ghost ahead_costs = { λ t. ⟦<SourceTables as Tables<SourceRows>>⟧.ahead_costs t.tables };
+    ghost Names = { ⟦<SourceTables as Tables<SourceRows>>⟧.Names × List Text };
 
-    ghost at = { λ t c. ⟦<SourceTables as Tables<SourceRows>>⟧.at t.tables c };
+    ghost now = { λ t. ⟦<SourceTables as Tables<SourceRows>>⟧.now t.tables };
 
-    ghost stands = { λ t c. ⟦<SourceTables as Tables<SourceRows>>⟧.stands t.tables c };
+    ghost count = { λ t. ⟦<SourceTables as Tables<SourceRows>>⟧.count t.tables };
 
-    ghost marked = { λ t c. ⟦<SourceTables as Tables<SourceRows>>⟧.marked t.tables c };
-
-    ghost waits = { λ t o i. ⟦<SourceTables as Tables<SourceRows>>⟧.waits t.tables o i };
-
-    ghost same = { λ t u. ⟦<SourceTables as Tables<SourceRows>>⟧.same t.tables u.tables };
-
-    ghost marks = { λ t u. ⟦<SourceTables as Tables<SourceRows>>⟧.marks t.tables u.tables };
-
-    // and the accounts are the same
-    ghost keeps = { λ t u. ⟦<SourceTables as Tables<SourceRows>>⟧.keeps t.tables u.tables × (u.accounts ≡ t.accounts) };
+    ghost others = { λ t. ⟦<SourceTables as Tables<SourceRows>>⟧.others t.tables };
 
     ghost spare = { λ t. ⟦<SourceTables as Tables<SourceRows>>⟧.spare t.tables };
 
-    ghost room = { λ t. ⟦<SourceTables as Tables<SourceRows>>⟧.room t.tables };
+    // the accounts are told by number
+    ghost names = { λ t. (⟦<SourceTables as Tables<SourceRows>>⟧.names t.tables, t.accounts) };
+
+    ghost is = { λ m n c. ⟦<SourceTables as Tables<SourceRows>>⟧.is m.0 n c };
+
+    ghost at = { λ t c. ⟦<SourceTables as Tables<SourceRows>>⟧.at t.tables c };
 
     fn depth(&self) -> usize {
         self.tables.depth()
-    }
-
-    fn laws(&self) {
-        self.tables.laws();
     }
 
     fn mark(&mut self) -> Result<(), NoMemory> {
@@ -82,46 +74,25 @@ impl Tables<SourceRows> for SIndex {
         self.tables.again(steps);
     }
 
-    fn drop_oldest(&mut self)
-        requires { 0 < length (⟦<SourceTables as Tables<SourceRows>>⟧.costs self.old.tables) }
-        ensures costs { ⟦<SourceTables as Tables<SourceRows>>⟧.costs self.new.tables ≡ drop 1 (⟦<SourceTables as Tables<SourceRows>>⟧.costs self.old.tables) }
-        ensures ahead { ⟦<SourceTables as Tables<SourceRows>>⟧.ahead_costs self.new.tables ≡ ⟦<SourceTables as Tables<SourceRows>>⟧.ahead_costs self.old.tables }
-        ensures at { (c : States) → ⟦<SourceTables as Tables<SourceRows>>⟧.at self.old.tables c → ⟦<SourceTables as Tables<SourceRows>>⟧.at self.new.tables c }
-        ensures stands { (c : States) → ⟦<SourceTables as Tables<SourceRows>>⟧.stands self.old.tables c → ⟦<SourceTables as Tables<SourceRows>>⟧.stands self.new.tables c }
-        ensures marked { (c : States) → 1 < length (⟦<SourceTables as Tables<SourceRows>>⟧.costs self.old.tables) → ⟦<SourceTables as Tables<SourceRows>>⟧.marked self.old.tables c → ⟦<SourceTables as Tables<SourceRows>>⟧.marked self.new.tables c }
-        ensures waits { (o : States) (i : ℕ) → ⟦<SourceTables as Tables<SourceRows>>⟧.waits self.old.tables o i → ⟦<SourceTables as Tables<SourceRows>>⟧.waits self.new.tables o i }
-        ensures room_stays { ⟦<SourceTables as Tables<SourceRows>>⟧.room self.old.tables ≤ ⟦<SourceTables as Tables<SourceRows>>⟧.room self.new.tables }
-        ensures accounts { accounts self.new ≡ accounts self.old }
-    {
+    fn drop_oldest(&mut self) {
         self.tables.drop_oldest();
     }
 
-    fn drop_ahead(&mut self)
-        ensures costs { ⟦<SourceTables as Tables<SourceRows>>⟧.costs self.new.tables ≡ ⟦<SourceTables as Tables<SourceRows>>⟧.costs self.old.tables }
-        ensures ahead { ⟦<SourceTables as Tables<SourceRows>>⟧.ahead_costs self.new.tables ≡ [] }
-        ensures at { (c : States) → ⟦<SourceTables as Tables<SourceRows>>⟧.at self.old.tables c → ⟦<SourceTables as Tables<SourceRows>>⟧.at self.new.tables c }
-        ensures stands { (c : States) → ⟦<SourceTables as Tables<SourceRows>>⟧.stands self.old.tables c → ⟦<SourceTables as Tables<SourceRows>>⟧.stands self.new.tables c }
-        ensures marked { (c : States) → ⟦<SourceTables as Tables<SourceRows>>⟧.marked self.old.tables c → ⟦<SourceTables as Tables<SourceRows>>⟧.marked self.new.tables c }
-        ensures waits { (o : States) → ⟦<SourceTables as Tables<SourceRows>>⟧.waits self.new.tables o 0 }
-        ensures room_stays { ⟦<SourceTables as Tables<SourceRows>>⟧.room self.old.tables ≤ ⟦<SourceTables as Tables<SourceRows>>⟧.room self.new.tables }
-        ensures accounts { accounts self.new ≡ accounts self.old }
-    {
+    fn drop_ahead(&mut self) {
         self.tables.drop_ahead();
     }
 
-    ghost use Rattle.std.specs.Ordering.{nat_cmp};
-    ghost use Rattle.std.proofs.Common.{refl, ap, ◌∙◌};
-    ghost use Rattle.dubp_cond.specs.SourceOrder.{derived_cmp};
-    ghost use Rattle.dubp_sindex.specs.Derived.{pair_cmp};
-    ghost use Rattle.dubp_sindex.specs.States.{sources_of, places_of, balances_of, order_of};
+    ghost is_at = { λ t c is. is };
+
+    ghost at_is = { λ t c is. is };
 }
 
 // The tables in which nothing stands.
 fn no_tables(alloc: Global) -> SourceTables
-    ensures stands { ⟦<SourceTables as Tables<SourceRows>>⟧.stands result [] }
-    ensures costs { ⟦<SourceTables as Tables<SourceRows>>⟧.costs result ≡ [] }
-    ensures ahead { ⟦<SourceTables as Tables<SourceRows>>⟧.ahead_costs result ≡ [] }
-    ensures waits { (o : States) → ⟦<SourceTables as Tables<SourceRows>>⟧.waits result o 0 }
+    ensures at { ⟦<SourceTables as Tables<SourceRows>>⟧.at result [] }
+    ensures count { ⟦<SourceTables as Tables<SourceRows>>⟧.count result ≡ 0 }
+    ensures kept { (⟦<SourceTables as Tables<SourceRows>>⟧.others result).kept ≡ [] }
+    ensures ahead { (⟦<SourceTables as Tables<SourceRows>>⟧.others result).ahead ≡ [] }
 {
     Three::new(
         Leaf::new(alloc),
@@ -133,10 +104,10 @@ fn no_tables(alloc: Global) -> SourceTables
 impl SIndex {
     /// The index in which no source is unspent, and no account has a number. It takes no memory.
     pub fn new(alloc: Global) -> SIndex
-        ensures stands { ⟦<SIndex as Tables<SourceRows>>⟧.stands result [] }
-        ensures costs { ⟦<SIndex as Tables<SourceRows>>⟧.costs result ≡ [] }
-        ensures ahead { ⟦<SIndex as Tables<SourceRows>>⟧.ahead_costs result ≡ [] }
-        ensures waits { (o : States) → ⟦<SIndex as Tables<SourceRows>>⟧.waits result o 0 }
+        ensures at { ⟦<SIndex as Tables<SourceRows>>⟧.at result [] }
+        ensures count { ⟦<SIndex as Tables<SourceRows>>⟧.count result ≡ 0 }
+        ensures kept { (⟦<SIndex as Tables<SourceRows>>⟧.others result).kept ≡ [] }
+        ensures ahead { (⟦<SIndex as Tables<SourceRows>>⟧.others result).ahead ≡ [] }
         ensures accounts { accounts result ≡ [] }
     {
         SIndex {
@@ -177,13 +148,10 @@ impl SIndex {
         ensures number { IfOk result (λ n. number_of (accounts self.new) (cond_text cond.now) ≡ Some n) }
         ensures accounts { OnOk result (accounts self.new ≡ with_text (accounts self.old) (cond_text cond.now)) }
         ensures refused { OnErr result (accounts self.new ≡ accounts self.old) }
-        ensures same { ⟦<SIndex as Tables<SourceRows>>⟧.same self.old self.new }
+        ensures now { ⟦<SIndex as Tables<SourceRows>>⟧.now self.new ≡ ⟦<SIndex as Tables<SourceRows>>⟧.now self.old }
+        ensures count { ⟦<SIndex as Tables<SourceRows>>⟧.count self.new ≡ ⟦<SIndex as Tables<SourceRows>>⟧.count self.old }
+        ensures others { ⟦<SIndex as Tables<SourceRows>>⟧.others self.new ≡ ⟦<SIndex as Tables<SourceRows>>⟧.others self.old }
         ensures at { (s : States) → ⟦<SIndex as Tables<SourceRows>>⟧.at self.old s → ⟦<SIndex as Tables<SourceRows>>⟧.at self.new s }
-        ensures stands { (s : States) → ⟦<SIndex as Tables<SourceRows>>⟧.stands self.old s → ⟦<SIndex as Tables<SourceRows>>⟧.stands self.new s }
-        ensures marked { (s : States) → ⟦<SIndex as Tables<SourceRows>>⟧.marked self.old s → ⟦<SIndex as Tables<SourceRows>>⟧.marked self.new s }
-        ensures waits { (o : States) (i : ℕ) → ⟦<SIndex as Tables<SourceRows>>⟧.waits self.old o i → ⟦<SIndex as Tables<SourceRows>>⟧.waits self.new o i }
-        ensures costs { ⟦<SIndex as Tables<SourceRows>>⟧.costs self.new ≡ ⟦<SIndex as Tables<SourceRows>>⟧.costs self.old }
-        ensures ahead { ⟦<SIndex as Tables<SourceRows>>⟧.ahead_costs self.new ≡ ⟦<SIndex as Tables<SourceRows>>⟧.ahead_costs self.old }
     {
         let mut line: Line = ArrayVec::new();
         put_cond(cond, &mut line);

@@ -1,5 +1,4 @@
-ghost use Rattle.std.specs.Prelude.{◌≡◌, ℕ, ◌+◌, ◌≤◌, ◌++◌, ◌∷◌, List, [], OnOk, OnErr};
-ghost use Rattle.dubp_undo.specs.States.{AtMostMore};
+ghost use Rattle.std.specs.Prelude.{◌≡◌, ◌+◌, ◌≤◌, ◌++◌, ◌∷◌, [], OnOk, OnErr};
 ghost use Rattle.dubp_sindex.specs.Accounts.{accounts};
 ghost use Rattle.dubp_sindex.specs.Rows.{AreRows, IsNewRow, without};
 ghost use Rattle.dubp_sindex.specs.States.{States, rows_of};
@@ -23,14 +22,12 @@ impl SIndex {
         steps: &mut Steps<L>,
     ) -> Result<(), NoMemory>
         ensures at { OnOk result ((s t : States) → ⟦<SIndex as Tables<SourceRows>>⟧.at self.old s → AreRows (rows_of s) → IsNewRow (rows_of s) (id, row) → ⟦<SIndex as Tables<SourceRows>>⟧.at self.new ((rows_of s ++ (id, row) ∷ []) ∷ t)) }
-        ensures marked { (s : States) → ⟦<SIndex as Tables<SourceRows>>⟧.marked self.old s → ⟦<SIndex as Tables<SourceRows>>⟧.marked self.new s }
-        ensures waits { (o : States) (i : ℕ) → ⟦<SIndex as Tables<SourceRows>>⟧.waits self.old o i → ⟦<SIndex as Tables<SourceRows>>⟧.waits self.new o i }
-        ensures ahead { ⟦<SIndex as Tables<SourceRows>>⟧.ahead_costs self.new ≡ ⟦<SIndex as Tables<SourceRows>>⟧.ahead_costs self.old }
-        ensures costs { OnOk result (AtMostMore 5 (⟦<SIndex as Tables<SourceRows>>⟧.costs self.old) (⟦<SIndex as Tables<SourceRows>>⟧.costs self.new)) }
+        ensures others { ⟦<SIndex as Tables<SourceRows>>⟧.others self.new ≡ ⟦<SIndex as Tables<SourceRows>>⟧.others self.old }
+        ensures count { ⟦<SIndex as Tables<SourceRows>>⟧.count self.new + steps.old ≤ ⟦<SIndex as Tables<SourceRows>>⟧.count self.old + steps.new }
         ensures steps { OnOk result (steps.new ≤ steps.old + 5) }
         ensures accounts { accounts self.new ≡ accounts self.old }
 
-        ensures refused { OnErr result (⟦<SIndex as Tables<SourceRows>>⟧.same self.old self.new) }
+        ensures refused { OnErr result (⟦<SIndex as Tables<SourceRows>>⟧.now self.new ≡ ⟦<SIndex as Tables<SourceRows>>⟧.now self.old) }
         ensures no_step { OnErr result (steps.new ≡ steps.old) }
     {
         self.make_at(&id, row, steps)
@@ -44,14 +41,12 @@ impl SIndex {
         steps: &mut Steps<L>,
     ) -> Result<(), NoMemory>
         ensures at { OnOk result ((s t : States) → ⟦<SIndex as Tables<SourceRows>>⟧.at self.old s → AreRows (rows_of s) → IsNewRow (rows_of s) (id.now, row) → ⟦<SIndex as Tables<SourceRows>>⟧.at self.new ((rows_of s ++ (id.now, row) ∷ []) ∷ t)) }
-        ensures marked { (s : States) → ⟦<SIndex as Tables<SourceRows>>⟧.marked self.old s → ⟦<SIndex as Tables<SourceRows>>⟧.marked self.new s }
-        ensures waits { (o : States) (i : ℕ) → ⟦<SIndex as Tables<SourceRows>>⟧.waits self.old o i → ⟦<SIndex as Tables<SourceRows>>⟧.waits self.new o i }
-        ensures ahead { ⟦<SIndex as Tables<SourceRows>>⟧.ahead_costs self.new ≡ ⟦<SIndex as Tables<SourceRows>>⟧.ahead_costs self.old }
-        ensures costs { OnOk result (AtMostMore 5 (⟦<SIndex as Tables<SourceRows>>⟧.costs self.old) (⟦<SIndex as Tables<SourceRows>>⟧.costs self.new)) }
+        ensures others { ⟦<SIndex as Tables<SourceRows>>⟧.others self.new ≡ ⟦<SIndex as Tables<SourceRows>>⟧.others self.old }
+        ensures count { ⟦<SIndex as Tables<SourceRows>>⟧.count self.new + steps.old ≤ ⟦<SIndex as Tables<SourceRows>>⟧.count self.old + steps.new }
         ensures steps { OnOk result (steps.new ≤ steps.old + 5) }
         ensures accounts { accounts self.new ≡ accounts self.old }
 
-        ensures refused { OnErr result (⟦<SIndex as Tables<SourceRows>>⟧.same self.old self.new) }
+        ensures refused { OnErr result (⟦<SIndex as Tables<SourceRows>>⟧.now self.new ≡ ⟦<SIndex as Tables<SourceRows>>⟧.now self.old) }
         ensures no_step { OnErr result (steps.new ≡ steps.old) }
     {
         let before = self.tables.third.tables.first.get(row.account);
@@ -71,14 +66,12 @@ impl SIndex {
     /// `NoMemory` where there is no memory for its keys; then all is as it was.
     pub fn spend<L: StepBook>(&mut self, id: SourceId, steps: &mut Steps<L>) -> Result<(), NoMemory>
         ensures at { OnOk result ((s t : States) → ⟦<SIndex as Tables<SourceRows>>⟧.at self.old s → AreRows (rows_of s) → ⟦<SIndex as Tables<SourceRows>>⟧.at self.new (without id (rows_of s) ∷ t)) }
-        ensures marked { (s : States) → ⟦<SIndex as Tables<SourceRows>>⟧.marked self.old s → ⟦<SIndex as Tables<SourceRows>>⟧.marked self.new s }
-        ensures waits { (o : States) (i : ℕ) → ⟦<SIndex as Tables<SourceRows>>⟧.waits self.old o i → ⟦<SIndex as Tables<SourceRows>>⟧.waits self.new o i }
-        ensures ahead { ⟦<SIndex as Tables<SourceRows>>⟧.ahead_costs self.new ≡ ⟦<SIndex as Tables<SourceRows>>⟧.ahead_costs self.old }
-        ensures costs { OnOk result (AtMostMore 5 (⟦<SIndex as Tables<SourceRows>>⟧.costs self.old) (⟦<SIndex as Tables<SourceRows>>⟧.costs self.new)) }
+        ensures others { ⟦<SIndex as Tables<SourceRows>>⟧.others self.new ≡ ⟦<SIndex as Tables<SourceRows>>⟧.others self.old }
+        ensures count { ⟦<SIndex as Tables<SourceRows>>⟧.count self.new + steps.old ≤ ⟦<SIndex as Tables<SourceRows>>⟧.count self.old + steps.new }
         ensures steps { OnOk result (steps.new ≤ steps.old + 5) }
         ensures accounts { accounts self.new ≡ accounts self.old }
 
-        ensures refused { OnErr result (⟦<SIndex as Tables<SourceRows>>⟧.same self.old self.new) }
+        ensures refused { OnErr result (⟦<SIndex as Tables<SourceRows>>⟧.now self.new ≡ ⟦<SIndex as Tables<SourceRows>>⟧.now self.old) }
         ensures no_step { OnErr result (steps.new ≡ steps.old) }
     {
         self.spend_at(&id, steps)
@@ -86,14 +79,12 @@ impl SIndex {
 
     fn spend_at<L: StepBook>(&mut self, id: &SourceId, steps: &mut Steps<L>) -> Result<(), NoMemory>
         ensures at { OnOk result ((s t : States) → ⟦<SIndex as Tables<SourceRows>>⟧.at self.old s → AreRows (rows_of s) → ⟦<SIndex as Tables<SourceRows>>⟧.at self.new (without id.now (rows_of s) ∷ t)) }
-        ensures marked { (s : States) → ⟦<SIndex as Tables<SourceRows>>⟧.marked self.old s → ⟦<SIndex as Tables<SourceRows>>⟧.marked self.new s }
-        ensures waits { (o : States) (i : ℕ) → ⟦<SIndex as Tables<SourceRows>>⟧.waits self.old o i → ⟦<SIndex as Tables<SourceRows>>⟧.waits self.new o i }
-        ensures ahead { ⟦<SIndex as Tables<SourceRows>>⟧.ahead_costs self.new ≡ ⟦<SIndex as Tables<SourceRows>>⟧.ahead_costs self.old }
-        ensures costs { OnOk result (AtMostMore 5 (⟦<SIndex as Tables<SourceRows>>⟧.costs self.old) (⟦<SIndex as Tables<SourceRows>>⟧.costs self.new)) }
+        ensures others { ⟦<SIndex as Tables<SourceRows>>⟧.others self.new ≡ ⟦<SIndex as Tables<SourceRows>>⟧.others self.old }
+        ensures count { ⟦<SIndex as Tables<SourceRows>>⟧.count self.new + steps.old ≤ ⟦<SIndex as Tables<SourceRows>>⟧.count self.old + steps.new }
         ensures steps { OnOk result (steps.new ≤ steps.old + 5) }
         ensures accounts { accounts self.new ≡ accounts self.old }
 
-        ensures refused { OnErr result (⟦<SIndex as Tables<SourceRows>>⟧.same self.old self.new) }
+        ensures refused { OnErr result (⟦<SIndex as Tables<SourceRows>>⟧.now self.new ≡ ⟦<SIndex as Tables<SourceRows>>⟧.now self.old) }
         ensures no_step { OnErr result (steps.new ≡ steps.old) }
     {
         let Some(row) = self.tables.first.get(*id) else {

@@ -49,22 +49,6 @@ fn three_people() -> Option<People> {
     })
 }
 
-fn put<L: StepBook>(
-    index: &mut CIndex,
-    from: Key,
-    to: Key,
-    row: CertRow,
-    steps: &mut Steps<L>,
-) -> Result<(), NoMemory> {
-    index.put_row(from, to, row, steps)?;
-    Ok(())
-}
-
-fn mark(index: &mut CIndex) -> Result<(), NoMemory> {
-    index.mark()?;
-    Ok(())
-}
-
 fn back<L: StepBook>(index: &mut CIndex, steps: &mut Steps<L>) {
     if index.depth() > 0 {
         index.back(steps);
@@ -77,9 +61,9 @@ fn certify<L: StepBook>(
     people: &People,
     steps: &mut Steps<L>,
 ) -> Result<(), NoMemory> {
-    put(index, people.cleo, people.bert, CLEO_TO_BERT, steps)?;
-    put(index, people.anna, people.bert, ANNA_TO_BERT, steps)?;
-    put(index, people.cleo, people.anna, CLEO_TO_ANNA, steps)?;
+    index.put_row(people.cleo, people.bert, CLEO_TO_BERT, steps)?;
+    index.put_row(people.anna, people.bert, ANNA_TO_BERT, steps)?;
+    index.put_row(people.cleo, people.anna, CLEO_TO_ANNA, steps)?;
     Ok(())
 }
 
@@ -152,11 +136,11 @@ fn goes_through<L: StepBook>(
     people: &People,
     steps: &mut Steps<L>,
 ) -> Result<bool, NoMemory> {
-    mark(index)?;
+    index.mark()?;
     certify(index, people, steps)?;
     let written = all_live(index, people) && rows_are_listed(index, alloc, people)?;
-    mark(index)?;
-    put(index, people.cleo, people.bert, ENDED, steps)?;
+    index.mark()?;
+    index.put_row(people.cleo, people.bert, ENDED, steps)?;
     let ended = one_has_ended(index, people);
     back(index, steps);
     let lives_again = all_live(index, people);

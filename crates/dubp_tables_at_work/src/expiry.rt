@@ -1,24 +1,12 @@
-ghost use Rattle.std.specs.Prelude.{◌≡◌, ◌<◌, List, OnOk, ⊤};
-ghost use Rattle.dubp_expiry.specs.Entries.{Queued, queued, NoneIsDue};
+ghost use Rattle.std.specs.Prelude.{◌≡◌, ◌<◌};
 
 use dubp_atoms::{Key, NoMemory, Steps};
-use dubp_expiry::{Behind, Due, Entries, Queue};
+use dubp_expiry::{Behind, Due, Queue};
 use dubp_undo::Tables;
 use std::alloc::Global;
 use std::marker::Brand;
 use std::mem::forget;
 use std::sync::ledger::{Blank, Ledger as StepBook};
-
-// Takes out what is due, entry after entry.
-fn take_due<L: StepBook>(queue: &mut Queue, now: u64, steps: &mut Steps<L>) -> Result<(), NoMemory>
-    requires at { (s : List Queued) × ⟦<Queue as Tables<Entries>>⟧.at queue.old s }
-    ensures none { OnOk result ((s : List Queued) × (⟦<Queue as Tables<Entries>>⟧.at queue.new s × NoneIsDue (queued s) (λ e. ⊤) now)) }
-{
-    'taking: while let Some((time, due)) = queue.due(now) {
-        queue.cancel(time, due, steps)?;
-    }
-    Ok(())
-}
 
 // Three entries, two of one time: each is found in its turn, and none before its time.
 fn finds_in_order<L: StepBook>(
@@ -59,7 +47,7 @@ fn counts_steps<L: StepBook>(alloc: Global, blank: Blank, key: Key) -> Result<bo
     good
 }
 
-// An entry leaves once it is due.
+// What is due is taken out, entry after entry.
 fn empties<L: StepBook>(alloc: Global, blank: Blank, key: Key) -> Result<bool, NoMemory>
     requires name { blank.name ≡ L.name }
     requires parts { blank.parts ≡ L.parts }
@@ -67,10 +55,11 @@ fn empties<L: StepBook>(alloc: Global, blank: Blank, key: Key) -> Result<bool, N
 {
     let mut steps = Steps::<L>::open(blank);
     let mut queue = Queue::new(alloc);
-    queue.laws();
     let kept = queue.depth();
     queue.plan(10, Due::Membership(key), &mut steps)?;
-    take_due(&mut queue, 10, &mut steps)?;
+    'taking: while let Some((time, due)) = queue.due(10) {
+        queue.cancel(time, due, &mut steps)?;
+    }
     Ok(kept == 0 && queue.due(10).is_none())
 }
 

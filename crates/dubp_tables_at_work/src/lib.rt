@@ -1,7 +1,7 @@
 //! Tests of a moving table, of the queue of what falls due, and of certifications and sources at work, and nothing else.
 //!
-//! Each call of theirs is made once or twice, with values whose answers are known from outside. A call with a long contract stands in a
-//! small function without one, so that the tests, which are proved as code is, stay cheap.
+//! Each call of theirs is made once or twice, with values whose answers are known from outside. Most calls of `back` stand in a small
+//! function that asks first whether a state is kept, so that few functions here have to say that one is.
 #![tactic(auto)]
 
 #[cfg(test)]

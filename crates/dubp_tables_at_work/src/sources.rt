@@ -47,30 +47,6 @@ fn two_sources() -> Option<Made> {
     })
 }
 
-fn make<L: StepBook>(
-    index: &mut SIndex,
-    id: SourceId,
-    row: SourceRow,
-    steps: &mut Steps<L>,
-) -> Result<(), NoMemory> {
-    index.make(id, row, steps)?;
-    Ok(())
-}
-
-fn spend<L: StepBook>(
-    index: &mut SIndex,
-    id: SourceId,
-    steps: &mut Steps<L>,
-) -> Result<(), NoMemory> {
-    index.spend(id, steps)?;
-    Ok(())
-}
-
-fn mark(index: &mut SIndex) -> Result<(), NoMemory> {
-    index.mark()?;
-    Ok(())
-}
-
 fn back<L: StepBook>(index: &mut SIndex, steps: &mut Steps<L>) {
     if index.depth() > 0 {
         index.back(steps);
@@ -82,8 +58,8 @@ fn make_both<L: StepBook>(
     made: &Made,
     steps: &mut Steps<L>,
 ) -> Result<(), NoMemory> {
-    make(index, made.dividend, OF_DIVIDEND, steps)?;
-    make(index, made.output, OF_OUTPUT, steps)?;
+    index.make(made.dividend, OF_DIVIDEND, steps)?;
+    index.make(made.output, OF_OUTPUT, steps)?;
     Ok(())
 }
 
@@ -126,12 +102,12 @@ fn goes_through<L: StepBook>(
     made: &Made,
     steps: &mut Steps<L>,
 ) -> Result<bool, NoMemory> {
-    mark(index)?;
+    index.mark()?;
     make_both(index, made, steps)?;
     let listed = sources_are_listed(index, alloc, made)?;
     let there = are_unspent(index, made) && balances_are_walked(index);
-    mark(index)?;
-    spend(index, made.output, steps)?;
+    index.mark()?;
+    index.spend(made.output, steps)?;
     let spent = output_is_spent(index, made);
     back(index, steps);
     let there_again = are_unspent(index, made) && balances_are_walked(index);

@@ -136,9 +136,7 @@ fn uses_places_again<L: StepBook>(
 fn goes_far_back<L: StepBook>(
     table: &mut UndoTable<u64, u64>,
     steps: &mut Steps<L>,
-) -> Result<bool, NoMemory>
-    requires { table.old ≡ empty }
-{
+) -> Result<bool, NoMemory> {
     for i in 0..KEYS {
         table.set(i, Some(i), steps)?;
     }
@@ -162,9 +160,7 @@ fn goes_far_back<L: StepBook>(
 fn sets_many_keys<L: StepBook>(
     table: &mut UndoTable<u64, u64>,
     steps: &mut Steps<L>,
-) -> Result<bool, NoMemory>
-    requires { table.old ≡ empty }
-{
+) -> Result<bool, NoMemory> {
     for i in 0..MANY_KEYS {
         table.set(i, Some(i), steps)?;
     }
@@ -175,9 +171,7 @@ fn sets_many_keys<L: StepBook>(
 fn goes_on_after_a_refusal<L: StepBook>(
     table: &mut UndoTable<u64, u64>,
     steps: &mut Steps<L>,
-) -> Result<bool, NoMemory>
-    requires { table.old ≡ empty }
-{
+) -> Result<bool, NoMemory> {
     let mut same = true;
     if table.set(1, Some(5), steps).is_err() {
         same = same && has(table, &[]) && table.depth() == 0;

@@ -8,13 +8,11 @@ pub mod Journals
 pub mod Live
 pub mod Maps
 pub mod Naming
-pub mod Numbers
 pub mod Past
 pub mod Placed
 pub mod Placing
 pub mod Results
 pub mod Setting
-pub mod Standing
-pub mod States
+pub mod Turned
 pub mod Turning
 pub mod Walks

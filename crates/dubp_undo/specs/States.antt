@@ -1,7 +1,6 @@
 -- An index stands for a chain of states, newest first: each state is its rows after a block. What a block leaves is said above,
 -- where the chain of blocks is known.
-use Rattle.std.specs.Prelude.{◌≡◌, ℕ, ◌≤◌, List, [], ◌∷◌}
-use Rattle.dubp_undo.specs.Numbers.{add_last}
+use Rattle.std.specs.Prelude.{List, [], ◌∷◌}
 
 module _ {S : Type 0} where
   -- the state after the last block; before the first it is that in which nothing stands
@@ -13,9 +12,3 @@ module _ {S : Type 0} where
 abbrev pub states : {B S : Type 0} → (List B → S) → List B → List S
 states after [] = []
 states after (b ∷ c) = after (b ∷ c) ∷ states after c
-
--- at most n more at the last number
-pub record AtMostMore (n : ℕ) (old new : List ℕ) : Type 0 where
-  pub more : ℕ
-  pub most : more ≤ n
-  pub is : new ≡ add_last more old

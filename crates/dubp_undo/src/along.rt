@@ -31,39 +31,30 @@ impl<B, S, T: Tables<S>, D: StateOf<B, S>> Along<B, S, T, D> {
 }
 
 impl<B, S, T: Tables<S>, D: StateOf<B, S>> Tables<B> for Along<B, S, T, D> {
-    ghost costs = { λ t. T.costs t.tables };
+    ghost Now = { T.Now };
 
-    ghost ahead_costs = { λ t. T.ahead_costs t.tables };
+    ghost Names = { T.Names };
 
-    ghost at = { λ t c. T.at t.tables (states D.after c) };
+    ghost now = { λ t. T.now t.tables };
 
-    ghost stands = { λ t c. T.stands t.tables (states D.after c) };
+    ghost count = { λ t. T.count t.tables };
 
-    ghost marked = { λ t c. T.marked t.tables (states D.after c) };
-
-    ghost waits = { λ t o i. T.waits t.tables (states D.after o) i };
-
-    ghost same = { λ t u. T.same t.tables u.tables };
-
-    ghost marks = { λ t u. T.marks t.tables u.tables };
-
-    ghost keeps = { λ t u. T.keeps t.tables u.tables };
+    ghost others = { λ t. T.others t.tables };
 
     ghost spare = { λ t. T.spare t.tables };
 
-    ghost room = { λ t. T.room t.tables };
+    ghost names = { λ t. T.names t.tables };
+
+    ghost is = { λ m n c. T.is m n (states D.after c) };
+
+    ghost at = { λ t c. T.at t.tables (states D.after c) };
 
     fn depth(&self) -> usize {
         self.tables.depth()
     }
 
-    fn laws(&self) {
-        self.tables.laws();
-    }
-
     fn mark(&mut self) -> Result<(), NoMemory> {
-        self.tables.mark()?;
-        Ok(())
+        self.tables.mark()
     }
 
     fn unmark(&mut self) {
@@ -71,16 +62,15 @@ impl<B, S, T: Tables<S>, D: StateOf<B, S>> Tables<B> for Along<B, S, T, D> {
     }
 
     fn reserve(&mut self, k: usize) -> Result<(), NoMemory> {
-        self.tables.reserve(k)?;
-        Ok(())
-    }
-
-    fn hold<L: StepBook>(&mut self, steps: &mut Steps<L>) {
-        self.tables.hold(steps);
+        self.tables.reserve(k)
     }
 
     fn back<L: StepBook>(&mut self, steps: &mut Steps<L>) {
         self.tables.back(steps);
+    }
+
+    fn hold<L: StepBook>(&mut self, steps: &mut Steps<L>) {
+        self.tables.hold(steps);
     }
 
     fn again<L: StepBook>(&mut self, steps: &mut Steps<L>) {
@@ -94,4 +84,8 @@ impl<B, S, T: Tables<S>, D: StateOf<B, S>> Tables<B> for Along<B, S, T, D> {
     fn drop_ahead(&mut self) {
         self.tables.drop_ahead();
     }
+
+    ghost is_at = { λ t c is. T.is_at t.tables (states D.after c) is };
+
+    ghost at_is = { λ t c is. T.at_is t.tables (states D.after c) is };
 }

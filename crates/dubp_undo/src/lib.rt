@@ -14,8 +14,9 @@
 //! table.back(&mut steps);              // as at the mark, for good
 //! ```
 //!
-//! Tables of a chain of blocks are seen by whose maps they have. A `Leaf` is a table with its `Definition`, which says what
-//! it has at each key, for each chain; `Both` is two that move together, `Three` three; the moves of `Tables` are proved once for all.
+//! Tables of a chain of blocks are seen as values: the state that they have, those that they kept, and those ahead. A `Leaf` is a table
+//! with its `Definition`, which says what it has at each key, for each chain; `Both` is two that move together, `Three` three; the moves of
+//! `Tables` are proved once for all, and each clause of a move is an equation.
 #![tactic(auto)]
 
 mod along;

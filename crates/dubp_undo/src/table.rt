@@ -2,7 +2,7 @@ ghost use Rattle.std.specs.Prelude.{◌≡◌, ◌⊎◌, ◌+◌, ◌-◌, ◌<
 ghost use Rattle.std.specs.BTreeMap.Range.{IsLeBy};
 ghost use Rattle.std.specs.List.Sorted.{IsStrictlySortedBy};
 ghost use Rattle.std.specs.Map.{keys_of};
-ghost use Rattle.dubp_undo.specs.MovingTable.{MovingTable, empty, IsUnchanged, get, Puts, SameValues, one_more, last_count, IsLeast, HasNone, IsAllPlaced, IsPlaced, Places, PlacesFewer, IsAfter};
+ghost use Rattle.dubp_undo.specs.MovingTable.{MovingTable, empty, IsUnchanged, get, Puts, SameValues, one_more, last_count, first_count, IsLeast, HasNone, IsAllPlaced, IsPlaced, Places, PlacesFewer, IsAfter};
 
 use crate::hints::Hints;
 use crate::moves::{Change, changes_since, drop_first, make_room, move_last, note, undo_last};
@@ -36,6 +36,8 @@ pub struct UndoTable<K: Ord, V> {
     redo: VecDeque<Change<V>>,
     redo_marks: VecDeque<usize>,
     spare: usize,
+    // how many changes led to the first mark from the one before it, which is forgotten
+    first: usize,
     // the slots from which the changes of the way forward are undone
     root: Noted<Vec<Option<V>>>,
     // the rows and slots of the last `hold` or `again`, where the way forward begins
@@ -55,6 +57,7 @@ impl<K: Ord, V> Model for UndoTable<K, V> {
 
     ghost view = { λ t. record {
       past = states t.rows t.slots.items t.journal.items t.marks.items;
+      first = t.first;
       now = live t.rows t.slots.items;
       ahead = reverse (states t.rows t.root.value.items t.redo.items t.redo_marks.items);
       root = live t.rooted_rows.value t.rooted.value.items;
@@ -88,6 +91,7 @@ impl<K: Ord + Copy, V: Copy + Eq> UndoTable<K, V> {
             redo: VecDeque::new(alloc),
             redo_marks: VecDeque::new(alloc),
             spare: 0,
+            first: 0,
             root,
             rooted_rows,
             rooted,
@@ -145,6 +149,7 @@ impl<K: Ord + Copy, V: Copy + Eq> UndoTable<K, V> {
         steps: &mut Steps<L>,
     ) -> Result<(), NoMemory>
         ensures now { OnOk result (Puts K.cmp self.old.now self.new.now k v) }
+        ensures first { self.new.first ≡ self.old.first }
         ensures past { OnOk result (self.new.past ≡ one_more self.old.past) }
         ensures placed { OnOk result (Places K.cmp self.old.placed self.new.placed k) }
         ensures step { OnOk result (steps.new ≡ steps.old + 1) }
@@ -188,6 +193,7 @@ impl<K: Ord + Copy, V: Copy + Eq> UndoTable<K, V> {
         ensures room_stays { self.old.room ≤ self.new.room }
         ensures past { self.new.past ≡ self.old.past }
         ensures now { self.new.now ≡ self.old.now }
+        ensures first { self.new.first ≡ self.old.first }
         ensures ahead { self.new.ahead ≡ self.old.ahead }
         ensures root { self.new.root ≡ self.old.root }
 
@@ -212,6 +218,7 @@ impl<K: Ord + Copy, V: Copy + Eq> UndoTable<K, V> {
     pub fn mark(&mut self) -> Result<(), NoMemory>
         ensures past { OnOk result (self.new.past ≡ self.old.past ++ (self.old.now, 0) ∷ []) }
         ensures now { self.new.now ≡ self.old.now }
+        ensures first { self.new.first ≡ self.old.first }
         ensures ahead { self.new.ahead ≡ self.old.ahead }
         ensures root { self.new.root ≡ self.old.root }
         ensures placed { self.new.placed ≡ self.old.placed }
@@ -232,6 +239,7 @@ impl<K: Ord + Copy, V: Copy + Eq> UndoTable<K, V> {
         requires fresh { last_count self.old.past ≡ 0 }
         ensures past { self.old.past ≡ self.new.past ++ (self.old.now, 0) ∷ [] }
         ensures now { self.new.now ≡ self.old.now }
+        ensures first { self.new.first ≡ self.old.first }
         ensures ahead { self.new.ahead ≡ self.old.ahead }
         ensures root { self.new.root ≡ self.old.root }
         ensures placed { self.new.placed ≡ self.old.placed }
@@ -250,6 +258,7 @@ impl<K: Ord + Copy, V: Copy + Eq> UndoTable<K, V> {
         ensures spare_stays { self.old.spare ≤ self.new.spare }
         ensures past { self.new.past ≡ self.old.past }
         ensures now { self.new.now ≡ self.old.now }
+        ensures first { self.new.first ≡ self.old.first }
         ensures ahead { self.new.ahead ≡ self.old.ahead }
         ensures root { self.new.root ≡ self.old.root }
         ensures placed { self.new.placed ≡ self.old.placed }
@@ -275,6 +284,7 @@ impl<K: Ord + Copy, V: Copy + Eq> UndoTable<K, V> {
         requires spare { 1 ≤ self.old.spare }
         requires begins { (self.old.ahead ≡ []) ⊎ SameValues K.cmp self.old.now self.old.root }
         ensures past { self.old.past ≡ self.new.past ++ (self.new.now, steps.new - steps.old) ∷ [] }
+        ensures first { self.new.first ≡ self.old.first }
         ensures ahead { self.new.ahead ≡ (self.old.now, steps.new - steps.old) ∷ self.old.ahead }
         ensures root { self.new.root ≡ self.new.now }
         ensures spare { self.new.spare + 1 ≡ self.old.spare }
@@ -296,6 +306,7 @@ impl<K: Ord + Copy, V: Copy + Eq> UndoTable<K, V> {
     pub fn back<L: StepBook>(&mut self, steps: &mut Steps<L>)
         requires { 0 < length self.old.past }
         ensures past { self.old.past ≡ self.new.past ++ (self.new.now, steps.new - steps.old) ∷ [] }
+        ensures first { self.new.first ≡ self.old.first }
         ensures ahead { self.new.ahead ≡ self.old.ahead }
         ensures root { self.new.root ≡ self.old.root }
         ensures placed { self.new.placed ≡ self.old.placed }
@@ -320,6 +331,7 @@ impl<K: Ord + Copy, V: Copy + Eq> UndoTable<K, V> {
         requires ahead { 0 < length self.old.ahead }
         requires begins { SameValues K.cmp self.old.now self.old.root }
         ensures past { self.new.past ≡ self.old.past ++ (self.old.now, steps.new - steps.old) ∷ [] }
+        ensures first { self.new.first ≡ self.old.first }
         ensures ahead { self.old.ahead ≡ (self.new.now, steps.new - steps.old) ∷ self.new.ahead }
         ensures root { self.new.root ≡ self.new.now }
         ensures placed { self.new.placed ≡ self.old.placed }
@@ -343,6 +355,7 @@ impl<K: Ord + Copy, V: Copy + Eq> UndoTable<K, V> {
         requires { 0 < length self.old.past }
         ensures past { self.new.past ≡ drop 1 self.old.past }
         ensures now { self.new.now ≡ self.old.now }
+        ensures first { self.new.first ≡ first_count self.old.past }
         ensures ahead { self.new.ahead ≡ self.old.ahead }
         ensures root { self.new.root ≡ self.old.root }
         ensures placed { PlacesFewer K.cmp self.old.placed self.new.placed }
@@ -350,6 +363,7 @@ impl<K: Ord + Copy, V: Copy + Eq> UndoTable<K, V> {
         ensures room_stays { self.old.room ≤ self.new.room }
     {
         let n = self.marks.pop_front().unwrap();
+        self.first = n;
         drop_first(&mut self.journal, &mut self.uses, &mut self.hints, n);
         self.spare = 0;
         self.forget();
@@ -363,6 +377,7 @@ impl<K: Ord + Copy, V: Copy + Eq> UndoTable<K, V> {
         ensures ahead { self.new.ahead ≡ [] }
         ensures past { self.new.past ≡ self.old.past }
         ensures now { self.new.now ≡ self.old.now }
+        ensures first { self.new.first ≡ self.old.first }
         ensures root { self.new.root ≡ self.old.root }
         ensures placed { PlacesFewer K.cmp self.old.placed self.new.placed }
         ensures held { IsAllPlaced K.cmp self.new }
@@ -379,6 +394,7 @@ impl<K: Ord + Copy, V: Copy + Eq> UndoTable<K, V> {
     fn forget(&mut self)
         ensures past { self.new.past ≡ self.old.past }
         ensures now { self.new.now ≡ self.old.now }
+        ensures first { self.new.first ≡ self.old.first }
         ensures ahead { self.new.ahead ≡ self.old.ahead }
         ensures root { self.new.root ≡ self.old.root }
         ensures placed { PlacesFewer K.cmp self.old.placed self.new.placed }

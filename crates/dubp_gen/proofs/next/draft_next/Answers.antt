@@ -9,14 +9,14 @@ pub returns-in_ok-drafted-in-Some-clause-block : goal.returns-in_ok-drafted-in-S
 returns-in_ok-drafted-in-Some-clause-block g c = λ start number.
     let chain = c.args.ledger.now.chain in
     let s = c.in_ok-source-in-Some in
-    let from = s.ensures.source chain c.money.ensures c.laws.ensures.sound ∙ ap (first_source chain) c.payer.ensures.number in
+    let from = s.ensures.source chain c.money.ensures.at c.laws.ensures.sound ∙ ap (first_source chain) c.payer.ensures.number in
     c.in_ok-drafted-in-Some.ensures.block ∙ drafted start chain c.len.result c.args.x c.in-Some.stamp s.source c.in-Some.ensures c.len.ensures number from
 
 pub returns-in_ok-drafted-in-Some-clause-given : goal.returns-in_ok-drafted-in-Some-clause-given
 returns-in_ok-drafted-in-Some-clause-given g c = λ start number.
     let chain = c.args.ledger.now.chain in
     let s = c.in_ok-source-in-Some in
-    let from = s.ensures.source chain c.money.ensures c.laws.ensures.sound ∙ ap (first_source chain) c.payer.ensures.number in
+    let from = s.ensures.source chain c.money.ensures.at c.laws.ensures.sound ∙ ap (first_source chain) c.payer.ensures.number in
     c.in_ok-drafted-in-Some.ensures.verdicts ∙ drafted_given start chain c.len.result c.args.x c.in-Some.stamp s.source c.in-Some.ensures c.len.ensures number from
 
 pub returns-in_ok-drafted-in-Some-clause-size : goal.returns-in_ok-drafted-in-Some-clause-size

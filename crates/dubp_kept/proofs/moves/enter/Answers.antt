@@ -1,41 +1,38 @@
-use Rattle.std.proofs.Common.{◌≡◌, ◌∙◌, ◌-◌, [], ◌∷◌, ◌++◌, length, length-append, ap, sym, subst, arith}
-use Rattle.dubp_undo.specs.Numbers.{settled}
-use Rattle.dubp_undo.specs.States.{AtMostMore}
-use Rattle.dubp_undo.proofs.Numbers.{settled_length, settled_back}
-use Rattle.dubp_kept.specs.KeptChain.{most_steps, AreWithin}
-use Rattle.dubp_kept.proofs.Within.{within_more}
+use Rattle.std.proofs.Common.{◌∙◌, ap, sym, ◌∷◌, arith}
+use Rattle.dubp_undo.specs.Chains.{stands_now}
+use Rattle.dubp_kept.specs.KeptChain.{Fits}
+use Rattle.dubp_kept.proofs.Within.{within_more, within_back, waits_same}
 use Rattle.dubp_kept.proofs.moves.enter.Goals as goal
-
-pub back-requires : goal.back-requires
-back-requires g c =
-    let old = g.T.Tables.costs c.args.tables.now in
-    omega (arith, settled_length (g.T.Tables.costs c.write.new.self) (g.T.Tables.costs c.mark.new.self) c.write.ensures.costs_stay, ap length c.in_ok-mark.ensures.costs, length-append old (0 ∷ []))
 
 pub returns-in-Ok-clause-stands : goal.returns-in-Ok-clause-stands
 returns-in-Ok-clause-stands g c = λ chain sound text head s.
-    let b = c.args.block.now in
-    let new = g.T.Tables.costs c.write.new.self in
-    let before = c.in_ok-mark.ensures.at chain (c.laws.ensures.at chain s.0) in
-    let more = subst (λ l. AtMostMore (most_steps chain b) l new) c.in_ok-mark.ensures.costs (c.in-Ok.ensures.costs chain sound text head before) in (
-      c.laws-in-Ok.ensures.applied b chain (c.write.ensures.marked chain (c.in_ok-mark.ensures.marked chain s.0)) (c.in-Ok.ensures.at chain sound text head before),
-      within_more (g.T.Tables.costs c.args.tables.now) new b chain more s.1,
-    )
+    let t = c.args.tables.now in
+    let m = c.mark.new.self in
+    let w = c.write.new.self in
+    let is = (stands_now (Fits (g.T.Tables.is (g.T.Tables.names t))) (g.T.Tables.now t, g.T.Tables.count t) (g.T.Tables.others t).kept chain s).0 in
+    let marked = g.met.T.Tables.is_at m chain (rw (c.mark.ensures.names, c.mark.ensures.now) is) in
+    let written = g.met.T.Tables.at_is w (c.args.block.now ∷ chain) (c.in-Ok.ensures.at chain sound text head marked) in
+    let steps = c.in-Ok.ensures.steps chain sound text head marked in
+    within_more (g.T.Tables.is (g.T.Tables.names t)) (g.T.Tables.is (g.T.Tables.names w)) (λ n d p. c.write.ensures.stays n d (rw c.mark.ensures.names p)) (g.T.Tables.now t) (g.T.Tables.now w) (g.T.Tables.count t) (g.T.Tables.count w) (g.T.Tables.others t).kept (g.T.Tables.others w).kept c.args.block.now chain
+    (ap (λ o. o.kept) c.write.ensures.others ∙ c.in_ok-mark.ensures.kept) written (omega (arith, c.write.ensures.count, c.in_ok-mark.ensures.count, steps)) s
 
-pub returns-in-Ok-clause-depth : goal.returns-in-Ok-clause-depth
-returns-in-Ok-clause-depth g c =
-    let old = g.T.Tables.costs c.args.tables.now in
-    omega (arith, settled_length (g.T.Tables.costs c.write.new.self) (g.T.Tables.costs c.mark.new.self) c.write.ensures.costs_stay, ap length c.in_ok-mark.ensures.costs, length-append old (0 ∷ []))
+pub returns-in-Ok-clause-waits : goal.returns-in-Ok-clause-waits
+returns-in-Ok-clause-waits g c = λ o i.
+    let t = c.args.tables.now in
+    let w = c.write.new.self in
+    waits_same (g.T.Tables.is (g.T.Tables.names t)) (g.T.Tables.is (g.T.Tables.names w)) (λ n d p. c.write.ensures.stays n d (rw c.mark.ensures.names p)) (g.T.Tables.others t) (g.T.Tables.others w) o i
+    (ap (λ x. x.ahead) c.write.ensures.others ∙ c.mark.ensures.ahead) (ap (λ x. x.root) c.write.ensures.others ∙ c.mark.ensures.root)
+
+pub returns-in-Err-clause-waits : goal.returns-in-Err-clause-waits
+returns-in-Err-clause-waits g c = λ o i.
+    let t = c.args.tables.now in
+    let b = c.back.new.self in
+    waits_same (g.T.Tables.is (g.T.Tables.names t)) (g.T.Tables.is (g.T.Tables.names b)) (λ n d p. rw c.back.ensures.names (c.write.ensures.stays n d (rw c.mark.ensures.names p))) (g.T.Tables.others t) (g.T.Tables.others b) o i
+    (c.back.ensures.ahead ∙ ap (λ x. x.ahead) c.write.ensures.others ∙ c.mark.ensures.ahead) (c.back.ensures.root ∙ ap (λ x. x.root) c.write.ensures.others ∙ c.mark.ensures.root)
 
 pub returns-in-Err-clause-refused : goal.returns-in-Err-clause-refused
 returns-in-Err-clause-refused g c = λ chain s.
-    let old = g.T.Tables.costs c.args.tables.now in
-    let new = g.T.Tables.costs c.back.new.self in
-    let same : new ≡ old = settled_back new old (c.back.new.steps - c.write.new.steps) 0 (sym (ap settled c.back.ensures.costs) ∙ c.write.ensures.costs_stay ∙ ap settled c.in_ok-mark.ensures.costs) in
-    (c.back.ensures.marked chain (c.write.ensures.marked chain (c.in_ok-mark.ensures.marked chain s.0)), subst (λ l. AreWithin l chain) (sym same) s.1)
-
-pub returns-in-Err-clause-refused_depth : goal.returns-in-Err-clause-refused_depth
-returns-in-Err-clause-refused_depth g c =
-    let old = g.T.Tables.costs c.args.tables.now in
-    let new = g.T.Tables.costs c.back.new.self in
-    let same : new ≡ old = settled_back new old (c.back.new.steps - c.write.new.steps) 0 (sym (ap settled c.back.ensures.costs) ∙ c.write.ensures.costs_stay ∙ ap settled c.in_ok-mark.ensures.costs) in
-    ap length same
+    let t = c.args.tables.now in
+    let b = c.back.new.self in
+    let kept = sym c.back.ensures.kept ∙ ap (λ o. o.kept) c.write.ensures.others ∙ c.in_ok-mark.ensures.kept in
+    within_back (g.T.Tables.is (g.T.Tables.names t)) (g.T.Tables.is (g.T.Tables.names b)) (λ n d p. rw c.back.ensures.names (c.write.ensures.stays n d (rw c.mark.ensures.names p))) (g.T.Tables.now t) (g.T.Tables.now b) (g.T.Tables.count t) (g.T.Tables.count b) (g.T.Tables.others t).kept (g.T.Tables.others b).kept chain kept s

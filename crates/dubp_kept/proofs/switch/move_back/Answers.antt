@@ -1,10 +1,12 @@
-use Rattle.std.proofs.Common.{refl, ◌≡◌, ◌+◌, ◌-◌, ◌++◌, ◌∷◌, [], ◌∙◌, length, length-append, reverse, ap, sym, subst, option_to_list, arith}
+use Rattle.std.proofs.Common.{refl, ◌≡◌, ◌+◌, ◌++◌, ◌∙◌, length, length-append, reverse, ap, drop, sym, subst, option_to_list, arith}
 use Rattle.std.proofs.lemmas.List.{length-drop, length-reverse}
 use Rattle.dubp_chain.specs.Heads.{heads_of}
-use Rattle.dubp_kept.specs.KeptChain.{steps_of_last, StandsWithin, WaitsWithin}
+use Rattle.dubp_chain.specs.Chains.{Chain}
+use Rattle.dubp_undo.specs.Chains.{stands_now}
+use Rattle.dubp_kept.specs.KeptChain.{steps_of_last, Fits, StandsWithin, WaitsWithin}
 use Rattle.dubp_kept.specs.Moves.{HasMoved}
 use Rattle.dubp_kept.proofs.Moved.{length_heads, length_push, moved_back, time_small}
-use Rattle.dubp_kept.proofs.Within.{again_within, steps_on, within_again}
+use Rattle.dubp_kept.proofs.Within.{steps_on, within_again}
 use Rattle.dubp_kept.proofs.switch.move_back.Goals as goal
 
 pub put_back-requires-clause-time : goal.put_back-requires-clause-time
@@ -21,6 +23,14 @@ put_back-requires-clause-room g c =
     let less = c.pop.ensures.items ∙ ap (λ r. c.pop.new.self.items ++ option_to_list r) c.in-Some.is in
     omega (arith, ap length m.heads_are, length-drop (length c.loop-block.held.items) (heads_of o), length_heads o, m.within, ap length less, length_push c.pop.new.self.items c.in-Some.block, c.requires.returns.heads_room.heads_fit, c.loop-block.invariant.keeps.room)
 
+pub again-requires-clause-begins : goal.again-requires-clause-begins
+again-requires-clause-begins g c =
+    let m = c.loop-block.invariant.moved in
+    let t = c.loop-block.tables in
+    let rest = drop (length c.loop-block.held.items) (c.args.held.now.items ++ reverse c.args.blocks.now.items) in
+    let rest_is = c.pop.ensures.items ∙ ap (λ r. c.pop.new.self.items ++ option_to_list r) c.in-Some.is in
+    (rest, ((stands_now (Fits (g.T.Tables.is (g.T.Tables.names t))) (g.T.Tables.now t, g.T.Tables.count t) (g.T.Tables.others t).kept rest m.stands_is).0, m.waits_is.1 (omega (arith, ap length rest_is, length_push c.pop.new.self.items c.in-Some.block))))
+
 pub loop-block-preserved : goal.loop-block-preserved
 loop-block-preserved g c =
     let o = c.args.held.now.items ++ reverse c.args.blocks.now.items in
@@ -32,20 +42,17 @@ loop-block-preserved g c =
     let less = c.pop.ensures.items ∙ ap (λ r. rest ++ option_to_list r) c.in-Some.is in
     let heads_less = c.pop-in-Some.ensures.items ∙ ap (λ r. c.pop-in-Some.new.self.items ++ option_to_list r) c.unwrap-head.ensures in
     let one_less : length c.loop-block.held.items ≡ length rest + 1 = ap length less ∙ length_push rest c.in-Some.block in
-    let m = subst (λ n. HasMoved (StandsWithin (g.T.Tables.stands old) (g.T.Tables.costs old)) (WaitsWithin (g.T.Tables.waits old) (g.T.Tables.ahead_costs old)) (length (g.T.Tables.ahead_costs c.loop-block.tables)) c.loop-block.heads c.loop-block.behind.items c.loop-block.blocks.items c.loop-block.held.items o n) one_less i.moved in
-    let n = c.again.new.steps - c.loop-block.steps in
-    let moved = a.moved o (length rest) m.stands_is.0 m.waits_is.0 in
-    let count : length (g.T.Tables.ahead_costs new) ≡ length rest = omega (arith, ap length a.ahead, m.ahead_is) in
-    let within = within_again (g.T.Tables.costs old) (g.T.Tables.costs new) (g.T.Tables.ahead_costs old) (g.T.Tables.ahead_costs new) n o (length rest) count (omega (arith, m.within)) a.costs a.ahead m.stands_is.1 m.waits_is.1 in
-    let least = again_within (g.T.Tables.ahead_costs old) (g.T.Tables.ahead_costs new) n o (length rest) count a.ahead m.waits_is.1 in
+    let m = subst (λ n. HasMoved (StandsWithin (g.T.Tables.is (g.T.Tables.names old)) (g.T.Tables.now old) (g.T.Tables.count old) (g.T.Tables.others old).kept) (WaitsWithin (g.T.Tables.is (g.T.Tables.names old)) (g.T.Tables.others old)) (length (g.T.Tables.others c.loop-block.tables).ahead) c.loop-block.heads c.loop-block.behind.items c.loop-block.blocks.items c.loop-block.held.items o n) one_less i.moved in
+    let stays : (l : g.T.Tables.Now) (d : Chain) → g.T.Tables.is (g.T.Tables.names old) l d → g.T.Tables.is (g.T.Tables.names new) l d = λ l d p. rw a.names p in
+    let tables = within_again (g.T.Tables.is (g.T.Tables.names old)) (g.T.Tables.is (g.T.Tables.names new)) stays (g.T.Tables.now old) (g.T.Tables.now new) (g.T.Tables.count old) (g.T.Tables.count new) (g.T.Tables.others old) (g.T.Tables.others new) o (length rest) (omega (arith, m.within)) a.kept a.ahead a.root m.stands_is m.waits_is in
     record {
-      moved = moved_back (StandsWithin (g.T.Tables.stands old) (g.T.Tables.costs old)) (StandsWithin (g.T.Tables.stands new) (g.T.Tables.costs new)) (WaitsWithin (g.T.Tables.waits old) (g.T.Tables.ahead_costs old)) (WaitsWithin (g.T.Tables.waits new) (g.T.Tables.ahead_costs new)) (length (g.T.Tables.ahead_costs c.loop-block.tables)) (length (g.T.Tables.ahead_costs c.again.new.self)) c.loop-block.heads c.put_back.new.self c.loop-block.behind.items c.pop-in-Some.new.self.items c.loop-block.blocks.items c.push_reserved.new.self.items c.loop-block.held.items rest o (length rest) c.unwrap-head.result c.in-Some.block
+      moved = moved_back (StandsWithin (g.T.Tables.is (g.T.Tables.names old)) (g.T.Tables.now old) (g.T.Tables.count old) (g.T.Tables.others old).kept) (StandsWithin (g.T.Tables.is (g.T.Tables.names new)) (g.T.Tables.now new) (g.T.Tables.count new) (g.T.Tables.others new).kept) (WaitsWithin (g.T.Tables.is (g.T.Tables.names old)) (g.T.Tables.others old)) (WaitsWithin (g.T.Tables.is (g.T.Tables.names new)) (g.T.Tables.others new)) (length (g.T.Tables.others c.loop-block.tables).ahead) (length (g.T.Tables.others c.again.new.self).ahead) c.loop-block.heads c.put_back.new.self c.loop-block.behind.items c.pop-in-Some.new.self.items c.loop-block.blocks.items c.push_reserved.new.self.items c.loop-block.held.items rest o (length rest) c.unwrap-head.result c.in-Some.block
           m c.put_back.ensures.pushed (c.put_back.ensures.span ∙ ap (λ p. p.median_time_blocks) c.requires.params) c.push_reserved.ensures.items less heads_less
-          (omega (arith, ap length a.ahead)) ((moved.0, within.0), (moved.1, within.1));
-      depth = omega (arith, one_less, ap length a.costs, length-append (g.T.Tables.costs c.loop-block.tables) ((c.again.new.steps - c.loop-block.steps) ∷ []), i.depth);
+          (omega (arith, ap length a.ahead)) tables.0;
+      depth = omega (arith, one_less, ap length a.kept, i.depth);
       room = omega (arith, i.room, c.push_reserved.ensures.len, c.push_reserved.ensures.capacity, one_less, c.pop.new.self.ok.0, c.loop-block.held.ok.0);
       capacity = c.push_reserved.ensures.capacity ∙ i.capacity;
-      steps = omega (arith, i.steps, a.steps, least, ap (λ k. steps_of_last k o) one_less, steps_on (length rest) o);
+      steps = omega (arith, i.steps, a.steps, tables.1, ap (λ k. steps_of_last k o) one_less, steps_on (length rest) o);
       keeps = record { room = omega (arith, i.keeps.room, c.put_back.ensures.keeps.room); width = omega (arith, i.keeps.width, c.put_back.ensures.keeps.width) };
     }
 

@@ -6,8 +6,8 @@ use Rattle.dubp_kept.proofs.switch.move_back.Given as goal
 
 abbrev pub invariant-loop-block : goal.invariant-loop-block
 invariant-loop-block g l = record {
-  moved : HasMoved (StandsWithin (g.T.Tables.stands l.tables) (g.T.Tables.costs l.tables)) (WaitsWithin (g.T.Tables.waits l.tables) (g.T.Tables.ahead_costs l.tables)) (length (g.T.Tables.ahead_costs l.tables)) l.heads l.behind.items l.blocks.items l.held.items (l.fn.held.items ++ reverse l.fn.blocks.items) (length l.held.items);
-  depth : length (g.T.Tables.costs l.tables) + length l.held.items ≡ length (g.T.Tables.costs l.fn.tables) + length l.fn.held.items;
+  moved : HasMoved (StandsWithin (g.T.Tables.is (g.T.Tables.names l.tables)) (g.T.Tables.now l.tables) (g.T.Tables.count l.tables) (g.T.Tables.others l.tables).kept) (WaitsWithin (g.T.Tables.is (g.T.Tables.names l.tables)) (g.T.Tables.others l.tables)) (length (g.T.Tables.others l.tables).ahead) l.heads l.behind.items l.blocks.items l.held.items (l.fn.held.items ++ reverse l.fn.blocks.items) (length l.held.items);
+  depth : length (g.T.Tables.others l.tables).kept + length l.held.items ≡ length (g.T.Tables.others l.fn.tables).kept + length l.fn.held.items;
   room : vec_len l.blocks + vec_len l.held ≤ vec_capacity l.blocks;
   capacity : vec_capacity l.blocks ≡ vec_capacity l.fn.blocks;
   steps : l.steps + steps_of_last (length l.held.items) (l.fn.held.items ++ reverse l.fn.blocks.items) ≤ l.fn.steps + steps_of_last (length l.fn.held.items) (l.fn.held.items ++ reverse l.fn.blocks.items);

@@ -1,5 +1,5 @@
-use Rattle.std.proofs.Common.{◌≡◌, ◌+◌, ◌*◌, ◌∷◌, true, List, length, ◌∙◌, subst, ap, arith}
-use Rattle.std.specs.List.{list_any, flat_map}
+use Rattle.std.proofs.Common.{◌≡◌, ◌+◌, ◌∷◌, true, List, length, ◌∙◌, subst, ap}
+use Rattle.std.specs.List.{list_any}
 use Rattle.dubp_atoms.specs.Same.{same_text}
 use Rattle.dubp_cond.specs.Conditions.{cond_text}
 use Rattle.dubp_chain.specs.Heads.{time_of}
@@ -11,10 +11,8 @@ use Rattle.dubp_money_steps.specs.Steps.{outputs_of, dividends_of}
 use Rattle.dubp_money_steps.specs.Left.{HasTexts}
 use Rattle.dubp_money.specs.Index.{HasRows}
 use Rattle.dubp_money.specs.Making.{CanFollow, with_made}
-use Rattle.dubp_money.specs.Transactions.{all_outputs, all_written, records_of}
-use Rattle.dubp_money.specs.Blocks.{paid}
-use Rattle.dubp_money.proofs.Standing.{has_more, grows_on}
-use Rattle.dubp_money.proofs.Kept.{keeps_on, sets_on}
+use Rattle.dubp_money.specs.Transactions.{all_outputs, all_written}
+use Rattle.dubp_money.proofs.Growing.{has_more, grows_on}
 use Rattle.dubp_money.proofs.BlockRows.{block_rows, few_made, fits_next}
 use Rattle.dubp_money.proofs.blocks.spend_and_make.Goals as goal
 
@@ -50,15 +48,3 @@ returns-clause-fits g c = λ chain w fits.
 
 pub returns-clause-texts : goal.returns-clause-texts
 returns-clause-texts g c = grows_on (accounts c.args.index.now) (accounts c.write_transactions.new.index) (accounts c.pay.new.index) c.in_ok-behind.ensures.texts c.in_ok-pay.ensures.texts
-
-pub returns-clause-sets : goal.returns-clause-sets
-returns-clause-sets g c =
-    let first = length (flat_map (records_of c.args.time c.args.block.now.currency) c.args.block.now.transactions) in
-    let second = length (paid c.args.payment c.args.members.now) in
-    sets_on (5 * first) (5 * second) (5 * (first + second)) c.args.index.now c.write_transactions.new.index c.pay.new.index (omega arith) c.in_ok-behind.ensures.sets c.in_ok-pay.ensures.sets
-
-pub returns-clause-keeps : goal.returns-clause-keeps
-returns-clause-keeps g c = keeps_on c.args.index.now c.write_transactions.new.index c.pay.new.index c.in_ok-behind.ensures.keeps c.in_ok-pay.ensures.keeps
-
-pub returns-in_err-pay-clause-keeps : goal.returns-in_err-pay-clause-keeps
-returns-in_err-pay-clause-keeps g c = keeps_on c.args.index.now c.write_transactions.new.index c.pay.new.index c.in_ok-behind.ensures.keeps c.in_err-pay.ensures.keeps

@@ -1,7 +1,7 @@
-use Rattle.std.proofs.Common.{◌*◌, sym, subst, rules}
-use Rattle.std.proofs.lemmas.List.Sorted.{IsNonDecreasingBy-from_sort_by_key, length_permutation}
+use Rattle.std.proofs.Common.{rules}
+use Rattle.std.proofs.lemmas.List.Sorted.{IsNonDecreasingBy-from_sort_by_key}
 use Rattle.dubp_sindex.specs.Rows.{Entry}
-use Rattle.dubp_money.specs.Index.{HasRows, Sets}
+use Rattle.dubp_money.specs.Index.{HasRows}
 use Rattle.dubp_money.proofs.Clears.{left_at_end, taken_at_end}
 use Rattle.dubp_money.proofs.clearing.clear_accounts.Goals as goal
 
@@ -17,7 +17,3 @@ returns-clause-taken g c = λ rows are has.
     are
     c.sort_unstable_by_key.new.self.items c.sort_unstable_by_key.ensures.permutation
     (IsNonDecreasingBy-from_sort_by_key (λ (e : Entry). e.1.order) _ c.sort_unstable_by_key.ensures.sorted (λ a r q k. search rules))
-
-pub returns-clause-sets : goal.returns-clause-sets
-returns-clause-sets g c =
-    subst (λ n. Sets (5 * n) c.args.index.now c.take_little.new.index) (sym (length_permutation c.in_ok-taken.taken.items c.sort_unstable_by_key.new.self.items c.sort_unstable_by_key.ensures.permutation)) c.in_ok-taken.ensures.sets

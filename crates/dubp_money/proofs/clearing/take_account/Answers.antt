@@ -1,7 +1,6 @@
-use Rattle.std.proofs.Common.{◌+◌, ◌*◌, ◌++◌, ◌∷◌, [], take, arith, ap, sym, ◌∙◌, append-nil, subst, length, length-append, refl}
+use Rattle.std.proofs.Common.{◌++◌, ◌∷◌, [], take, arith, ap, sym, ◌∙◌, append-nil, subst, length, length-append, refl}
 use Rattle.std.proofs.lemmas.List.{take_all}
 use Rattle.dubp_money.specs.Index.{HasRows}
-use Rattle.dubp_money.proofs.Kept.{keeps_none, keeps_on, sets_none, sets_on}
 use Rattle.dubp_money.proofs.Rows.{rows-filter}
 use Rattle.dubp_money.proofs.Clears.{spent_from, spent_none, spent_next, gathered_next, spent_all}
 use Rattle.dubp_money.proofs.clearing.take_account.Goals as goal
@@ -11,14 +10,11 @@ loop-entry-init g c = record {
   left = λ rows are has. subst (HasRows c.args.index.now) (sym (spent_none rows)) has;
   taken = sym (append-nil c.args.taken.now.items);
   counted = omega arith;
-  sets = sets_none c.args.index.now;
   steps = omega arith;
-  keeps = keeps_none c.args.index.now;
   texts = refl;
+  others = refl;
+  count = omega arith;
 }
-
-pub returns-in_err-spend_source-clause-keeps : goal.returns-in_err-spend_source-clause-keeps
-returns-in_err-spend_source-clause-keeps g c = keeps_on c.args.index.now c.loop-entry.index c.spend_source.new.index c.loop-entry.invariant.keeps c.in_err-spend_source.ensures.keeps
 
 pub loop-entry-preserved : goal.loop-entry-preserved
 loop-entry-preserved g c = record {
@@ -29,19 +25,16 @@ loop-entry-preserved g c = record {
       gathered_next c.args.taken.now.items c.deref-entry-items.result.now c.loop-entry.taken.items c.put_entry.new.taken.items c.loop-entry.entry-index c.entry-item.result (omega arith) c.entry-item.is
       c.loop-entry.invariant.taken c.in_ok-put_entry.ensures;
   counted = omega (arith, ap length c.in_ok-put_entry.ensures, length-append c.loop-entry.taken.items (c.entry-item.result ∷ []), c.loop-entry.invariant.counted);
-  sets = sets_on (5 * c.loop-entry.entry-index) 5 (5 * (c.loop-entry.entry-index + 1)) c.args.index.now c.loop-entry.index c.spend_source.new.index (omega arith) c.loop-entry.invariant.sets c.in_ok-spend_source.ensures.sets;
   steps = omega (arith, c.in_ok-spend_source.ensures.steps, c.loop-entry.invariant.steps);
-  keeps = keeps_on c.args.index.now c.loop-entry.index c.spend_source.new.index c.loop-entry.invariant.keeps c.in_ok-spend_source.ensures.keeps;
   texts = c.in_ok-spend_source.ensures.accounts ∙ c.loop-entry.invariant.texts;
+  others = c.in_ok-spend_source.ensures.others ∙ c.loop-entry.invariant.others;
+  count = omega (arith, c.in_ok-spend_source.ensures.count, c.loop-entry.invariant.count);
 }
 
 pub returns-clause-left : goal.returns-clause-left
 returns-clause-left g c = λ rows are has.
     spent_all (HasRows c.loop-entry.index) c.args.account rows c.deref-entry-items.result.now c.loop-entry.entry-index are (c.deref-entry-items.ensures.value ∙ c.in_ok-found.ensures (rows ∷ []) has are) (omega arith)
     (c.loop-entry.invariant.left rows are has)
-
-pub returns-in_err-put_entry-clause-keeps : goal.returns-in_err-put_entry-clause-keeps
-returns-in_err-put_entry-clause-keeps g c = keeps_on c.args.index.now c.loop-entry.index c.spend_source.new.index c.loop-entry.invariant.keeps c.in_ok-spend_source.ensures.keeps
 
 pub returns-clause-taken : goal.returns-clause-taken
 returns-clause-taken g c = λ rows are has.

@@ -1,4 +1,4 @@
-use Rattle.std.proofs.Common.{◌+◌, ◌*◌, ◌++◌, length, ◌∷◌, [], map, ap, sym, subst, arith}
+use Rattle.std.proofs.Common.{◌+◌, ◌++◌, length, ◌∷◌, [], map, ap, sym, subst, arith, refl, ◌∙◌}
 use Rattle.std.specs.List.{enumerate_from}
 use Rattle.dubp_chain.specs.Money.{output_source}
 use Rattle.dubp_sindex.specs.Accounts.{accounts}
@@ -6,8 +6,7 @@ use Rattle.dubp_sindex.specs.Rows.{IsNewRow}
 use Rattle.dubp_money_steps.specs.Left.{account_in, entry_of, HasTexts}
 use Rattle.dubp_money.specs.Index.{HasRows}
 use Rattle.dubp_money.specs.Making.{outputs_at, with_made}
-use Rattle.dubp_money.proofs.Standing.{grows_none, grows_on}
-use Rattle.dubp_money.proofs.Kept.{keeps_none, keeps_on, sets_none, sets_on}
+use Rattle.dubp_money.proofs.Growing.{grows_none, grows_on}
 use Rattle.dubp_money.proofs.Made.{IsNext, made_next, has_next, nothing_made, output_next, outputs_all}
 use Rattle.dubp_money.proofs.making.make_outputs.Goals as goal
 
@@ -17,13 +16,10 @@ loop-output-init g c = record {
   has = tt;
   texts = grows_none (accounts c.args.index.now);
   place = omega arith;
-  sets = sets_none c.args.index.now;
   steps = omega arith;
-  keeps = keeps_none c.args.index.now;
+  others = refl;
+  count = omega arith;
 }
-
-pub returns-in_err-make_source-clause-keeps : goal.returns-in_err-make_source-clause-keeps
-returns-in_err-make_source-clause-keeps g c = keeps_on c.args.index.now c.loop-output.index c.make_source.new.index c.loop-output.invariant.keeps c.in_err-make_source.ensures.keeps
 
 pub loop-output-preserved : goal.loop-output-preserved
 loop-output-preserved g c =
@@ -49,9 +45,9 @@ loop-output-preserved g c =
       has = has_next texts texts' c.in_ok-make_source.ensures.texts made i (output_source time hash (i, o)) next c.loop-output.invariant.has c.in_ok-make_source.ensures.has;
       texts = grows_on (accounts c.args.index.now) texts texts' c.loop-output.invariant.texts c.in_ok-make_source.ensures.texts;
       place = omega (arith, place);
-      sets = sets_on (5 * i) 5 (5 * (i + 1)) c.args.index.now c.loop-output.index c.make_source.new.index (omega arith) c.loop-output.invariant.sets c.in_ok-make_source.ensures.sets;
       steps = omega (arith, c.in_ok-make_source.ensures.steps, c.loop-output.invariant.steps);
-      keeps = keeps_on c.args.index.now c.loop-output.index c.make_source.new.index c.loop-output.invariant.keeps c.in_ok-make_source.ensures.keeps;
+      others = c.in_ok-make_source.ensures.others ∙ c.loop-output.invariant.others;
+      count = omega (arith, c.in_ok-make_source.ensures.count, c.loop-output.invariant.count);
     }
 
 pub returns-clause-at : goal.returns-clause-at

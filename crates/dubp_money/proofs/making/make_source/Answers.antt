@@ -2,13 +2,10 @@ use Rattle.std.proofs.Common.{◌≡◌, ◌++◌, true, ◌∷◌, [], ap, sym,
 use Rattle.std.specs.List.{list_any}
 use Rattle.dubp_atoms.specs.Same.{same_text}
 use Rattle.dubp_cond.specs.Conditions.{cond_text}
-use Rattle.dubp_undo.specs.Numbers.{settled}
 use Rattle.dubp_sindex.specs.Accounts.{accounts}
 use Rattle.dubp_sindex.specs.Rows.{IsNewRow}
-use Rattle.dubp_sindex.specs.contracts.sindex.SIndexTablesSourceRows.TheImpl as tables
 use Rattle.dubp_money_steps.specs.Left.{account_in}
 use Rattle.dubp_money.specs.Index.{HasRows}
-use Rattle.dubp_money.proofs.Kept.{settled_after}
 use Rattle.dubp_money.proofs.Made.{account_found, has_text}
 use Rattle.dubp_money.proofs.making.make_source.Goals as goal
 
@@ -24,13 +21,3 @@ pub returns-clause-has : goal.returns-clause-has
 returns-clause-has g c =
     let text = cond_text c.args.cond.now in
     subst (λ l. list_any (same_text text) l ≡ true) (sym (c.in_ok-make.ensures.accounts ∙ c.in_ok-account.ensures.accounts)) (has_text (accounts c.args.index.now) text)
-
-pub returns-clause-keeps : goal.returns-clause-keeps
-returns-clause-keeps g c = record {
-  marked = λ s h. c.make.ensures.marked s (c.account.ensures.marked s h);
-  waits = λ o n h. c.make.ensures.waits o n (c.account.ensures.waits o n h);
-  ahead = c.make.ensures.ahead ∙ c.account.ensures.ahead;
-  costs_stay =
-      settled_after 5 ((tables.ghosts).costs c.account.new.self) ((tables.ghosts).costs c.make.new.self) c.make.result c.make.ensures.costs c.make.ensures.refused (c.laws.ensures.same_costs c.make.new.self)
-      ∙ ap settled c.account.ensures.costs;
-}

@@ -1,4 +1,4 @@
-use Rattle.std.proofs.Common.{◌≡◌, ℕ, ◌+◌, ◌*◌, ◌++◌, true, ◌∷◌, [], sym, subst, arith}
+use Rattle.std.proofs.Common.{◌≡◌, ℕ, ◌+◌, ◌++◌, true, ◌∷◌, [], sym, subst, arith, refl, ◌∙◌}
 use Rattle.std.specs.List.{list_any}
 use Rattle.dubp_atoms.specs.Same.{same_text}
 use Rattle.dubp_cond.specs.Conditions.{cond_text}
@@ -10,8 +10,7 @@ use Rattle.dubp_sindex.specs.Rows.{Entry, IsNewRow}
 use Rattle.dubp_money_steps.specs.Left.{account_in, entry_of}
 use Rattle.dubp_money.specs.Index.{HasRows}
 use Rattle.dubp_money.specs.Making.{dividends_to}
-use Rattle.dubp_money.proofs.Standing.{grows_none, grows_on}
-use Rattle.dubp_money.proofs.Kept.{keeps_none, keeps_on, sets_none, sets_on}
+use Rattle.dubp_money.proofs.Growing.{grows_none, grows_on}
 use Rattle.dubp_money.proofs.Made.{IsNext, made_next, has_next, nothing_made, dividend_next}
 use Rattle.dubp_money.proofs.paying.pay_dividends.Goals as goal
 
@@ -21,13 +20,10 @@ loop-key-init g c = record {
   has = tt;
   texts = grows_none (accounts c.args.index.now);
   place = omega arith;
-  sets = sets_none c.args.index.now;
   steps = omega arith;
-  keeps = keeps_none c.args.index.now;
+  others = refl;
+  count = omega arith;
 }
-
-pub returns-in_err-make_source-clause-keeps : goal.returns-in_err-make_source-clause-keeps
-returns-in_err-make_source-clause-keeps g c = keeps_on c.args.index.now c.loop-key.index c.make_source.new.index c.loop-key.invariant.keeps c.in_err-make_source.ensures.keeps
 
 pub loop-key-preserved : goal.loop-key-preserved
 loop-key-preserved g c =
@@ -56,7 +52,7 @@ loop-key-preserved g c =
           (subst (λ cond. list_any (same_text (cond_text cond)) texts' ≡ true) is c.in_ok-make_source.ensures.has);
       texts = grows_on (accounts c.args.index.now) texts texts' c.loop-key.invariant.texts c.in_ok-make_source.ensures.texts;
       place = omega (arith, place);
-      sets = sets_on (5 * i) 5 (5 * (i + 1)) c.args.index.now c.loop-key.index c.make_source.new.index (omega arith) c.loop-key.invariant.sets c.in_ok-make_source.ensures.sets;
       steps = omega (arith, c.in_ok-make_source.ensures.steps, c.loop-key.invariant.steps);
-      keeps = keeps_on c.args.index.now c.loop-key.index c.make_source.new.index c.loop-key.invariant.keeps c.in_ok-make_source.ensures.keeps;
+      others = c.in_ok-make_source.ensures.others ∙ c.loop-key.invariant.others;
+      count = omega (arith, c.in_ok-make_source.ensures.count, c.loop-key.invariant.count);
     }

@@ -1,4 +1,4 @@
-use Rattle.std.proofs.Common.{List, ◌≡◌, ◌+◌, ◌*◌, ◌<◌, ◌++◌, take, get_or, length, ap, sym, ◌∙◌, subst, append_assoc, append-nil, length-append, arith}
+use Rattle.std.proofs.Common.{List, ◌≡◌, ◌+◌, ◌<◌, ◌++◌, take, get_or, length, ap, sym, ◌∙◌, subst, append_assoc, append-nil, length-append, arith, refl}
 use Rattle.std.specs.List.{flat_map}
 use Rattle.dubp_docs.specs.Spelling.{tx_hash}
 use Rattle.dubp_chain.specs.Money.{outputs_made}
@@ -9,8 +9,7 @@ use Rattle.dubp_money.specs.Index.{HasRows}
 use Rattle.dubp_money.specs.Writing.{without_inputs}
 use Rattle.dubp_money.specs.Making.{outputs_at, CanFollow, with_made}
 use Rattle.dubp_money.specs.Transactions.{all_outputs, records_at, records_of}
-use Rattle.dubp_money.proofs.Standing.{grows_none, grows_on}
-use Rattle.dubp_money.proofs.Kept.{keeps_none, keeps_on, sets_none, sets_on}
+use Rattle.dubp_money.proofs.Growing.{grows_none, grows_on}
 use Rattle.dubp_money.proofs.Made.{outputs-length}
 use Rattle.dubp_money.proofs.Written.{written_next, outputs_few, flat_next, records-length, has_written, hash_is}
 use Rattle.dubp_money.proofs.transactions.write_transactions.Goals as goal
@@ -22,9 +21,9 @@ loop-i-init g c = record {
   texts = grows_none (accounts c.args.index.now);
   place = omega arith;
   records = sym (append-nil c.args.out.now.items);
-  sets = sets_none c.args.index.now;
   steps = omega arith;
-  keeps = keeps_none c.args.index.now;
+  others = refl;
+  count = omega arith;
 }
 
 pub write_transaction-requires-clause-few : goal.write_transaction-requires-clause-few
@@ -35,9 +34,6 @@ write_transaction-requires-clause-few g c =
     let within : i < length txs = omega (arith, ap length c.as_slice-txs.ensures) in
     let is : tx ≡ get_or txs i tx = subst (λ l. tx ≡ get_or l i tx) c.as_slice-txs.ensures c.index-txs-i.is in
     omega (arith, c.loop-i.invariant.place, c.requires.few, outputs_few c.args.time c.args.block.now.currency txs i tx within is, outputs-length c.args.time (tx_hash c.args.block.now.currency tx) 0 tx.outputs)
-
-pub returns-in_err-write_transaction-clause-keeps : goal.returns-in_err-write_transaction-clause-keeps
-returns-in_err-write_transaction-clause-keeps g c = keeps_on c.args.index.now c.loop-i.index c.write_transaction.new.index c.loop-i.invariant.keeps c.in_err-write_transaction.ensures.keeps
 
 pub overflow_add-place : goal.overflow_add-place
 overflow_add-place g c =
@@ -87,9 +83,7 @@ loop-i-preserved g c =
           ∙ ap (λ l. l ++ records_of time currency tx) c.loop-i.invariant.records
           ∙ append_assoc c.args.out.now.items (flat_map (records_of time currency) (take i txs)) (records_of time currency tx)
           ∙ ap (λ l. c.args.out.now.items ++ l) (sym more);
-      sets =
-          sets_on (5 * length (flat_map (records_of time currency) (take i txs))) (5 * (length tx.inputs + length tx.outputs)) (5 * length (flat_map (records_of time currency) (take (i + 1) txs)))
-          c.args.index.now c.loop-i.index c.write_transaction.new.index (omega (arith, counted)) c.loop-i.invariant.sets c.in_ok-write_transaction.ensures.sets;
       steps = omega (arith, counted, c.in_ok-write_transaction.ensures.steps, c.loop-i.invariant.steps);
-      keeps = keeps_on c.args.index.now c.loop-i.index c.write_transaction.new.index c.loop-i.invariant.keeps c.in_ok-write_transaction.ensures.keeps;
+      others = c.in_ok-write_transaction.ensures.others ∙ c.loop-i.invariant.others;
+      count = omega (arith, c.in_ok-write_transaction.ensures.count, c.loop-i.invariant.count);
     }

@@ -3,10 +3,11 @@ use Rattle.std.specs.List.{flat_map}
 use Rattle.dubp_sindex.specs.Accounts.{accounts}
 use Rattle.dubp_sindex.specs.Rows.{Entry, AreRows}
 use Rattle.dubp_money_steps.specs.Left.{HasTexts}
-use Rattle.dubp_money.specs.Index.{HasRows, Keeps, Sets}
+use Rattle.dubp_money.specs.Index.{HasRows}
 use Rattle.dubp_money.specs.Texts.{Grows}
 use Rattle.dubp_money.specs.Making.{CanFollow}
 use Rattle.dubp_money.specs.Transactions.{all_outputs, all_written, records_of}
+use Rattle.dubp_sindex.specs.contracts.sindex.SIndexTablesSourceRows.TheImpl as tables
 use Rattle.dubp_money.proofs.transactions.write_transactions.Given as goal
 
 abbrev pub invariant-loop-i : goal.invariant-loop-i
@@ -16,7 +17,7 @@ invariant-loop-i g l = record {
   texts : Grows (accounts l.fn.index) (accounts l.index);
   place : l.place ≡ l.fn.order + length (all_outputs l.fn.time l.fn.block.currency (take l.i l.fn.block.transactions));
   records : l.out.items ≡ l.fn.out.items ++ flat_map (records_of l.fn.time l.fn.block.currency) (take l.i l.fn.block.transactions);
-  sets : Sets (5 * length (flat_map (records_of l.fn.time l.fn.block.currency) (take l.i l.fn.block.transactions))) l.fn.index l.index;
   steps : l.steps ≤ l.fn.steps + 5 * length (flat_map (records_of l.fn.time l.fn.block.currency) (take l.i l.fn.block.transactions));
-  keeps : Keeps l.fn.index l.index;
+  others : (tables.ghosts).others l.index ≡ (tables.ghosts).others l.fn.index;
+  count : (tables.ghosts).count l.index + l.initial.steps ≤ (tables.ghosts).count l.fn.index + l.steps;
 }

@@ -9,17 +9,15 @@ use Rattle.dubp_people_apply.specs.OfSteps.{kicked_record}
 use Rattle.dubp_people_apply.specs.OfSteps.{touches}
 use Rattle.dubp_people_apply.specs.OfSteps.{kicked_by}
 use Rattle.dubp_people_apply.proofs.OfSteps.{kicked_fold}
-use Rattle.dubp_people_identities.proofs.Onward.{none_more, more_and_more, more_settled, fold_next, fold_whole}
+use Rattle.dubp_people_identities.proofs.Onward.{fold_next, fold_whole}
 use Rattle.dubp_people.proofs.Rows.{unit_of, some_of}
 use Rattle.dubp_people.proofs.kicked.write_kicked.Goals as goal
 
 pub loop-record-init : goal.loop-record-init
 loop-record-init g c = record {
   now = λ chain b w at at' at'' k. refl;
-  marked = λ chain m. m;
-  ahead = refl;
-  root = refl;
-  costs = none_more 0 _;
+  others = refl;
+  count = omega arith;
   steps = omega arith;
 }
 
@@ -32,25 +30,17 @@ loop-record-preserved g c =
       now = λ chain b w at at' at'' k.
           now.now (b ∷ chain) at at' at'' k
           ∙ (λ i. if touches k item then kicked_by (w.is_next.params i) (w.is_next.time i) (received (b ∷ chain) k) (identity_row (b ∷ chain) k) (membership_row (b ∷ chain) k) else before.now chain b w at at' at'' k i)
-          ∙ sym (fold_next (kicked_record chain b k) c.args.records.now (is_some (get (slice_cmp nat_cmp) c.args.kicked.now.now k)) c.loop-record.record-index item c.loop-record-test.true c.record-item.is);
-      marked = λ chain m. now.marked chain (before.marked chain m);
-      ahead = now.ahead ∙ before.ahead;
-      root = now.root ∙ before.root;
-      costs = more_and_more (omega arith) before.costs now.costs;
+          ∙ sym (fold_next (kicked_record chain b k) c.args.records.now (is_some (get (slice_cmp nat_cmp) c.args.kicked.now.table.now k)) c.loop-record.record-index item c.loop-record-test.true c.record-item.is);
+      others = now.others ∙ before.others;
+      count = omega (arith, now.count, before.count);
       steps = omega (arith, before.steps, now.steps);
     }
 
-pub returns-in_err-renew-clause-costs_stay : goal.returns-in_err-renew-clause-costs_stay
-returns-in_err-renew-clause-costs_stay g c = c.in_err-renew.ensures.costs_stay ∙ more_settled c.loop-record.invariant.costs
-
 pub returns-clause-at : goal.returns-clause-at
 returns-clause-at g c = λ chain b w e at at' at'' old k.
-    let was = get (slice_cmp nat_cmp) c.args.kicked.now.now k in
-    unit_of (get (slice_cmp nat_cmp) c.loop-record.kicked.now k) (is_to_be_excluded (b ∷ chain) k)
+    let was = get (slice_cmp nat_cmp) c.args.kicked.now.table.now k in
+    unit_of (get (slice_cmp nat_cmp) c.loop-record.kicked.table.now k) (is_to_be_excluded (b ∷ chain) k)
     (c.loop-record.invariant.now chain b w at at' at'' k
     ∙ fold_whole (kicked_record chain b k) c.args.records.now (is_some was) c.loop-record.record-index (omega (arith, c.loop-record-test.false))
     ∙ (λ i. fold (kicked_record chain b k) (some_of was (is_to_be_excluded chain k) (old k) i) (e i))
     ∙ kicked_fold chain b w.sound k)
-
-pub returns-clause-costs_stay : goal.returns-clause-costs_stay
-returns-clause-costs_stay g c = more_settled c.loop-record.invariant.costs

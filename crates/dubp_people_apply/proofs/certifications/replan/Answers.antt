@@ -1,16 +1,6 @@
-use Rattle.std.proofs.Common.{arith}
 use Rattle.std.proofs.lemmas.Result.{on_ok_weaker}
 use Rattle.dubp_people_apply.proofs.Entries.{replanned_pair}
-use Rattle.dubp_people_apply.proofs.Numbers.{more_within}
 use Rattle.dubp_people_apply.proofs.certifications.replan.Goals as goal
-
-pub returns-clause-queue_waits : goal.returns-clause-queue_waits
-returns-clause-queue_waits g c =
-    λ o i w. c.plan_later.ensures.waits o i (c.in_ok-take_end_out.ensures.queue_waits o i w)
-
-pub returns-clause-queue_costs : goal.returns-clause-queue_costs
-returns-clause-queue_costs g c =
-    on_ok_weaker c.plan_later.result (λ more. more_within 1 1 2 (omega arith) c.in_ok-take_end_out.ensures.queue_costs more) c.plan_later.ensures.costs
 
 pub returns-clause-entries : goal.returns-clause-entries
 returns-clause-entries g c =

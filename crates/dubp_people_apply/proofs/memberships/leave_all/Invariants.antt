@@ -1,7 +1,4 @@
-use Rattle.std.proofs.Common.{◌≡◌, ℕ, ◌+◌, ◌≤◌, List, take, fold}
-use Rattle.dubp_undo.specs.Numbers.{settled}
-use Rattle.dubp_undo.specs.States.{AtMostMore}
-use Rattle.dubp_mindex.specs.Members.{Members}
+use Rattle.std.proofs.Common.{◌≡◌, ◌+◌, ◌≤◌, take, fold}
 use Rattle.dubp_mindex.specs.contracts.member.MIndexTablesMemberRows.TheImpl as mindex
 use Rattle.dubp_chain.specs.Chains.{Chain}
 use Rattle.dubp_expiry.specs.declared.queue.Queue.{Queue as QueueValue}
@@ -15,10 +12,7 @@ abbrev pub invariant-loop-line : goal.invariant-loop-line
 invariant-loop-line g l = record {
   stands : (c : Chain) (queue : QueueValue) (rows : Memberships) (waiting : Waiting) → Stands c l.block ((mindex.ghosts).at l.initial.memberships) ((queue_tables.ghosts).at queue) rows waiting
       → Stands c l.block ((mindex.ghosts).at l.memberships) ((queue_tables.ghosts).at queue) (λ k. fold (leave_line l.block k) (rows k) (take l.line-index l.lines)) waiting;
-  memberships_marked : (s : List Members) → (mindex.ghosts).marked l.initial.memberships s → (mindex.ghosts).marked l.memberships s;
-  memberships_waits : (o : List Members) (i : ℕ) → (mindex.ghosts).waits l.initial.memberships o i → (mindex.ghosts).waits l.memberships o i;
-  memberships_ahead : (mindex.ghosts).ahead_costs l.memberships ≡ (mindex.ghosts).ahead_costs l.initial.memberships;
-  memberships_costs_stay : settled ((mindex.ghosts).costs l.memberships) ≡ settled ((mindex.ghosts).costs l.initial.memberships);
-  memberships_costs : AtMostMore (l.line-index) ((mindex.ghosts).costs l.initial.memberships) ((mindex.ghosts).costs l.memberships);
+  memberships_others : (mindex.ghosts).others l.memberships ≡ (mindex.ghosts).others l.initial.memberships;
+  count : (mindex.ghosts).count l.memberships + l.initial.steps ≤ (mindex.ghosts).count l.initial.memberships + l.steps;
   steps : l.steps ≤ l.initial.steps + l.line-index;
 }

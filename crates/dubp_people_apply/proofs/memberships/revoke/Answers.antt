@@ -1,19 +1,10 @@
 use Rattle.std.proofs.lemmas.Result.{on_ok_weaker}
 use Rattle.dubp_people_apply.proofs.MemberLines.{revoked_none, revoked}
-use Rattle.dubp_people_apply.proofs.Numbers.{none_more}
 use Rattle.dubp_people_apply.proofs.memberships.revoke.Goals as goal
 
 pub returns-in-None-clause-stands : goal.returns-in-None-clause-stands
 returns-in-None-clause-stands g c =
     λ chain b rows waiting written stands. revoked_none chain b c.args.line.now rows waiting c.row.result c.in-None.is c.row.ensures stands
-
-pub returns-in-None-clause-memberships_costs : goal.returns-in-None-clause-memberships_costs
-returns-in-None-clause-memberships_costs g c =
-    none_more 1 _
-
-pub returns-in-None-clause-queue_costs : goal.returns-in-None-clause-queue_costs
-returns-in-None-clause-queue_costs g c =
-    none_more 1 _
 
 pub returns-in_ok-take_out-in-Some-clause-stands : goal.returns-in_ok-take_out-in-Some-clause-stands
 returns-in_ok-take_out-in-Some-clause-stands g c =

@@ -1,6 +1,5 @@
 use Rattle.std.proofs.lemmas.Result.{on_ok_weaker}
 use Rattle.dubp_people_apply.proofs.Entries.{put_in, is_later, is_over}
-use Rattle.dubp_people_apply.proofs.Numbers.{none_more}
 use Rattle.dubp_people_apply.proofs.queue.plan_later.Goals as goal
 
 pub returns-then-now-time-clause-entries : goal.returns-then-now-time-clause-entries
@@ -9,6 +8,3 @@ returns-then-now-time-clause-entries g c =
 
 pub returns-else-now-time-clause-entries : goal.returns-else-now-time-clause-entries
 returns-else-now-time-clause-entries g c waiting has = is_over c.args.now c.args.time c.args.due waiting c.if-now-time.false has
-
-pub returns-else-now-time-clause-costs : goal.returns-else-now-time-clause-costs
-returns-else-now-time-clause-costs g c = none_more 1 _

@@ -1,14 +1,12 @@
-use Rattle.std.proofs.Common.{◌≡◌, ◌*◌, false, ap, arith, refl, subst, sym}
+use Rattle.std.proofs.Common.{◌≡◌, false, ap, arith, refl, subst, sym}
 use Rattle.std.proofs.lemmas.Result.{on_ok_weaker}
 use Rattle.dubp_cindex.specs.contracts.index.CIndexTablesCertRows.TheImpl as cindex
 use Rattle.dubp_expiry.specs.contracts.queue.QueueTablesEntries.TheImpl as queue_tables
 use Rattle.dubp_mindex.specs.contracts.member.MIndexTablesMemberRows.TheImpl as mindex
 use Rattle.dubp_left.specs.Left.{due_of}
 use Rattle.dubp_steps.specs.Loops.{take, is_noted}
-use Rattle.dubp_undo.specs.States.{AtMostMore}
 use Rattle.dubp_people_apply.specs.Counting.{revoked_by, ended_by, IsOneMore}
 use Rattle.dubp_people_apply.proofs.Counted.{one_expired, one_revoked, one_ended}
-use Rattle.dubp_people_apply.proofs.Numbers.{none_more}
 use Rattle.dubp_people_apply.specs.Held.{HasEntries, HasMemberships, HasCertifications}
 use Rattle.dubp_people_apply.specs.Taking.{AreNoted, StandAs}
 use Rattle.dubp_people_apply.proofs.Taken.{over_noted, revoked_noted, ended_noted}
@@ -53,33 +51,9 @@ returns-in_ok-end_row-in-Certification-clause-more g c =
     subst (λ d. is_noted s (due_of d) ≡ false → IsOneMore (due_of d) c.args.ended.now (record c.args.ended.now { ended = c.note-in-Certification.new.set })) (sym c.in-Certification.is)
     (λ fresh. one_ended s c.args.ended.now (record c.args.ended.now { ended = c.note-in-Certification.new.set }) noted c.in-Certification.from c.in-Certification.to fresh refl refl len)) c.note-in-Certification.ensures.len
 
-pub returns-in-Membership-clause-memberships_costs : goal.returns-in-Membership-clause-memberships_costs
-returns-in-Membership-clause-memberships_costs g c =
-    on_ok_weaker c.note.result (λ _. none_more (revoked_by (due_of c.args.due.now)) _) c.note.ensures.keys
-
-pub returns-in-Membership-clause-certifications_costs : goal.returns-in-Membership-clause-certifications_costs
-returns-in-Membership-clause-certifications_costs g c =
-    on_ok_weaker c.note.result (λ _. none_more (5 * ended_by (due_of c.args.due.now)) _) c.note.ensures.keys
-
-pub returns-in_ok-revoke_row-in-Revocation-clause-memberships_costs : goal.returns-in_ok-revoke_row-in-Revocation-clause-memberships_costs
-returns-in_ok-revoke_row-in-Revocation-clause-memberships_costs g c =
-    on_ok_weaker c.note-in-Revocation.result (λ _. subst (λ d. AtMostMore (revoked_by (due_of d)) ((mindex.ghosts).costs c.args.memberships.now) ((mindex.ghosts).costs c.revoke_row.new.memberships)) (sym c.in-Revocation.is) c.in_ok-revoke_row-in-Revocation.ensures.costs) c.note-in-Revocation.ensures.keys
-
-pub returns-in_ok-revoke_row-in-Revocation-clause-certifications_costs : goal.returns-in_ok-revoke_row-in-Revocation-clause-certifications_costs
-returns-in_ok-revoke_row-in-Revocation-clause-certifications_costs g c =
-    on_ok_weaker c.note-in-Revocation.result (λ _. none_more (5 * ended_by (due_of c.args.due.now)) _) c.note-in-Revocation.ensures.keys
-
 pub returns-in_ok-revoke_row-in-Revocation-clause-steps : goal.returns-in_ok-revoke_row-in-Revocation-clause-steps
 returns-in_ok-revoke_row-in-Revocation-clause-steps g c =
     on_ok_weaker c.note-in-Revocation.result (λ _. let one = ap (λ d. revoked_by (due_of d)) c.in-Revocation.is in let most = c.in_ok-revoke_row-in-Revocation.ensures.steps in omega (arith, one, most)) c.note-in-Revocation.ensures.keys
-
-pub returns-in_ok-end_row-in-Certification-clause-memberships_costs : goal.returns-in_ok-end_row-in-Certification-clause-memberships_costs
-returns-in_ok-end_row-in-Certification-clause-memberships_costs g c =
-    on_ok_weaker c.note-in-Certification.result (λ _. none_more (revoked_by (due_of c.args.due.now)) _) c.note-in-Certification.ensures.keys
-
-pub returns-in_ok-end_row-in-Certification-clause-certifications_costs : goal.returns-in_ok-end_row-in-Certification-clause-certifications_costs
-returns-in_ok-end_row-in-Certification-clause-certifications_costs g c =
-    on_ok_weaker c.note-in-Certification.result (λ _. subst (λ d. AtMostMore (5 * ended_by (due_of d)) ((cindex.ghosts).costs c.args.certifications.now) ((cindex.ghosts).costs c.end_row.new.certifications)) (sym c.in-Certification.is) c.in_ok-end_row-in-Certification.ensures.costs) c.note-in-Certification.ensures.keys
 
 pub returns-in_ok-end_row-in-Certification-clause-steps : goal.returns-in_ok-end_row-in-Certification-clause-steps
 returns-in_ok-end_row-in-Certification-clause-steps g c =

@@ -3,20 +3,11 @@ use Rattle.std.proofs.Common.{refl, true}
 use Rattle.dubp_mindex.specs.declared.member.MemberRow.{MemberRow}
 use Rattle.dubp_steps.specs.AfterLines.{set_revoked}
 use Rattle.dubp_people_apply.proofs.MemberLines.{changes_none, changes_some}
-use Rattle.dubp_people_apply.proofs.Numbers.{none_more, one_more}
 use Rattle.dubp_people_apply.proofs.taking.revoke_row.Goals as goal
 
 pub returns-in-None-clause-rows : goal.returns-in-None-clause-rows
 returns-in-None-clause-rows g c =
     λ rows has. changes_none set_revoked c.args.key rows c.row.result c.in-None.is c.row.ensures has
-
-pub returns-in-None-clause-costs : goal.returns-in-None-clause-costs
-returns-in-None-clause-costs g c =
-    none_more 1 _
-
-pub returns-in-Some-clause-costs : goal.returns-in-Some-clause-costs
-returns-in-Some-clause-costs g c =
-    on_ok_weaker c.put_row.result one_more c.put_row.ensures.costs
 
 pub returns-in-Some-clause-rows : goal.returns-in-Some-clause-rows
 returns-in-Some-clause-rows g c =

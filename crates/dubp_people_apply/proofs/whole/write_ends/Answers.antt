@@ -1,25 +1,15 @@
 use Rattle.std.proofs.Common.{ap, ◌++◌, ◌∙◌, append_assoc}
 use Rattle.std.proofs.lemmas.Result.{on_ok_weaker}
 use Rattle.dubp_validity.specs.Records.{line_records, expiry_records, revocation_records, ended_records}
-use Rattle.dubp_people_apply.proofs.Counted.{memberships_within, certifications_within, queue_within, steps_within}
-use Rattle.dubp_people_apply.proofs.Joined.{memberships_with, certifications_with, queue_with, taken_memberships, taken_certifications, taken_entries}
+use Rattle.dubp_people_apply.proofs.Counted.{steps_within}
+use Rattle.dubp_people_apply.proofs.Joined.{left_with}
 use Rattle.dubp_people_apply.proofs.Recorded.{recorded}
 use Rattle.dubp_people_apply.proofs.whole.write_ends.Goals as goal
 
-pub returns-clause-memberships : goal.returns-clause-memberships
-returns-clause-memberships g c =
+pub returns-clause-left : goal.returns-clause-left
+returns-clause-left g c =
     on_ok_weaker c.put_ended.result (λ _ chain facts written since left.
-    memberships_with c.newest_memberships.ensures chain c.args.block.now (taken_memberships chain c.args.block.now c.write_tables.new.ended (c.in_ok-write_tables.ensures.taken chain facts written since left (c.in_ok-ended.ensures chain facts left.memberships left.certifications written since)))) c.put_ended.ensures.records
-
-pub returns-clause-certifications : goal.returns-clause-certifications
-returns-clause-certifications g c =
-    on_ok_weaker c.put_ended.result (λ _ chain facts written since left.
-    certifications_with c.newest_certifications.ensures chain c.args.block.now (taken_certifications chain c.args.block.now c.write_tables.new.ended (c.in_ok-write_tables.ensures.taken chain facts written since left (c.in_ok-ended.ensures chain facts left.memberships left.certifications written since)))) c.put_ended.ensures.records
-
-pub returns-clause-queue : goal.returns-clause-queue
-returns-clause-queue g c =
-    on_ok_weaker c.put_ended.result (λ _ chain facts written since left.
-    queue_with c.newest_queue.ensures chain c.args.block.now (taken_entries chain c.args.block.now c.write_tables.new.ended (c.in_ok-write_tables.ensures.taken chain facts written since left (c.in_ok-ended.ensures chain facts left.memberships left.certifications written since)))) c.put_ended.ensures.records
+    left_with (λ s t at. at) (λ s t at. at) (λ s t at. at) chain c.args.block.now c.write_tables.new.ended (c.in_ok-write_tables.ensures.taken chain facts written since left (c.in_ok-ended.ensures chain facts left.memberships left.certifications written since))) c.put_ended.ensures.records
 
 pub returns-clause-records : goal.returns-clause-records
 returns-clause-records g c =
@@ -28,30 +18,9 @@ returns-clause-records g c =
     let rest = expiry_records chain b ++ (revocation_records chain b ++ ended_records chain b) in
     last chain b written.sound (recorded chain b c.write_tables.new.ended (c.in_ok-write_tables.ensures.taken chain facts written since left (c.in_ok-ended.ensures chain facts left.memberships left.certifications written since))) ∙ ap (λ z. z ++ rest) (c.in_ok-put_line_records.ensures chain facts written.sound.1) ∙ append_assoc c.args.out.now.items (line_records chain b) rest) c.put_ended.ensures.records
 
-pub returns-clause-memberships_costs : goal.returns-clause-memberships_costs
-returns-clause-memberships_costs g c =
-    on_ok_weaker c.put_ended.result (λ lengths chain facts written since left.
-    let b = c.args.block.now in
-    let within = c.in_ok-write_tables.ensures.within chain facts written since left (c.in_ok-ended.ensures chain facts left.memberships left.certifications written since) in
-    memberships_within chain b c.write_tables.new.ended (lengths chain b written.sound (recorded chain b c.write_tables.new.ended (c.in_ok-write_tables.ensures.taken chain facts written since left (c.in_ok-ended.ensures chain facts left.memberships left.certifications written since)))) within.memberships) c.put_ended.ensures.lengths
-
-pub returns-clause-certifications_costs : goal.returns-clause-certifications_costs
-returns-clause-certifications_costs g c =
-    on_ok_weaker c.put_ended.result (λ lengths chain facts written since left.
-    let b = c.args.block.now in
-    let within = c.in_ok-write_tables.ensures.within chain facts written since left (c.in_ok-ended.ensures chain facts left.memberships left.certifications written since) in
-    certifications_within chain b c.write_tables.new.ended (lengths chain b written.sound (recorded chain b c.write_tables.new.ended (c.in_ok-write_tables.ensures.taken chain facts written since left (c.in_ok-ended.ensures chain facts left.memberships left.certifications written since)))) within.certifications) c.put_ended.ensures.lengths
-
-pub returns-clause-queue_costs : goal.returns-clause-queue_costs
-returns-clause-queue_costs g c =
-    on_ok_weaker c.put_ended.result (λ lengths chain facts written since left.
-    let b = c.args.block.now in
-    let within = c.in_ok-write_tables.ensures.within chain facts written since left (c.in_ok-ended.ensures chain facts left.memberships left.certifications written since) in
-    queue_within chain b c.write_tables.new.ended (lengths chain b written.sound (recorded chain b c.write_tables.new.ended (c.in_ok-write_tables.ensures.taken chain facts written since left (c.in_ok-ended.ensures chain facts left.memberships left.certifications written since)))) within.queue) c.put_ended.ensures.lengths
-
 pub returns-clause-steps : goal.returns-clause-steps
 returns-clause-steps g c =
     on_ok_weaker c.put_ended.result (λ lengths chain facts written since left.
     let b = c.args.block.now in
     let within = c.in_ok-write_tables.ensures.within chain facts written since left (c.in_ok-ended.ensures chain facts left.memberships left.certifications written since) in
-    steps_within chain b c.write_tables.new.ended (lengths chain b written.sound (recorded chain b c.write_tables.new.ended (c.in_ok-write_tables.ensures.taken chain facts written since left (c.in_ok-ended.ensures chain facts left.memberships left.certifications written since)))) _ _ within.most) c.put_ended.ensures.lengths
+    steps_within chain b c.write_tables.new.ended (lengths chain b written.sound (recorded chain b c.write_tables.new.ended (c.in_ok-write_tables.ensures.taken chain facts written since left (c.in_ok-ended.ensures chain facts left.memberships left.certifications written since)))) _ _ within) c.put_ended.ensures.lengths

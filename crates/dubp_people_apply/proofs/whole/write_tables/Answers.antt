@@ -5,22 +5,6 @@ use Rattle.dubp_people_apply.proofs.Counted.{all_within}
 use Rattle.dubp_people_apply.proofs.Joined.{stands_before, certified_before, lines_stand}
 use Rattle.dubp_people_apply.proofs.whole.write_tables.Goals as goal
 
-pub returns-in_err-write_certifications-clause-queue_waits : goal.returns-in_err-write_certifications-clause-queue_waits
-returns-in_err-write_certifications-clause-queue_waits g c =
-    λ o i w. c.in_err-write_certifications.ensures.queue_waits o i (c.in_ok-write_memberships.ensures.queue_waits o i w)
-
-pub returns-clause-memberships_waits : goal.returns-clause-memberships_waits
-returns-clause-memberships_waits g c =
-    λ o i w. c.take_due.ensures.memberships_waits o i (c.in_ok-write_memberships.ensures.memberships_waits o i w)
-
-pub returns-clause-certifications_waits : goal.returns-clause-certifications_waits
-returns-clause-certifications_waits g c =
-    λ o i w. c.take_due.ensures.certifications_waits o i (c.in_ok-write_certifications.ensures.certifications_waits o i w)
-
-pub returns-clause-queue_waits : goal.returns-clause-queue_waits
-returns-clause-queue_waits g c =
-    λ o i w. c.take_due.ensures.queue_waits o i (c.in_ok-write_certifications.ensures.queue_waits o i (c.in_ok-write_memberships.ensures.queue_waits o i w))
-
 pub returns-clause-taken : goal.returns-clause-taken
 returns-clause-taken g c =
     on_ok_weaker c.take_due.result (λ taken chain facts written since left noted.
@@ -35,6 +19,5 @@ returns-clause-within g c =
     let b = c.args.block.now in
     let first = c.in_ok-write_memberships.ensures.stands chain _ _ facts written (stands_before chain b written.sound left.memberships left.queue) in
     let second = c.in_ok-write_certifications.ensures.stands chain _ _ facts written (certified_before chain b written.sound left.certifications first.queue) in
-    all_within b c.args.ended.now c.take_due.new.ended _ _ _ _ _ _ _ _ _ _ _ _ _ _ c.in_ok-write_memberships.ensures.memberships_costs c.in_ok-write_memberships.ensures.queue_costs c.in_ok-write_memberships.ensures.steps
-    c.in_ok-write_certifications.ensures.certifications_costs c.in_ok-write_certifications.ensures.queue_costs c.in_ok-write_certifications.ensures.steps
+    all_within b c.args.ended.now c.take_due.new.ended _ _ _ _ c.in_ok-write_memberships.ensures.steps c.in_ok-write_certifications.ensures.steps
     (counted chain b (after_lines chain b) written.sound since written.is_next.time (taking_starts chain b) (lines_stand chain b c.args.ended.now first second noted))) c.take_due.ensures.counted

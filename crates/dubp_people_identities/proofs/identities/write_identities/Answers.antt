@@ -1,33 +1,12 @@
-use Rattle.std.proofs.Common.{◌∷◌, ◌+◌, ◌*◌, ◌∙◌, false, fold, length, ap, sym, subst, arith}
+use Rattle.std.proofs.Common.{◌∷◌, ◌∙◌, false, fold, sym, subst}
 use Rattle.dubp_undo.specs.States.{states}
 use Rattle.dubp_iindex.specs.contracts.index.IIndexTablesIdentityRows.TheImpl as tables
 use Rattle.dubp_left.specs.Left.{identities_left}
 use Rattle.dubp_people_identities.specs.Writing.{created, with_member, joined, AreNewLines}
 use Rattle.dubp_people_identities.proofs.Changed.{rows-go_on, all_created_apart, joined_apart}
 use Rattle.dubp_people_identities.proofs.Lines.{lines-new, uids-apart}
-use Rattle.dubp_people_identities.proofs.Onward.{more_and_more, restated}
+use Rattle.dubp_people_identities.proofs.Onward.{restated}
 use Rattle.dubp_people_identities.proofs.identities.write_identities.Goals as goal
-
-pub returns-in_err-join_all-clause-waits : goal.returns-in_err-join_all-clause-waits
-returns-in_err-join_all-clause-waits g c = λ o i w. c.in_err-join_all.ensures.waits o i (c.in_ok-create_all.ensures.waits o i w)
-
-pub returns-in_err-exclude_all-clause-waits : goal.returns-in_err-exclude_all-clause-waits
-returns-in_err-exclude_all-clause-waits g c = λ o i w. c.in_err-exclude_all.ensures.waits o i (c.in_ok-join_all.ensures.waits o i (c.in_ok-create_all.ensures.waits o i w))
-
-pub returns-clause-waits : goal.returns-clause-waits
-returns-clause-waits g c = λ o i w. c.in_ok-exclude_all.ensures.waits o i (c.in_ok-join_all.ensures.waits o i (c.in_ok-create_all.ensures.waits o i w))
-
-pub returns-clause-costs : goal.returns-clause-costs
-returns-clause-costs g c =
-    let e = ap length c.as_slice.ensures in
-    let e' = ap length c.as_slice-2.ensures in
-    let e'' = ap length c.as_slice-3.ensures in
-    let n = length c.as_slice.result.now in
-    let n' = length c.as_slice-2.result.now in
-    let n'' = length c.as_slice-3.result.now in
-    more_and_more {a = 4 * n + 4 * n'} {b = 4 * n''} (omega (arith, e, e', e''))
-    (more_and_more {a = 4 * n} {b = 4 * n'} (omega arith) c.in_ok-create_all.ensures.costs c.in_ok-join_all.ensures.costs)
-    c.in_ok-exclude_all.ensures.costs
 
 pub returns-clause-at : goal.returns-clause-at
 returns-clause-at g c = λ chain sound at.

@@ -1,6 +1,6 @@
 use Rattle.std.proofs.Common.{◌≡◌, ◌∙◌, ◌∷◌, ◌++◌, ap, drop}
 use Rattle.std.specs.Option.{option_to_list}
-use Rattle.dubp_undo.specs.Trail.{drop_drop}
+use Rattle.std.proofs.lemmas.List.{drop-drop}
 use Rattle.dubp_undo.proofs.Counting.{released, named_front}
 use Rattle.dubp_undo.proofs.moves.drop_first.Goals as goal
 
@@ -29,7 +29,7 @@ loop-done-preserved g c =
     let split : j ≡ r ∷ rest = c.pop_front.ensures.items ∙ ap (λ o. option_to_list o ++ rest) c.unwrap-slot.ensures in
     let gone = (released c.args.uses.now.items c.loop-done.uses.items c.args.journal.now.items j rest r k.uses c.requires.counted (named_front j rest r split)).follows in
     record {
-      items = c.pop_front.ensures.rest ∙ ap (drop 1) k.items ∙ drop_drop c.loop-done._done c.args.journal.now.items;
+      items = c.pop_front.ensures.rest ∙ ap (drop 1) k.items ∙ drop-drop 1 c.loop-done._done c.args.journal.now.items;
       uses = rw c.release.ensures.uses gone;
       uses_capacity = c.release.ensures.capacity ∙ k.uses_capacity;
       capacity = c.pop_front.ensures.capacity ∙ k.capacity;

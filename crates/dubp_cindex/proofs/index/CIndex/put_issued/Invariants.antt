@@ -11,8 +11,8 @@ use Rattle.dubp_cindex.proofs.index.CIndex.put_issued.Given as goal
 -- of each state that the tables have, the rows up to the last receiver are told
 abbrev pub invariant-loop-to : goal.invariant-loop-to
 invariant-loop-to l =
-    (s : List Rows) → ((k : Place) → get place_cmp l.self.tables.first.now k ≡ rows_along s k) → ((k : Place) → get place_cmp l.self.tables.third.tables.first.now k ≡ issued_by_along s k)
+    (s : List Rows) → ((k : Place) → get place_cmp l.self.tables.first.table.now k ≡ rows_along s k) → ((k : Place) → get place_cmp l.self.tables.third.tables.first.table.now k ≡ issued_by_along s k)
     → l.found.items ≡ l.initial.found.items ++ map told (up_to (live_from l.key) (λ (e : Entry). e.0.1) l.after (finite.entries (newest finite.empty s)))
 
 abbrev pub decreases-loop-to : goal.decreases-loop-to
-decreases-loop-to l = left l.key l.after l.self.tables.third.tables.first.now
+decreases-loop-to l = left l.key l.after l.self.tables.third.tables.first.table.now

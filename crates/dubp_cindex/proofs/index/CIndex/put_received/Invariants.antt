@@ -11,8 +11,8 @@ use Rattle.dubp_cindex.proofs.index.CIndex.put_received.Given as goal
 -- of each state that the tables have, the rows up to the last issuer are told
 abbrev pub invariant-loop-from : goal.invariant-loop-from
 invariant-loop-from l =
-    (s : List Rows) → ((k : Place) → get place_cmp l.self.tables.first.now k ≡ rows_along s k) → ((k : Place) → get place_cmp l.self.tables.second.tables.first.now k ≡ received_by_along s k)
+    (s : List Rows) → ((k : Place) → get place_cmp l.self.tables.first.table.now k ≡ rows_along s k) → ((k : Place) → get place_cmp l.self.tables.second.tables.first.table.now k ≡ received_by_along s k)
     → l.found.items ≡ l.initial.found.items ++ map told (up_to (live_to l.key) (λ (e : Entry). e.0.0) l.after (finite.entries (newest finite.empty s)))
 
 abbrev pub decreases-loop-from : goal.decreases-loop-from
-decreases-loop-from l = left l.key l.after l.self.tables.second.tables.first.now
+decreases-loop-from l = left l.key l.after l.self.tables.second.tables.first.table.now

@@ -1,5 +1,5 @@
-use Rattle.dubp_expiry.proofs.Put.{empty_stands}
+use Rattle.dubp_expiry.proofs.Put.{empty_at}
 use Rattle.dubp_expiry.proofs.queue.Queue.new.Goals as goal
 
-pub returns-clause-stands : goal.returns-clause-stands
-returns-clause-stands c = empty_stands c.new.result c.new.ensures
+pub returns-clause-at : goal.returns-clause-at
+returns-clause-at c = empty_at _ c.new.ensures.now

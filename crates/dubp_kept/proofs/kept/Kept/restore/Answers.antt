@@ -6,7 +6,7 @@ pub put_back-requires : goal.put_back-requires
 put_back-requires g c =
     let s = c.self.inside in
     let seen = c.self.view_is in
-    let can = can_restore s.out _ _ (length (g.T.Tables.costs s.tables)) _ s.heads s.behind.items s.blocks.items c.held.inside.blocks.items (vec_capacity s.blocks) c.args.self.now c.args.held
+    let can = can_restore s.out _ _ (length (g.T.Tables.others s.tables).kept) _ s.heads s.behind.items s.blocks.items c.held.inside.blocks.items (vec_capacity s.blocks) c.args.self.now c.args.held
     c.self.invariant (ap (λ v. v.chain) seen) (ap (λ v. v.out) seen) c.held.view_is c.requires.held c.requires.chain in
     record { returns = can.returns }
 
@@ -15,7 +15,7 @@ invariant_of-self g c =
     let s = c.self.inside in
     let seen = c.self.view_is in
     let p = c.put_back.ensures in
-    let can = can_restore s.out _ _ (length (g.T.Tables.costs s.tables)) _ s.heads s.behind.items s.blocks.items c.held.inside.blocks.items (vec_capacity s.blocks) c.args.self.now c.args.held
+    let can = can_restore s.out _ _ (length (g.T.Tables.others s.tables).kept) _ s.heads s.behind.items s.blocks.items c.held.inside.blocks.items (vec_capacity s.blocks) c.args.self.now c.args.held
     c.self.invariant (ap (λ v. v.chain) seen) (ap (λ v. v.out) seen) c.held.view_is c.requires.held c.requires.chain in
-    kept_restored _ _ (length (g.T.Tables.costs c.put_back.new.tables)) _ s.heads c.put_back.new.heads _ c.put_back.new.blocks.items c.put_back.new.held.items (c.held.inside.blocks.items ++ reverse s.blocks.items) _
+    kept_restored _ _ (length (g.T.Tables.others c.put_back.new.tables).kept) _ s.heads c.put_back.new.heads _ c.put_back.new.blocks.items c.put_back.new.held.items (c.held.inside.blocks.items ++ reverse s.blocks.items) _
     p.moved can.returns.comes can.returns.heads_room p.keeps (omega (arith, can.few, p.depth)) (omega (arith, can.fits, p.depth))

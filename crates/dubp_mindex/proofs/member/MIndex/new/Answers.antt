@@ -1,5 +1,5 @@
-use Rattle.dubp_mindex.proofs.Rows.{empty_stands}
+use Rattle.dubp_mindex.proofs.Rows.{empty_at}
 use Rattle.dubp_mindex.proofs.member.MIndex.new.Goals as goal
 
-pub returns-clause-stands : goal.returns-clause-stands
-returns-clause-stands c = empty_stands c.new.result c.new.ensures
+pub returns-clause-at : goal.returns-clause-at
+returns-clause-at c = rw c.new.ensures.now empty_at

@@ -17,7 +17,7 @@ pub loop-preserved : goal.loop-preserved
 loop-preserved c = λ s at_sources at_places at_balances are.
     let rows = rows_of s in
     let counted = c.count_of-end.ensures ∙ ap (λ b. option_map_or (λ (x : Balance). x.count) b 0) (at_balances c.args.account) ∙ count_of_balance (of_account c.args.account rows) in
-    found_more c.args.self.now.tables.second.now rows are are.in_range at_places c.args.account c.loop.from c.loop.counter c.loop.found.items (c.in-Some.owner, c.in-Some.order) c.in-Some.id
+    found_more c.args.self.now.tables.second.table.now rows are are.in_range at_places c.args.account c.loop.from c.loop.counter c.loop.found.items (c.in-Some.owner, c.in-Some.order) c.in-Some.id
     c.in-Some.ensures.found c.if-owner-account.true c.saturating_add-from.result c.put_source.new.found.items (c.loop.invariant s at_sources at_places at_balances are) (omega arith)
     (next_place c.in-Some.order c.saturating_add-from.result c.saturating_add-from.ensures)
     (subst (λ o. IfSome o (λ row. c.put_source.new.found.items ≡ c.loop.found.items ++ (c.in-Some.id, row) ∷ [])) (at_sources c.in-Some.id) c.in_ok-put_source-in-Some.ensures)
@@ -31,9 +31,9 @@ returns c = λ s at are.
       | else-loop-test w ↦ all_found rows c.args.account c.loop.from c.loop.counter c.loop.found.items is
           (counted_out rows c.args.account c.loop.from c.loop.counter c.loop.found.items is (omega (arith, counted, w.loop-test.false)))
       | then-loop-test+in_default-2 w ↦ all_found rows c.args.account c.loop.from c.loop.counter c.loop.found.items is
-          (other_left c.args.self.now.tables.second.now rows are at.1 c.args.account c.loop.from c.loop.counter c.loop.found.items is (w.in-Some.owner, w.in-Some.order) w.in-Some.id w.in-Some.ensures.found
+          (other_left c.args.self.now.tables.second.table.now rows are at.1 c.args.account c.loop.from c.loop.counter c.loop.found.items is (w.in-Some.owner, w.in-Some.order) w.in-Some.id w.in-Some.ensures.found
           w.if-owner-account.false)
       | then-loop-test+in_default w ↦ all_found rows c.args.account c.loop.from c.loop.counter c.loop.found.items is
-          (none_left c.args.self.now.tables.second.now rows are at.1 c.args.account c.loop.from c.loop.counter c.loop.found.items is
-          (subst (λ o. IfNone o (HasNone pair_cmp c.args.self.now.tables.second.now (IsLeBy pair_cmp (c.args.account, c.loop.from)))) w.in_default.is w.next_from.ensures.none))
+          (none_left c.args.self.now.tables.second.table.now rows are at.1 c.args.account c.loop.from c.loop.counter c.loop.found.items is
+          (subst (λ o. IfNone o (HasNone pair_cmp c.args.self.now.tables.second.table.now (IsLeBy pair_cmp (c.args.account, c.loop.from)))) w.in_default.is w.next_from.ensures.none))
     ]

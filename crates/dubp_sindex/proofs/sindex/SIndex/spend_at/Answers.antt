@@ -5,7 +5,6 @@ use Rattle.dubp_sindex.specs.Derived.{id_at, balance_at, stands_at}
 use Rattle.dubp_sindex.specs.States.{rows_of}
 use Rattle.dubp_sindex.proofs.Derived.{is_gone, none_gone, base_fits}
 use Rattle.dubp_sindex.proofs.Elements.{in_all}
-use Rattle.dubp_sindex.proofs.Numbers.{none_more}
 use Rattle.dubp_sindex.proofs.Sources.{row_there, no_row}
 use Rattle.dubp_sindex.proofs.sindex.SIndex.spend_at.Goals as goal
 
@@ -27,6 +26,3 @@ returns-in_default-clause-at g c = λ s t at are.
       λ k. at.1 k ∙ ap (id_at k) (sym same),
       (λ a. at.2.0 a ∙ ap (balance_at a) (sym same), λ k. at.2.1 k ∙ ap (stands_at k) (sym same)),
     )
-
-pub returns-in_default-clause-costs : goal.returns-in_default-clause-costs
-returns-in_default-clause-costs g c = none_more 5 _

@@ -37,7 +37,7 @@ returns-then-is_empty-clause-placed g c =
     subst (λ (v : MovingTable g.row.K.Denot g.row.V.Denot). PlacesFewer g.K.Ord.cmp v.placed (keys_of c.give_up_idle.new.rows)) c.self.view_is (λ q is. swept_placed c.self.invariant (gives g c) q is)
 
 pub returns-then-is_empty-clause-held : goal.returns-then-is_empty-clause-held
-returns-then-is_empty-clause-held g c = all_placed g.met.K.Ord.total _ (invariant_of-self g c)
+returns-then-is_empty-clause-held g c = all_placed g.met.K.Ord.total _ _ (invariant_of-self g c)
 
 pub returns-else-is_empty-clause-held : goal.returns-else-is_empty-clause-held
-returns-else-is_empty-clause-held g c = subst (λ (v : MovingTable g.row.K.Denot g.row.V.Denot). IsAllPlaced g.K.Ord.cmp v) c.self.view_is (all_placed g.met.K.Ord.total _ c.self.invariant)
+returns-else-is_empty-clause-held g c = subst (λ (v : MovingTable g.row.K.Denot g.row.V.Denot). IsAllPlaced g.K.Ord.cmp v) c.self.view_is (all_placed g.met.K.Ord.total _ _ c.self.invariant)

@@ -1,4 +1,0 @@
-use Rattle.dubp_facts.proofs.facts.FactsTablesBlock.laws.Goals as goal
-
-pub returns-clause-keeps_on : goal.returns-clause-keeps_on
-returns-clause-keeps_on c = λ u v first then. c.laws.ensures.keeps_on u.tables v.tables first then
