@@ -1,11 +1,11 @@
-ghost use Rattle.std.specs.Prelude.{◌≡◌, ◌<◌, ◌^◌, length, IfOk};
-ghost use Rattle.dubp_block.specs.Text.{IsBlock, size_of};
+ghost use Rattle.std.specs.Prelude.{◌≡◌, length, IfOk};
+ghost use Rattle.dubp_block.specs.Text.{IsBlock};
 
 use dubp_atoms::{Hash, Items, Key, NoMemory, Sig, Stamp, Uid};
 use dubp_block::{
     Block, MemberLine, block_hash, copy_block, inner_hash, put_block, read_block, size, stamp_of,
 };
-use std::alloc::Global;
+use std::alloc::{AllocError, Global};
 use std::mem::forget;
 use std::test::Fail;
 
@@ -41,7 +41,7 @@ const HASH: &[u8] = b"213EECFB0EEA61A655E64854E92BE5C3C4F3DE3D12DAD82F421E4DFA25
 // What is read of the first block, and its hashes.
 fn is_first(block: &Block) -> bool {
     block.time == 1_488_987_127
-        && block.params.map(|params| params.ud0) == Some(1000)
+        && matches!(&block.params, Some(params) if params.ud0 == 1000)
         && block_hash(block).as_bytes() == HASH
         && stamp_of(block).number == 0
 }
@@ -64,8 +64,7 @@ fn reads_hashes_and_writes_the_first_block(rt: HostRuntime) -> Result<(), Fail> 
     let first = is_first(&block);
     let kept = is_kept_whole(rt.alloc(), &block);
     forget(block);
-    assert!(rt; first);
-    assert!(rt; kept == Ok(true));
+    assert!(rt; first && kept == Ok(true));
     Ok(())
 }
 
@@ -74,49 +73,48 @@ const KEY: &[u8] = b"1111111111111111111111111111111111111111111";
 const SIG: &[u8] =
     b"AAAAAAAAAAAAAAAAAAAAAAAAAAAAAAAAAAAAAAAAAAAAAAAAAAAAAAAAAAAAAAAAAAAAAAAAAAAAAAAAAAAAAA==";
 
-#[test]
-fn the_size_counts_each_section_but_excluded(rt: HostRuntime) -> Result<(), Fail> {
-    let block = filled(rt.alloc())?;
-    let lines = size(&block);
-    forget(block);
-    assert_eq!(rt; lines, 2);
-    Ok(())
-}
-
-// The first block with 2 joiners and 3 keys excluded.
-fn filled(alloc: Global) -> Result<Block, Fail>
-    ensures { IfOk result (λ b. size_of b < 2 ^ 53) }
-{
-    let key = Key::read(KEY).ok_or("key")?;
+// The line of the key when it joins.
+fn member_line(key: Key) -> Option<MemberLine> {
     let stamp = Stamp {
         number: 5,
         hash: Hash::of(b""),
     };
-    let member = MemberLine {
+    Some(MemberLine {
         key,
-        sig: Sig::read(SIG).ok_or("sig")?,
+        sig: Sig::read(SIG)?,
         stamp,
         identity_stamp: stamp,
-        uid: Uid::read(b"name").ok_or("name")?,
-    };
-    let joiners = repeated(alloc, member, 2)?;
-    let excluded = repeated(alloc, key, 3)?;
-    let mut block = read_block(alloc, FIRST_BLOCK)?;
-    block.identities = Items::new(alloc);
-    block.joiners = joiners;
-    block.actives = Items::new(alloc);
-    block.leavers = Items::new(alloc);
-    block.revoked = Items::new(alloc);
-    block.excluded = excluded;
-    block.certifications = Items::new(alloc);
-    block.transactions = Items::new(alloc);
-    Ok(block)
+        uid: Uid::read(b"name")?,
+    })
 }
 
 // The value so many times.
-fn repeated<T: Copy>(alloc: Global, value: T, count: usize) -> Result<Items<T>, Fail>
+fn repeated<T: Copy>(alloc: Global, value: T, count: usize) -> Result<Items<T>, AllocError>
     ensures { IfOk result (λ items. length items ≡ count) }
 {
     let values = vec![in alloc; value; count]?;
     Ok(Items::from_vec(values))
+}
+
+// The size of the block once it has 2 joiners and 3 keys excluded, and no other lines.
+fn size_when_filled(alloc: Global, block: &mut Block) -> Option<u64> {
+    let key = Key::read(KEY)?;
+    block.joiners = repeated(alloc, member_line(key)?, 2).ok()?;
+    block.excluded = repeated(alloc, key, 3).ok()?;
+    block.identities = Items::new(alloc);
+    block.actives = Items::new(alloc);
+    block.leavers = Items::new(alloc);
+    block.revoked = Items::new(alloc);
+    block.certifications = Items::new(alloc);
+    block.transactions = Items::new(alloc);
+    Some(size(block))
+}
+
+#[test]
+fn the_size_counts_each_section_but_excluded(rt: HostRuntime) -> Result<(), Fail> {
+    let mut block = read_block(rt.alloc(), FIRST_BLOCK)?;
+    let lines = size_when_filled(rt.alloc(), &mut block);
+    forget(block);
+    assert!(rt; lines == Some(2));
+    Ok(())
 }

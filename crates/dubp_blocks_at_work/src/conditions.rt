@@ -6,7 +6,7 @@ use dubp_cond::{
     read_unlock,
 };
 use std::alloc::Global;
-use std::test::Fail;
+use std::mem::forget;
 
 const K0: &[u8] = b"1111111111111111111111111111111111111111111";
 
@@ -16,47 +16,48 @@ const K1: &[u8] = b"1111111111111111111111111111111111111111112";
 const TIMED: &[u8] =
     b"(SIG(1111111111111111111111111111111111111111111) && CSV(3600)) || (SIG(1111111111111111111111111111111111111111112) && XHX(BA7816BF8F01CFEA414140DE5DAE2223B00361A396177A9CB410FF61F20015AD))";
 
-// Whether the condition holds, where both are texts of their kind.
+// Whether the condition holds, where all are texts of their kind.
 fn holds_at(
     alloc: Global,
     cond: &[u8],
     unlocks: &[u8],
-    issuers: &[Key],
+    issuer: &[u8],
     now: u64,
     written: u64,
 ) -> Option<bool>
     requires { written ≤ now }
 {
+    let issuers = [Key::read(issuer)?];
     let Ok(Some(cond)) = read_cond(alloc, cond) else {
         return None;
     };
     let Ok(Some(unlocks)) = read_unlock(alloc, unlocks) else {
         return None;
     };
-    Some(holds(&cond, unlocks.list.as_slice(), issuers, now, written))
+    let is = holds(&cond, unlocks.list.as_slice(), &issuers, now, written);
+    forget(unlocks);
+    forget(cond);
+    Some(is)
 }
 
+// A condition, unlocks, the key of the issuer, the time, the time of writing, and whether the condition holds.
+const TIMES: [(&[u8], &[u8], &[u8], u64, u64, bool); 8] = [
+    (TIMED, b"0:SIG(0)", K0, 4599, 1000, false),
+    (TIMED, b"0:SIG(0)", K0, 4600, 1000, true),
+    (TIMED, b"0:SIG(0)", K1, 4600, 1000, false),
+    (TIMED, b"0:SIG(0) XHX(abd)", K1, 4600, 1000, false),
+    (TIMED, b"0:SIG(0) XHX(abc)", K1, 1000, 1000, true),
+    (TIMED, b"0:SIG(1) XHX(abc)", K1, 1000, 1000, false),
+    (b"CLTV(1000) && CSV(0)", b"0:SIG(0)", K0, 999, 0, false),
+    (b"CLTV(1000) && CSV(0)", b"0:SIG(0)", K0, 1000, 0, true),
+];
+
 #[test]
-fn conditions_hold_at_their_time(rt: HostRuntime) -> Result<(), Fail> {
+fn conditions_hold_at_their_time(rt: HostRuntime) {
     assert!(rt; is_cond(TIMED));
-    let key = |text: &[u8]| Key::read(text).ok_or("key");
-    let (first, second) = ([key(K0)?], [key(K1)?]);
-    let rows = [
-        (TIMED, b"0:SIG(0)".as_slice(), first, 4599, 1000, false),
-        (TIMED, b"0:SIG(0)", first, 4600, 1000, true),
-        (TIMED, b"0:SIG(0)", second, 4600, 1000, false),
-        (TIMED, b"0:SIG(0) XHX(abd)", second, 4600, 1000, false),
-        (TIMED, b"0:SIG(0) XHX(abc)", second, 1000, 1000, true),
-        (TIMED, b"0:SIG(1) XHX(abc)", second, 1000, 1000, false),
-        (b"CLTV(1000) && CSV(0)", b"0:SIG(0)", first, 999, 0, false),
-        (b"CLTV(1000) && CSV(0)", b"0:SIG(0)", first, 1000, 0, true),
-    ];
-    for (cond, unlocks, issuers, now, written, is) in rows {
-        assert!(rt; written <= now);
-        let found = holds_at(rt.alloc(), cond, unlocks, &issuers, now, written);
-        assert_eq!(rt; found, Some(is));
+    for (cond, unlocks, issuer, now, written, is) in &TIMES {
+        assert!(rt; holds_at(rt.alloc(), cond, unlocks, issuer, *now, *written) == Some(*is));
     }
-    Ok(())
 }
 
 // Whether the input that the text is, if it is one, is written as the text.
@@ -68,32 +69,33 @@ fn input_is_kept(text: &[u8]) -> bool {
     line.as_slice() == text
 }
 
+const INPUTS: [(&[u8], bool); 5] = [
+    (
+        b"100:0:D:1111111111111111111111111111111111111111111:5",
+        true,
+    ),
+    (
+        b"9007199254740991:15:T:BA7816BF8F01CFEA414140DE5DAE2223B00361A396177A9CB410FF61F20015AD:0",
+        true,
+    ),
+    (
+        b"100:16:D:1111111111111111111111111111111111111111111:5",
+        false,
+    ),
+    (
+        b"100:0:T:1111111111111111111111111111111111111111111:5",
+        false,
+    ),
+    (
+        b"100:0:D:1111111111111111111111111111111111111111111",
+        false,
+    ),
+];
+
 #[test]
 fn inputs_are_read_and_written(rt: HostRuntime) {
-    let rows = [
-        (
-            b"100:0:D:1111111111111111111111111111111111111111111:5".as_slice(),
-            true,
-        ),
-        (
-            b"9007199254740991:15:T:BA7816BF8F01CFEA414140DE5DAE2223B00361A396177A9CB410FF61F20015AD:0",
-            true,
-        ),
-        (
-            b"100:16:D:1111111111111111111111111111111111111111111:5",
-            false,
-        ),
-        (
-            b"100:0:T:1111111111111111111111111111111111111111111:5",
-            false,
-        ),
-        (
-            b"100:0:D:1111111111111111111111111111111111111111111",
-            false,
-        ),
-    ];
-    for (text, is) in rows {
-        assert_eq!(rt; input_is_kept(text), is);
+    for (text, is) in &INPUTS {
+        assert!(rt; input_is_kept(text) == *is);
     }
 }
 
@@ -106,26 +108,27 @@ fn unlocks_are_kept(alloc: Global, text: &[u8]) -> bool {
     line.as_slice() == text
 }
 
+const UNLOCKS: [(&[u8], bool); 8] = [
+    (b"7:SIG(0) XHX(abc) SIG(12)", true),
+    (
+        b"0:SIG(0) SIG(0) SIG(0) SIG(0) SIG(0) SIG(0) SIG(0) SIG(0)",
+        true,
+    ),
+    (
+        b"0:SIG(0) SIG(0) SIG(0) SIG(0) SIG(0) SIG(0) SIG(0) SIG(0) SIG(0)",
+        false,
+    ),
+    (b"0:", false),
+    (b"0:SIG(0) ", false),
+    (b"0:SIG(0)  SIG(1)", false),
+    (b"0:XHX()", false),
+    (b"0:XHX(a(b)", false),
+];
+
 #[test]
 fn unlocks_are_read_and_written(rt: HostRuntime) {
-    let rows = [
-        (b"7:SIG(0) XHX(abc) SIG(12)".as_slice(), true),
-        (
-            b"0:SIG(0) SIG(0) SIG(0) SIG(0) SIG(0) SIG(0) SIG(0) SIG(0)",
-            true,
-        ),
-        (
-            b"0:SIG(0) SIG(0) SIG(0) SIG(0) SIG(0) SIG(0) SIG(0) SIG(0) SIG(0)",
-            false,
-        ),
-        (b"0:", false),
-        (b"0:SIG(0) ", false),
-        (b"0:SIG(0)  SIG(1)", false),
-        (b"0:XHX()", false),
-        (b"0:XHX(a(b)", false),
-    ];
-    for (text, is) in rows {
-        assert_eq!(rt; unlocks_are_kept(rt.alloc(), text), is);
+    for (text, is) in &UNLOCKS {
+        assert!(rt; unlocks_are_kept(rt.alloc(), text) == *is);
     }
 }
 
@@ -138,15 +141,16 @@ fn output_is_kept(alloc: Global, text: &[u8]) -> bool {
     line.as_slice() == text
 }
 
+const OUTPUTS: [(&[u8], bool); 4] = [
+    (b"1000:0:CSV(1)", true),
+    (b"0:15:(CSV(1) && CLTV(2)) || CSV(3)", true),
+    (b"1000:0:", false),
+    (b"1000:CSV(1)", false),
+];
+
 #[test]
 fn outputs_are_read_and_written(rt: HostRuntime) {
-    let rows = [
-        (b"1000:0:CSV(1)".as_slice(), true),
-        (b"0:15:(CSV(1) && CLTV(2)) || CSV(3)", true),
-        (b"1000:0:", false),
-        (b"1000:CSV(1)", false),
-    ];
-    for (text, is) in rows {
-        assert_eq!(rt; output_is_kept(rt.alloc(), text), is);
+    for (text, is) in &OUTPUTS {
+        assert!(rt; output_is_kept(rt.alloc(), text) == *is);
     }
 }

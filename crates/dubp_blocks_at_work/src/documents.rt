@@ -7,7 +7,7 @@ use dubp_docs::{
     Doc, TxDoc, certification_hash, identity_hash, membership_hash, put_doc, read_doc,
     revocation_hash, signed_text, signed_tx, tx_hash, tx_hashes,
 };
-use std::alloc::Global;
+use std::alloc::{AllocError, Global};
 use std::mem::forget;
 use std::test::Fail;
 
@@ -132,48 +132,57 @@ fn is_written_and_hashed(
     Ok(written && signed.as_bytes() == hash && signed_hash(doc).as_bytes() == hash)
 }
 
-#[test]
-fn documents_are_read_written_and_hashed(rt: HostRuntime) -> Result<(), Fail> {
-    let rows = [
-        (
-            IDENTITY,
-            b"A120515CE66D04A02429DA159E9130B4DFB0627ABB9E3B40485DC9DC70DF32E9",
-        ),
-        (
-            REVOCATION,
-            b"36252970A18FE27062756F05AB3685914FFD8035A031EE3F1F468A746986D382",
-        ),
-        (
-            CERTIFICATION,
-            b"49A2EB1875325B82C80A7ECBB743B9F15C5B95C4BD4B52F120D8050D1A757DD6",
-        ),
-        (
-            MEMBERSHIP,
-            b"FC96F47FC3EF7D38800077031B55ADDADDB51F399D058D7DEA0625EB1E08E159",
-        ),
-        (
-            TRANSACTION,
-            b"43D5E0F9EE4B50B893C2A7B779DB2D0B274445FFEEA8D8C53B0AAC78F6E5708F",
-        ),
-    ];
-    for (text, hash) in rows {
-        let Ok(Some(doc)) = read_doc(rt.alloc(), text) else {
-            return Err(Fail::from("no document"));
-        };
-        let good = is_written_and_hashed(rt.alloc(), &doc, text, hash);
-        forget(doc);
-        assert!(rt; good == Ok(true));
+// Documents, and the hashes of their signed texts.
+const DOCUMENTS: [(&[u8], &[u8]); 5] = [
+    (
+        IDENTITY,
+        b"A120515CE66D04A02429DA159E9130B4DFB0627ABB9E3B40485DC9DC70DF32E9",
+    ),
+    (
+        REVOCATION,
+        b"36252970A18FE27062756F05AB3685914FFD8035A031EE3F1F468A746986D382",
+    ),
+    (
+        CERTIFICATION,
+        b"49A2EB1875325B82C80A7ECBB743B9F15C5B95C4BD4B52F120D8050D1A757DD6",
+    ),
+    (
+        MEMBERSHIP,
+        b"FC96F47FC3EF7D38800077031B55ADDADDB51F399D058D7DEA0625EB1E08E159",
+    ),
+    (
+        TRANSACTION,
+        b"43D5E0F9EE4B50B893C2A7B779DB2D0B274445FFEEA8D8C53B0AAC78F6E5708F",
+    ),
+];
+
+fn is_kept_and_hashed(alloc: Global, text: &[u8], hash: &[u8]) -> Result<bool, NoMemory> {
+    match read_doc(alloc, text)? {
+        Some(doc) => {
+            let good = is_written_and_hashed(alloc, &doc, text, hash);
+            forget(doc);
+            good
+        }
+        None => Ok(false),
     }
-    Ok(())
 }
 
-// The hash of the whole text of a transaction, and whether its signed text has the hash that it is signed by.
-fn names(alloc: Global, doc: &TxDoc) -> Result<(Hash, bool), NoMemory>
+#[test]
+fn documents_are_read_written_and_hashed(rt: HostRuntime) {
+    for (text, hash) in &DOCUMENTS {
+        assert!(rt; is_kept_and_hashed(rt.alloc(), text, hash) == Ok(true));
+    }
+}
+
+const WHOLE_HASH: &[u8] = b"E6DB10DCB63E92B9F77B1C05D3864DA9FF54F21275E057C384AEE989ED34E98D";
+
+// Whether the whole text of the transaction has its hash, and its signed text the hash that it is signed by.
+fn is_named(alloc: Global, doc: &TxDoc) -> Result<bool, NoMemory>
     requires { IsTx doc.now.tx }
 {
     let signed = Hash::of(&signed_tx(alloc, &doc.currency, &doc.tx)?);
     let same = signed == tx_hashes(&doc.currency, &doc.tx).signed;
-    Ok((tx_hash(alloc, &doc.currency, &doc.tx)?, same))
+    Ok(same && tx_hash(alloc, &doc.currency, &doc.tx)?.as_bytes() == WHOLE_HASH)
 }
 
 // Whether a copy of a transaction has its inputs, and the condition of its second output holds from the time of its text on.
@@ -195,35 +204,44 @@ fn a_transaction_is_named_by_its_whole_text_and_copied(rt: HostRuntime) -> Resul
     let Ok(Some(Doc::Transaction(doc))) = read_doc(rt.alloc(), TRANSACTION) else {
         return Err(Fail::from("no transaction"));
     };
-    let named = names(rt.alloc(), &doc);
+    let named = is_named(rt.alloc(), &doc);
     let copied = is_copied(rt.alloc(), &doc.tx);
     forget(doc);
-    assert!(rt; copied == Ok(true));
-    let (hash, same) = named?;
-    assert!(rt; same);
-    assert!(rt;
-        hash.as_bytes()
-            == b"E6DB10DCB63E92B9F77B1C05D3864DA9FF54F21275E057C384AEE989ED34E98D".as_slice()
-    );
+    assert!(rt; named == Ok(true) && copied == Ok(true));
     Ok(())
 }
 
+const SIGNATURE_LINE: &[u8] =
+    b"AAAAAAAAAAAAAAAAAAAAAAAAAAAAAAAAAAAAAAAAAAAAAAAAAAAAAAAAAAAAAAAAAAAAAAAAAAAAAAAAAAAAAA==\n";
+
+// Texts in two parts that are no documents.
+const OTHERS: [(&[u8], &[u8]); 6] = [
+    (b"", b""),
+    (IDENTITY, b"\n"),
+    (IDENTITY, b"x"),
+    (IDENTITY, SIGNATURE_LINE),
+    (TRANSACTION, SIGNATURE_LINE),
+    (b" ", IDENTITY),
+];
+
+fn joined(alloc: Global, front: &[u8], back: &[u8]) -> Result<Vec<u8>, AllocError> {
+    let mut text = Vec::from_slice(alloc, front)?;
+    text.extend_from_slice(back)?;
+    Ok(text)
+}
+
+fn is_no_document(alloc: Global, front: &[u8], back: &[u8]) -> bool {
+    let Ok(text) = joined(alloc, front, back) else {
+        return false;
+    };
+    let none = matches!(read_doc(alloc, &text), Ok(None));
+    forget(text);
+    none
+}
+
 #[test]
-fn other_texts_are_no_documents(rt: HostRuntime) -> Result<(), Fail> {
-    let sig =
-        b"AAAAAAAAAAAAAAAAAAAAAAAAAAAAAAAAAAAAAAAAAAAAAAAAAAAAAAAAAAAAAAAAAAAAAAAAAAAAAAAAAAAAAA==\n";
-    let rows: [(&[u8], &[u8]); 6] = [
-        (b"", b""),
-        (IDENTITY, b"\n"),
-        (IDENTITY, b"x"),
-        (IDENTITY, sig),
-        (TRANSACTION, sig),
-        (b" ", IDENTITY),
-    ];
-    for (front, back) in rows {
-        let mut text = Vec::from_slice(rt.alloc(), front).map_err(|_| "no memory")?;
-        text.extend_from_slice(back).map_err(|_| "no memory")?;
-        assert!(rt; matches!(read_doc(rt.alloc(), &text), Ok(None)));
+fn other_texts_are_no_documents(rt: HostRuntime) {
+    for (front, back) in &OTHERS {
+        assert!(rt; is_no_document(rt.alloc(), front, back));
     }
-    Ok(())
 }

@@ -3,12 +3,12 @@ ghost use Rattle.std.specs.Io.KnownBytes.{Appends, Consumes, IsAtEnd};
 ghost use Rattle.dubp_outside.specs.Causes.{Rose};
 
 use dubp_outside::{
-    Failed, MemSink, MemSource, PlainSink, PlainSource, ReadSource, Sink, Source, WriteSink,
-    write_whole,
+    Failed, MemSink, MemSource, NoMemory, PlainSink, PlainSource, ReadSource, Sink, Source,
+    WriteSink, write_whole,
 };
 use std::alloc::{AllocError, Global};
 use std::io;
-use std::io::{ErrorKind, Read, Write};
+use std::io::{ErrorKind, PipeReader, PipeWriter, Read, Write};
 use std::mem::forget;
 use std::test::Fail;
 
@@ -194,89 +194,123 @@ fn told(
     (copied, is_held, (source.faults(), sink.faults()))
 }
 
+fn sink_of(alloc: Global, row: &Row) -> Result<MemSink, NoMemory> {
+    match row.write_fails.to_vec(alloc) {
+        Ok(fails) => MemSink::new(alloc, row.room, 3, fails),
+        Err(_) => Err(NoMemory),
+    }
+}
+
+/// A source of the text, in pieces of five bytes, of which these reads fail.
+fn source_of(alloc: Global, fails: &[u64]) -> Result<MemSource, AllocError> {
+    let fails = fails.to_vec(alloc)?;
+    Ok(MemSource::new(TEXT.to_vec(alloc)?, 5, fails))
+}
+
+/// Whether a copy into a sink of the row comes to what the row says.
+fn copies_to(alloc: Global, source: &mut MemSource, row: &Row) -> Result<bool, NoMemory> {
+    let mut sink = sink_of(alloc, row)?;
+    let told = told(source, &mut sink, row.held);
+    forget(sink);
+    Ok(told == (row.copied, true, row.faults))
+}
+
 #[test]
 fn copies_with_failing_calls(rt: HostRuntime) -> Result<(), Fail> {
-    let alloc = rt.alloc();
     for row in &ROWS {
-        let mut sink = MemSink::new(alloc, row.room, 3, row.write_fails.to_vec(alloc)?)?;
-        let mut source = MemSource::new(TEXT.to_vec(alloc)?, 5, row.read_fails.to_vec(alloc)?);
-        let told = told(&mut source, &mut sink, row.held);
+        let mut source = source_of(rt.alloc(), row.read_fails)?;
+        let good = copies_to(rt.alloc(), &mut source, row);
         forget(source);
-        forget(sink);
-        assert_eq!(rt; told, (row.copied, true, row.faults));
+        assert!(rt; good == Ok(true));
     }
     Ok(())
 }
 
+/// What three copies answer, of which the first two reads fail, and how many bytes are held behind each.
+const AFTER_FAULTS: [(Result<bool, Failed>, usize); 3] = [
+    (Err(Failed), 5),
+    (Err(Failed), 5),
+    (Ok(true), 21),
+];
+
 /// Whether two reads fail, and what is read behind them is all.
-fn goes_on(source: &mut MemSource, sink: &mut PlainSink) -> bool {
+fn goes_on(alloc: Global, source: &mut MemSource) -> Result<bool, NoMemory> {
+    let mut sink = PlainSink::new(alloc, 64)?;
     let mut good = true;
-    for (copied, held) in [(Err(Failed), 5), (Err(Failed), 5), (Ok(true), 21)] {
-        let found = copy_all(source, sink, &mut [0; 8]);
-        good = good && found == copied && sink.held().len() == held;
+    for (copied, held) in &AFTER_FAULTS {
+        let found = copy_all(source, &mut sink, &mut [0; 8]);
+        good = good && found == *copied && sink.held().len() == *held;
     }
-    good && sink.held() == TEXT
+    good = good && sink.held() == TEXT;
+    forget(sink);
+    Ok(good)
 }
 
 #[test]
 fn goes_on_after_a_failed_read(rt: HostRuntime) -> Result<(), Fail> {
-    let alloc = rt.alloc();
-    let mut sink = PlainSink::new(alloc, 64)?;
-    let mut source = MemSource::new(TEXT.to_vec(alloc)?, 5, vec![in alloc; 1, 2]?);
-    let good = goes_on(&mut source, &mut sink);
+    let mut source = source_of(rt.alloc(), &[1, 2])?;
+    let good = goes_on(rt.alloc(), &mut source);
     forget(source);
-    forget(sink);
-    assert!(rt; good);
+    assert!(rt; good == Ok(true));
     Ok(())
+}
+
+/// Whether all is copied, and neither stream fails.
+fn is_calm<R: Read, W: Write>(source: &mut ReadSource<R>, sink: &mut WriteSink<W>) -> bool {
+    let copied = copy_all(source, sink, &mut [0; 8]) == Ok(true);
+    copied && source.faults() == 0 && sink.faults() == 0
+}
+
+/// Whether the text is written into the pipe.
+fn is_written(writer: PipeWriter) -> bool {
+    let mut sink = WriteSink::new(writer);
+    let good = is_calm(&mut ReadSource::new(TEXT), &mut sink);
+    drop(sink);
+    good
+}
+
+/// Whether the text, and nothing else, is read out of the pipe.
+fn is_read(reader: PipeReader, taken: &mut Vec<u8>) -> bool {
+    let mut source = ReadSource::new(reader);
+    let good = is_calm(&mut source, &mut WriteSink::new(&mut *taken));
+    drop(source);
+    good && taken.as_slice() == TEXT
 }
 
 #[test]
 fn copies_over_streams(rt: HostRuntime) -> Result<(), Fail> {
     let (reader, writer) = io::pipe(&rt)?;
-    let mut sink = WriteSink::new(writer);
-    let mut source = ReadSource::new(TEXT);
-    let written = copy_all(&mut source, &mut sink, &mut [0; 8]);
-    let faults = (source.faults(), sink.faults());
-    drop(sink);
-
+    let written = is_written(writer);
     let mut taken = Vec::new(rt.alloc());
-    let mut source = ReadSource::new(reader);
-    let mut sink = WriteSink::new(&mut taken);
-    let read = copy_all(&mut source, &mut sink, &mut [0; 8]);
-    let more_faults = (source.faults(), sink.faults());
-    drop(source);
-    drop(sink);
-    let whole = taken.as_slice() == TEXT;
+    let read = is_read(reader, &mut taken);
     forget(taken);
-    assert_eq!(rt; (written, faults), (Ok(true), (0, 0)));
-    assert_eq!(rt; (read, more_faults), (Ok(true), (0, 0)));
-    assert!(rt; whole);
+    assert!(rt; written && read);
     Ok(())
 }
 
 /// Whether each read answers and fills the buffer as it should.
 fn reads_go_on(source: &mut ReadSource<InterruptedReader>, buffer: &mut [u8]) -> bool {
     let mut good = true;
-    for (succeeds, faults, filled) in CALLS {
-        let expected = answer(succeeds, buffer.len().min(65_536));
+    for (succeeds, faults, filled) in &CALLS {
+        let expected = answer(*succeeds, buffer.len().min(65_536));
         let found = source.read(buffer);
         good = good
             && found == expected
-            && source.faults() == faults
-            && buffer.first() == Some(&filled);
+            && source.faults() == *faults
+            && buffer.first() == Some(filled);
     }
     good
 }
 
 #[test]
 fn reads_go_on_after_a_fault(rt: HostRuntime) -> Result<(), Fail> {
-    for size in SIZES {
-        let mut buffer = zeros(rt.alloc(), size)?;
+    for size in &SIZES {
+        let mut buffer = zeros(rt.alloc(), *size)?;
         let mut source = ReadSource::new(InterruptedReader { calls: 0 });
         let good = reads_go_on(&mut source, &mut buffer);
         forget(source);
         forget(buffer);
-        assert!(rt; good, "{size} bytes");
+        assert!(rt; good);
     }
     Ok(())
 }
@@ -284,34 +318,36 @@ fn reads_go_on_after_a_fault(rt: HostRuntime) -> Result<(), Fail> {
 /// Whether each write answers as it should.
 fn writes_go_on(sink: &mut WriteSink<&mut InterruptedWriter>, piece: &[u8]) -> bool {
     let mut good = true;
-    for (succeeds, faults, _) in CALLS {
+    for (succeeds, faults, _) in &CALLS {
         let found = sink.write(piece);
-        good = good && found == answer(succeeds, piece.len()) && sink.faults() == faults;
+        good = good && found == answer(*succeeds, piece.len()) && sink.faults() == *faults;
     }
     good
 }
 
+/// Whether a piece of that size is taken by each write that is not interrupted.
+fn is_taken(alloc: Global, size: usize) -> Result<bool, AllocError> {
+    let piece = zeros(alloc, size)?;
+    let mut writer = InterruptedWriter { calls: 0, taken: 0 };
+    let good = writes_go_on(&mut WriteSink::new(&mut writer), &piece);
+    forget(piece);
+    Ok(good && writer.taken / 4 == size)
+}
+
 #[test]
-fn writes_go_on_after_a_fault(rt: HostRuntime) -> Result<(), Fail> {
-    for size in SIZES {
-        let piece = zeros(rt.alloc(), size)?;
-        let mut writer = InterruptedWriter { calls: 0, taken: 0 };
-        let mut sink = WriteSink::new(&mut writer);
-        let good = writes_go_on(&mut sink, &piece);
-        drop(sink);
-        forget(piece);
-        let taken = writer.taken;
-        assert!(rt; good, "{size} bytes");
-        assert_eq!(rt; taken / 4, size);
+fn writes_go_on_after_a_fault(rt: HostRuntime) {
+    for size in &SIZES {
+        assert!(rt; is_taken(rt.alloc(), *size) == Ok(true));
     }
-    Ok(())
+}
+
+/// Whether a full writer takes no byte without a fault, and fails at a text.
+fn fails_at_a_text(sink: &mut WriteSink<FullWriter>) -> bool {
+    let none = sink.write(b"") == Ok(0) && sink.faults() == 0;
+    none && write_whole(sink, TEXT) == Err(Failed) && sink.faults() == 1
 }
 
 #[test]
 fn full_writer_fails(rt: HostRuntime) {
-    let mut sink = WriteSink::new(FullWriter);
-    assert_eq!(rt; sink.write(b""), Ok(0));
-    assert_eq!(rt; sink.faults(), 0);
-    assert_eq!(rt; write_whole(&mut sink, TEXT), Err(Failed));
-    assert_eq!(rt; sink.faults(), 1);
+    assert!(rt; fails_at_a_text(&mut WriteSink::new(FullWriter)));
 }

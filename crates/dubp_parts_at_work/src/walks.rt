@@ -8,7 +8,7 @@ ghost use Rattle.dubp_wot.specs.Order.{IsInOrder, IsNextIssuer, is_above, less};
 
 use dubp_atoms::{Key, NoMemory};
 use dubp_wot::{Web, d_sen, reaches, reaches_among, sentries};
-use std::alloc::Global;
+use std::alloc::{AllocError, Global};
 use std::mem::forget;
 use std::test::Fail;
 
@@ -143,32 +143,34 @@ fn is_below_all(key: &Key, keys: &[Key]) -> bool
     keys.iter().all(|k| *key < *k)
 }
 
-/// The web of keys that repeat a letter: its members, and who certifies whom. None where the members are not in order.
-fn make_web(alloc: Global, members: &[u8], pairs: &[(u8, u8)]) -> Result<Option<Listed>, NoMemory> {
-    let members = keys_of(alloc, members)?;
-    let mut read = Vec::new(alloc);
-    for (from, to) in pairs {
-        if let (Some(from), Some(to)) = (key_of(*from), key_of(*to)) {
-            read.push((from, to)).map_err(|_| NoMemory)?;
-        }
-    }
+/// The web of the members A to E, whose keys repeat a letter each, and of who certifies whom.
+fn make_web(alloc: Global, pairs: &[(u8, u8)]) -> Result<Listed, Fail> {
+    let members = keys_of(alloc, b"ABCDE")?;
     if !is_in_order(&members) {
-        return Ok(None);
+        return Err(Fail::from("members in no order"));
     }
-    Ok(Some(Listed {
-        members,
-        pairs: read,
-    }))
+    let pairs = pairs_of(alloc, pairs)?;
+    Ok(Listed { members, pairs })
 }
 
-fn keys_of(alloc: Global, letters: &[u8]) -> Result<Vec<Key>, NoMemory> {
+fn keys_of(alloc: Global, letters: &[u8]) -> Result<Vec<Key>, AllocError> {
     let mut keys = Vec::new(alloc);
     for letter in letters {
         if let Some(key) = key_of(*letter) {
-            keys.push(key).map_err(|_| NoMemory)?;
+            keys.push(key)?;
         }
     }
     Ok(keys)
+}
+
+fn pairs_of(alloc: Global, letters: &[(u8, u8)]) -> Result<Vec<(Key, Key)>, AllocError> {
+    let mut pairs = Vec::new(alloc);
+    for (from, to) in letters {
+        if let (Some(from), Some(to)) = (key_of(*from), key_of(*to)) {
+            pairs.push((from, to))?;
+        }
+    }
+    Ok(pairs)
 }
 
 fn key_of(letter: u8) -> Option<Key> {
@@ -185,7 +187,10 @@ const WALKS: [(u8, u8); 6] = [
     (b'X', b'E'),
 ];
 
-/// Whether as many of the four sentries other than the target reach it within each number of steps as should.
+/// The greatest number of steps, and how many of the four sentries other than the target reach it.
+const REACHED: [(u64, u64); 5] = [(4, 4), (3, 3), (2, 2), (1, 1), (16, 4)];
+
+/// Whether as many of the sentries reach the target within each number of steps as should.
 fn are_reached(
     alloc: Global,
     web: &Listed,
@@ -193,23 +198,26 @@ fn are_reached(
     target: Key,
 ) -> Result<bool, NoMemory> {
     let mut good = true;
-    for (steps_max, reached) in [(4, 4), (3, 3), (2, 2), (1, 1), (16, 4)] {
-        let found = reaches_among(alloc, web, sentries, target, steps_max)?;
-        good = good && found == (reached, 4);
+    for (steps_max, reached) in &REACHED {
+        let found = reaches_among(alloc, web, sentries, target, *steps_max)?;
+        good = good && found == (*reached, 4);
     }
     Ok(good)
 }
 
+/// Whether the members of the web reach E as they should.
+fn members_reach(alloc: Global, web: &Listed) -> Result<bool, NoMemory> {
+    match key_of(b'E') {
+        Some(target) => are_reached(alloc, web, &web.members, target),
+        None => Ok(false),
+    }
+}
+
 #[test]
 fn walks_within_the_limit_reach(rt: HostRuntime) -> Result<(), Fail> {
-    let target = key_of(b'E').ok_or("a key")?;
-    let sentries = keys_of(rt.alloc(), b"ABCDE")?;
-    let Some(web) = make_web(rt.alloc(), b"ABCDE", &WALKS)? else {
-        return Err(Fail::from("a web"));
-    };
-    let good = are_reached(rt.alloc(), &web, &sentries, target);
+    let web = make_web(rt.alloc(), &WALKS)?;
+    let good = members_reach(rt.alloc(), &web);
     forget(web);
-    forget(sentries);
     assert!(rt; good == Ok(true));
     Ok(())
 }
@@ -224,18 +232,25 @@ const CERTIFICATIONS: [(u8, u8); 6] = [
     (b'C', b'A'),
 ];
 
+/// A letter, how many sentries reach its key within three steps, and how many there are beside it.
+const SENTRIES: [(u8, (u64, u64)); 3] = [(b'A', (0, 0)), (b'C', (1, 1)), (b'D', (0, 1))];
+
+fn is_a_alone(found: &[Key]) -> bool {
+    match key_of(b'A') {
+        Some(key) => found == [key].as_slice(),
+        None => false,
+    }
+}
+
 /// Whether A alone is a sentry, and as many sentries reach each of three as should.
 fn a_is_the_sentry(alloc: Global, web: &Listed) -> Result<bool, NoMemory> {
     if web.count_members() != 5 {
         return Ok(false);
     }
-    let found = sentries(alloc, web, 3)?;
-    let wanted = keys_of(alloc, b"A")?;
-    let mut good = found == wanted;
-    for (letter, numbers) in [(b'A', (0, 0)), (b'C', (1, 1)), (b'D', (0, 1))] {
-        if let Some(target) = key_of(letter) {
-            let reached = reaches(alloc, web, target, 3)?;
-            good = good && reached == numbers;
+    let mut good = is_a_alone(&sentries(alloc, web, 3)?);
+    for (letter, numbers) in &SENTRIES {
+        if let Some(target) = key_of(*letter) {
+            good = good && reaches(alloc, web, target, 3)? == *numbers;
         }
     }
     Ok(good)
@@ -243,25 +258,25 @@ fn a_is_the_sentry(alloc: Global, web: &Listed) -> Result<bool, NoMemory> {
 
 #[test]
 fn sentries_have_issued_and_received(rt: HostRuntime) -> Result<(), Fail> {
-    let Some(web) = make_web(rt.alloc(), b"ABCDE", &CERTIFICATIONS)? else {
-        return Err(Fail::from("a web"));
-    };
+    let web = make_web(rt.alloc(), &CERTIFICATIONS)?;
     let good = a_is_the_sentry(rt.alloc(), &web);
     forget(web);
     assert!(rt; good == Ok(true));
     Ok(())
 }
 
+// The members, the greatest number of steps, and the least degree.
+const DEGREES: [(u64, u64, u64); 5] = [
+    (8, 3, 2),
+    (9, 3, 3),
+    (0, 3, 0),
+    (1, 1, 1),
+    (2_000_000, 1, 2_000_000),
+];
+
 #[test]
-fn least_degrees(rt: HostRuntime) -> Result<(), Fail> {
-    for (members, steps_max, least) in [
-        (8, 3, 2),
-        (9, 3, 3),
-        (0, 3, 0),
-        (1, 1, 1),
-        (2_000_000, 1, 2_000_000),
-    ] {
-        assert_eq!(rt; d_sen(members, steps_max), least);
+fn least_degrees(rt: HostRuntime) {
+    for (members, steps_max, least) in &DEGREES {
+        assert!(rt; d_sen(*members, *steps_max) == *least);
     }
-    Ok(())
 }
