@@ -1,5 +1,4 @@
 ghost use Rattle.std.specs.Prelude.{◌≡◌, ◌<◌};
-ghost use Rattle.dubp_undo.specs.MovingTable.{empty};
 
 use dubp_atoms::{NoMemory, Steps};
 use dubp_undo::UndoTable;
@@ -15,6 +14,109 @@ const MARKS: u64 = 20_000;
 
 const MANY_KEYS: u64 = 1_050_000;
 
+// A call on a table, or some that only stand together.
+#[derive(Clone, Copy)]
+enum Call {
+    Set(u64, Option<u64>),
+    Ready(u64, usize),
+    Mark,
+    MarkAndUnmark,
+    Reserve(usize),
+    Hold,
+    HoldAndAgain,
+    Back,
+    DropOldest,
+    DropAhead,
+}
+
+// A call, and the entries and the number of kept maps behind it.
+type Row = (Call, &'static [(u64, u64)], usize);
+
+// A write is held, another comes in its place and goes, and the first comes again.
+static HELD_WRITE: [Row; 7] = [
+    (Call::Mark, &[], 1),
+    (Call::Set(1, Some(5)), &[(1, 5)], 1),
+    (Call::Mark, &[(1, 5)], 2),
+    (Call::Set(1, None), &[], 2),
+    (Call::HoldAndAgain, &[], 2),
+    (Call::Back, &[(1, 5)], 1),
+    (Call::Back, &[], 0),
+];
+
+// A key that is made ready is set, another loses its value, and walks step over it.
+static WALK: [Row; 6] = [
+    (Call::Set(10, Some(1)), &[(10, 1)], 0),
+    (Call::MarkAndUnmark, &[(10, 1)], 0),
+    (Call::Ready(20, 2), &[(10, 1)], 0),
+    (Call::Set(20, Some(2)), &[(10, 1), (20, 2)], 0),
+    (Call::Set(10, None), &[(20, 2)], 0),
+    (Call::Set(30, Some(3)), &[(20, 2), (30, 3)], 0),
+];
+
+// The oldest map is forgotten, and what is held.
+static BOTH_ENDS: [Row; 9] = [
+    (Call::Mark, &[], 1),
+    (Call::Set(10, Some(1)), &[(10, 1)], 1),
+    (Call::Mark, &[(10, 1)], 2),
+    (Call::Set(10, Some(2)), &[(10, 2)], 2),
+    (Call::Hold, &[(10, 1)], 1),
+    (Call::DropAhead, &[(10, 1)], 1),
+    (Call::Mark, &[(10, 1)], 2),
+    (Call::DropOldest, &[(10, 1)], 1),
+    (Call::Back, &[(10, 1)], 0),
+];
+
+// A key that stands in no map leaves its slot to another, and comes again; the maps that are kept are theirs.
+static PLACE_USED_AGAIN: [Row; 12] = [
+    (Call::Mark, &[], 1),
+    (Call::Set(1, Some(5)), &[(1, 5)], 1),
+    (Call::Set(1, None), &[], 1),
+    (Call::Set(2, Some(6)), &[(2, 6)], 1),
+    (Call::Mark, &[(2, 6)], 2),
+    (Call::Set(2, None), &[], 2),
+    (Call::DropOldest, &[], 1),
+    (Call::Set(3, Some(7)), &[(3, 7)], 1),
+    (Call::Set(1, Some(8)), &[(1, 8), (3, 7)], 1),
+    (Call::Back, &[(2, 6)], 0),
+    (Call::DropAhead, &[(2, 6)], 0),
+    (Call::Set(4, Some(9)), &[(2, 6), (4, 9)], 0),
+];
+
+// Each call that takes memory.
+static REFUSALS: [Row; 6] = [
+    (Call::Set(1, Some(5)), &[(1, 5)], 0),
+    (Call::Mark, &[(1, 5)], 1),
+    (Call::Ready(2, 9), &[(1, 5)], 1),
+    (Call::Set(3, Some(6)), &[(1, 5), (3, 6)], 1),
+    (Call::Reserve(1), &[(1, 5), (3, 6)], 1),
+    (Call::Back, &[(1, 5)], 0),
+];
+
+// The first of the entries whose key is at least k.
+fn first_from(entries: &[(u64, u64)], k: u64) -> Option<(u64, u64)> {
+    for entry in entries {
+        if entry.0 >= k {
+            return Some(*entry);
+        }
+    }
+    None
+}
+
+// Whether the table answers by the entries at each key of the trials.
+fn answers_by(table: &UndoTable<u64, u64>, entries: &[(u64, u64)]) -> bool {
+    for k in 0..32 {
+        let first = first_from(entries, k);
+        let value = match first {
+            Some((key, value)) if key == k => Some(value),
+            _ => None,
+        };
+        if table.next_from(k) != first || table.get(k) != value {
+            return false;
+        }
+    }
+    true
+}
+
 // Whether the table has these entries, and no other.
 fn has(table: &UndoTable<u64, u64>, entries: &[(u64, u64)]) -> bool {
     let mut last = None;
@@ -24,7 +126,7 @@ fn has(table: &UndoTable<u64, u64>, entries: &[(u64, u64)]) -> bool {
         }
         last = Some(entry.0);
     }
-    table.next_after(last) == None
+    table.next_after(last) == None && answers_by(table, entries)
 }
 
 // Goes back, where there is a map to go back to.
@@ -34,102 +136,99 @@ fn go_back<L: StepBook>(table: &mut UndoTable<u64, u64>, steps: &mut Steps<L>) {
     }
 }
 
-// A write is held, another comes in its place and goes, and the first comes again.
-fn holds_and_comes_again<L: StepBook>(
+// Holds what was written last, where nothing is held.
+fn hold<L: StepBook>(
     table: &mut UndoTable<u64, u64>,
     steps: &mut Steps<L>,
-) -> Result<bool, NoMemory>
-    requires { table.old ≡ empty }
-{
-    table.mark()?;
-    table.set(1, Some(5), steps)?;
-    table.mark()?;
-    table.set(1, None, steps)?;
+) -> Result<(), NoMemory> {
+    table.drop_ahead();
+    if table.depth() > 0 {
+        table.reserve(1)?;
+        table.hold(steps);
+    }
+    Ok(())
+}
+
+// A write is held where nothing is, another comes in its place and goes, and the first comes again.
+fn hold_and_again<L: StepBook>(
+    table: &mut UndoTable<u64, u64>,
+    steps: &mut Steps<L>,
+) -> Result<(), NoMemory> {
+    table.drop_ahead();
+    if table.depth() == 0 {
+        return Ok(());
+    }
     table.reserve(1)?;
     table.hold(steps);
+    if table.depth() == 0 {
+        return Ok(());
+    }
     table.reserve(1)?;
     table.ready(2, 9)?;
     table.mark()?;
     table.set(2, Some(6), steps)?;
     table.back(steps);
     table.again(steps);
-    let now = has(table, &[]) && table.depth() == 2;
-    go_back(table, steps);
-    let newer = has(table, &[(1, 5)]) && table.depth() == 1;
-    go_back(table, steps);
-    let older = has(table, &[]) && table.depth() == 0;
-    Ok(now && newer && older)
+    Ok(())
 }
 
-// A key that is made ready is set, another loses its value, and walks step over it.
-fn walks_over_what_is_gone<L: StepBook>(
-    table: &mut UndoTable<u64, u64>,
-    steps: &mut Steps<L>,
-) -> Result<bool, NoMemory>
-    requires { table.old ≡ empty }
-{
-    table.set(10, Some(1), steps)?;
+fn mark_and_unmark(table: &mut UndoTable<u64, u64>) -> Result<(), NoMemory> {
     table.mark()?;
     table.unmark();
-    table.ready(20, 2)?;
-    table.set(20, Some(2), steps)?;
-    table.set(10, None, steps)?;
-    table.set(30, Some(3), steps)?;
-    Ok(
-        table.get(10) == None
-            && table.get(20) == Some(2)
-            && table.next_from(10) == Some((20, 2))
-            && table.next_from(20) == Some((20, 2))
-            && table.next_after(Some(20)) == Some((30, 3))
-            && table.next_after(None) == Some((20, 2))
-            && table.next_from(31) == None
-            && table.next_after(Some(30)) == None,
-    )
+    Ok(())
 }
 
-// Forgets the oldest map, and what is held.
-fn forgets_both_ends<L: StepBook>(
-    table: &mut UndoTable<u64, u64>,
-    steps: &mut Steps<L>,
-) -> Result<bool, NoMemory>
-    requires { table.old ≡ empty }
-{
-    table.mark()?;
-    table.set(10, Some(1), steps)?;
-    table.mark()?;
-    table.set(10, Some(2), steps)?;
-    table.reserve(1)?;
-    table.hold(steps);
-    table.drop_ahead();
-    table.mark()?;
-    table.drop_oldest();
-    let one = has(table, &[(10, 1)]) && table.depth() == 1;
-    go_back(table, steps);
-    Ok(one && has(table, &[(10, 1)]) && table.depth() == 0)
+fn reserve(table: &mut UndoTable<u64, u64>, count: usize) -> Result<(), NoMemory> {
+    if count <= table.depth() {
+        table.reserve(count)?;
+    }
+    Ok(())
 }
 
-// A key that stands in no map leaves its slot to another, and comes again; the maps that are kept are theirs.
-fn uses_places_again<L: StepBook>(
+fn drop_oldest(table: &mut UndoTable<u64, u64>) {
+    if table.depth() > 0 {
+        table.drop_oldest();
+    }
+}
+
+fn make<L: StepBook>(
     table: &mut UndoTable<u64, u64>,
+    call: Call,
     steps: &mut Steps<L>,
-) -> Result<bool, NoMemory>
-    requires { table.old ≡ empty }
-{
-    table.mark()?;
-    table.set(1, Some(5), steps)?;
-    table.set(1, None, steps)?;
-    table.set(2, Some(6), steps)?;
-    table.mark()?;
-    table.set(2, None, steps)?;
-    table.drop_oldest();
-    table.set(3, Some(7), steps)?;
-    table.set(1, Some(8), steps)?;
-    let newer = has(table, &[(1, 8), (3, 7)]) && table.get(2) == None;
-    go_back(table, steps);
-    let older = has(table, &[(2, 6)]) && table.get(1) == None && table.get(3) == None;
-    table.drop_ahead();
-    table.set(4, Some(9), steps)?;
-    Ok(newer && older && has(table, &[(2, 6), (4, 9)]) && table.depth() == 0)
+) -> Result<(), NoMemory> {
+    match call {
+        Call::Set(k, v) => return table.set(k, v, steps),
+        Call::Ready(k, n) => return table.ready(k, n),
+        Call::Mark => return table.mark(),
+        Call::MarkAndUnmark => return mark_and_unmark(table),
+        Call::Reserve(count) => return reserve(table, count),
+        Call::Hold => return hold(table, steps),
+        Call::HoldAndAgain => return hold_and_again(table, steps),
+        Call::Back => go_back(table, steps),
+        Call::DropOldest => drop_oldest(table),
+        Call::DropAhead => table.drop_ahead(),
+    }
+    Ok(())
+}
+
+// Makes the calls, each of which must come to what its row says. One that is refused must leave all as it was, and is made again.
+fn goes_through<L: StepBook>(
+    table: &mut UndoTable<u64, u64>,
+    rows: &[Row],
+    steps: &mut Steps<L>,
+) -> Result<bool, NoMemory> {
+    let mut good = true;
+    let mut before: &[(u64, u64)] = &[];
+    for (call, entries, depth) in rows {
+        let kept = table.depth();
+        if make(table, *call, steps).is_err() {
+            good = good && has(table, before) && table.depth() == kept;
+            make(table, *call, steps)?;
+        }
+        good = good && has(table, entries) && table.depth() == *depth;
+        before = entries;
+    }
+    Ok(good)
 }
 
 // Many keys, then a mark and a write many times, with room for as many ways forward, then all the way back.
@@ -167,49 +266,12 @@ fn sets_many_keys<L: StepBook>(
     Ok(table.get(MANY_KEYS - 1) == Some(MANY_KEYS - 1))
 }
 
-// Makes each call that takes memory; one that is refused must leave all as it was, and is made again.
-fn goes_on_after_a_refusal<L: StepBook>(
-    table: &mut UndoTable<u64, u64>,
-    steps: &mut Steps<L>,
-) -> Result<bool, NoMemory> {
-    let mut same = true;
-    if table.set(1, Some(5), steps).is_err() {
-        same = same && has(table, &[]) && table.depth() == 0;
-        table.set(1, Some(5), steps)?;
-    }
-    if table.mark().is_err() {
-        same = same && has(table, &[(1, 5)]) && table.depth() == 0;
-        table.mark()?;
-    }
-    if table.ready(2, 9).is_err() {
-        same = same && has(table, &[(1, 5)]) && table.depth() == 1;
-        table.ready(2, 9)?;
-    }
-    if table.set(3, Some(6), steps).is_err() {
-        same = same && has(table, &[(1, 5)]) && table.depth() == 1;
-        table.set(3, Some(6), steps)?;
-    }
-    if table.depth() > 0 && table.reserve(1).is_err() {
-        same = same && has(table, &[(1, 5), (3, 6)]) && table.depth() == 1;
-        if table.depth() > 0 {
-            table.reserve(1)?;
-        }
-    }
-    same = same && has(table, &[(1, 5), (3, 6)]) && table.depth() == 1;
-    go_back(table, steps);
-    Ok(same && has(table, &[(1, 5)]) && table.depth() == 0)
-}
-
 // What is tried on a new table.
 #[derive(Clone, Copy)]
 enum Trial {
-    HeldWrite,
-    Walk,
-    BothEnds,
-    PlaceUsedAgain,
+    Rows(&'static [Row]),
     FarBack,
     ManyKeys,
-    Refusals,
 }
 
 fn passes<L: StepBook>(alloc: Global, blank: Blank, trial: Trial) -> Result<bool, NoMemory>
@@ -220,13 +282,9 @@ fn passes<L: StepBook>(alloc: Global, blank: Blank, trial: Trial) -> Result<bool
     let mut steps = Steps::<L>::open(blank);
     let mut table = UndoTable::new(alloc);
     let good = match trial {
-        Trial::HeldWrite => holds_and_comes_again(&mut table, &mut steps),
-        Trial::Walk => walks_over_what_is_gone(&mut table, &mut steps),
-        Trial::BothEnds => forgets_both_ends(&mut table, &mut steps),
-        Trial::PlaceUsedAgain => uses_places_again(&mut table, &mut steps),
+        Trial::Rows(rows) => goes_through(&mut table, rows, &mut steps),
         Trial::FarBack => goes_far_back(&mut table, &mut steps),
         Trial::ManyKeys => sets_many_keys(&mut table, &mut steps),
-        Trial::Refusals => goes_on_after_a_refusal(&mut table, &mut steps),
     };
     forget(table);
     good
@@ -240,22 +298,22 @@ fn is_passed(alloc: Global, trial: Trial) -> bool {
 
 #[test]
 fn a_held_write_comes_again(rt: HostRuntime) {
-    assert!(rt; is_passed(rt.alloc(), Trial::HeldWrite));
+    assert!(rt; is_passed(rt.alloc(), Trial::Rows(&HELD_WRITE)));
 }
 
 #[test]
 fn a_key_without_a_value_is_stepped_over(rt: HostRuntime) {
-    assert!(rt; is_passed(rt.alloc(), Trial::Walk));
+    assert!(rt; is_passed(rt.alloc(), Trial::Rows(&WALK)));
 }
 
 #[test]
 fn both_ends_are_forgotten(rt: HostRuntime) {
-    assert!(rt; is_passed(rt.alloc(), Trial::BothEnds));
+    assert!(rt; is_passed(rt.alloc(), Trial::Rows(&BOTH_ENDS)));
 }
 
 #[test]
 fn a_place_is_used_again(rt: HostRuntime) {
-    assert!(rt; is_passed(rt.alloc(), Trial::PlaceUsedAgain));
+    assert!(rt; is_passed(rt.alloc(), Trial::Rows(&PLACE_USED_AGAIN)));
 }
 
 #[test]
@@ -270,5 +328,5 @@ fn more_than_a_million_keys_are_set(rt: HostRuntime) {
 
 #[test]
 fn a_refused_call_changes_nothing(rt: HostRuntime) {
-    assert!(rt; is_passed(rt.alloc(), Trial::Refusals));
+    assert!(rt; is_passed(rt.alloc(), Trial::Rows(&REFUSALS)));
 }

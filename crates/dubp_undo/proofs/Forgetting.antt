@@ -1,47 +1,44 @@
 -- The keys of dead slots are given up while nothing is ahead: every map stays.
 use Rattle.std.proofs.Common.{◌≡◌, ℕ, ◌+◌, ◌≤◌, List, [], ◌∷◌, length, get_or, Option, None, refl, sym, ◌∙◌, inl, inr, arith}
 use Rattle.std.specs.declared.cmp.Ordering.{Ordering}
-use Rattle.std.specs.BTreeMap.{is_at}
-use Rattle.std.specs.List.Sorted.{IsStrictlySortedBy}
-use Rattle.std.specs.Map.{keys_of}
-use Rattle.std.proofs.lemmas.Map.Made.{is_some-lookup}
 use Rattle.dubp_undo.specs.MovingTable.{IsPlaced}
-use Rattle.dubp_undo.specs.Rows.{live, IsDead, GivesUp}
+use Rattle.dubp_undo.specs.Slots.{live, keys_in, IsDead, GivesUp}
 use Rattle.dubp_undo.specs.Journal.{states, named, Follows, IsKept}
 use Rattle.dubp_undo.proofs.Journals.{no_spare}
+use Rattle.dubp_undo.proofs.Live.{live_keys, is_some-slot}
 use Rattle.dubp_undo.proofs.Naming.{named-le, states_same}
 use Rattle.dubp_undo.proofs.Placed.{places_forgotten}
 
-module _ {K V : Type 0} {cmp : K → K → Ordering} {rows : List (K × ℕ)} {keys : List (Option K)} {uses : List ℕ} {slots root : List (Option V)} {rooted : List (K × V)} {j redo : List (ℕ × Option V)} {marks redo_marks : List ℕ} {spare jr mr rr rmr : ℕ} (k : IsKept cmp rows keys uses slots root rooted j redo marks redo_marks spare jr mr rr rmr) where
+module _ {K V : Type 0} {cmp : K → K → Ordering} {slot_of : K → Option ℕ} {keys : List (Option K)} {uses : List ℕ} {slots root : List (Option V)} {rooted : List (K × V)} {j redo : List (ℕ × Option V)} {marks redo_marks : List ℕ} {spare jr mr rr rmr : ℕ} (k : IsKept cmp slot_of keys uses slots root rooted j redo marks redo_marks spare jr mr rr rmr) where
   -- all that is ahead is forgotten
-  pub forgotten_kept : {uses' : List ℕ} → Follows uses uses' redo [] → IsKept cmp rows keys uses' slots root rooted j [] marks [] 0 jr mr rr rmr
+  pub forgotten_kept : {uses' : List ℕ} → Follows uses uses' redo [] → IsKept cmp slot_of keys uses' slots root rooted j [] marks [] 0 jr mr rr rmr
   forgotten_kept f = record {
-    rows_ok = k.rows_ok;
+    finds = k.finds;
     places = places_forgotten k.places f;
     back_ok = k.back_ok;
     forward_ok = record { within = λ i d lt. absurd (omega arith); divided = refl };
     root_fits = k.root_fits;
-    root_ok = record { ordered = k.root_ok.ordered; is = λ some. absurd (omega arith) };
+    rooted_is = λ some. absurd (omega arith);
     room = no_spare _ _ _ _ _ _ _ _ (omega (arith, k.room.back)) (omega (arith, k.room.back_marks)) (omega arith) (omega arith);
   }
 
-  module _ {other : List (K × ℕ)} {keys' : List (Option K)} (g : GivesUp cmp uses slots keys rows keys' other) where
+  module _ {slot_of' : K → Option ℕ} {keys' : List (Option K)} (g : GivesUp cmp uses slots keys slot_of keys' slot_of') where
     dead_unnamed : (i : ℕ) → IsDead uses slots i → named i j ≡ 0
     dead_unnamed i dead = omega (arith, k.places.counted i, dead.unnamed)
 
-    pub swept_live : live other slots ≡ live rows slots
-    swept_live = g.same_maps slots (λ i dead. dead.nothing)
+    pub swept_live : live keys' slots ≡ live keys slots
+    swept_live = live_keys keys keys' slots (λ x. elim (g.others x) [ inl same ↦ inl same | inr dead ↦ inr dead.nothing ])
 
-    pub swept_states : states other slots j marks ≡ states rows slots j marks
-    swept_states = states_same rows other (IsDead uses slots) g.same_maps slots (λ i dead. dead.nothing) j marks dead_unnamed
+    pub swept_states : states keys' slots j marks ≡ states keys slots j marks
+    swept_states = states_same keys keys' (IsDead uses slots) g.others slots (λ i dead. dead.nothing) j marks dead_unnamed
 
     dead_now : (i : ℕ) → get_or keys' i None ≡ None → IsDead uses slots i
     dead_now i none = elim (g.dead i none) [ inl was ↦ k.places.free i was | inr dead ↦ dead ]
 
     -- the root's slots are then those of now, since nothing goes on from it
-    pub swept_kept : length redo_marks ≡ 0 → IsKept cmp other keys' uses slots slots rooted j redo marks redo_marks spare jr mr rr rmr
+    pub swept_kept : length redo_marks ≡ 0 → IsKept cmp slot_of' keys' uses slots slots rooted j redo marks redo_marks spare jr mr rr rmr
     swept_kept none = record {
-      rows_ok = g.are_rows;
+      finds = g.finds;
       places = record {
         keys_each = g.same_length ∙ k.places.keys_each;
         uses_each = k.places.uses_each;
@@ -52,15 +49,15 @@ module _ {K V : Type 0} {cmp : K → K → Ordering} {rows : List (K × ℕ)} {k
       back_ok = k.back_ok;
       forward_ok = record { within = λ i d lt. omega (arith, k.forward_ok.within i d lt, k.root_fits); divided = k.forward_ok.divided };
       root_fits = omega arith;
-      root_ok = record { ordered = k.root_ok.ordered; is = λ some. absurd (omega (arith, none, some)) };
+      rooted_is = λ some. absurd (omega (arith, none, some));
       room = k.room;
     }
 
-    pub swept_placed : (q : K) → IsPlaced cmp q (keys_of other) → IsPlaced cmp q (keys_of rows)
-    swept_placed q is = sym (is_some-lookup (is_at (cmp q)) rows) ∙ g.only q (is_some-lookup (is_at (cmp q)) other ∙ is)
+    pub swept_placed : (q : K) → IsPlaced cmp q (keys_in keys') → IsPlaced cmp q (keys_in keys)
+    swept_placed q is = sym (is_some-slot k.finds q) ∙ g.only q (is_some-slot g.finds q ∙ is)
 
 -- the counts, as the calls of a table need them
-module _ {K V : Type 0} {cmp : K → K → Ordering} {rows : List (K × ℕ)} {keys : List (Option K)} {uses : List ℕ} {slots root : List (Option V)} {rooted : List (K × V)} {j redo : List (ℕ × Option V)} {marks redo_marks : List ℕ} {spare jr mr rr rmr : ℕ} (k : IsKept cmp rows keys uses slots root rooted j redo marks redo_marks spare jr mr rr rmr) where
+module _ {K V : Type 0} {cmp : K → K → Ordering} {slot_of : K → Option ℕ} {keys : List (Option K)} {uses : List ℕ} {slots root : List (Option V)} {rooted : List (K × V)} {j redo : List (ℕ × Option V)} {marks redo_marks : List ℕ} {spare jr mr rr rmr : ℕ} (k : IsKept cmp slot_of keys uses slots root rooted j redo marks redo_marks spare jr mr rr rmr) where
   pub counted_back : (i : ℕ) → named i j ≤ get_or uses i 0
   counted_back i = omega (arith, k.places.counted i)
 
@@ -70,26 +67,22 @@ module _ {K V : Type 0} {cmp : K → K → Ordering} {rows : List (K × ℕ)} {k
   pub counted_few : (i : ℕ) → get_or uses i 0 ≤ length j + length redo
   counted_few i = omega (arith, k.places.counted i, named-le i j, named-le i redo)
 
-sorted_none : {K : Type 0} (cmp : K → K → Ordering) → IsStrictlySortedBy cmp []
-unfolding IsStrictlySortedBy
-sorted_none cmp = tt
-
 -- nothing at all
-pub empty_kept : {K V : Type 0} (cmp : K → K → Ordering) (jr mr rr rmr : ℕ) → IsKept {K = K} {V = V} cmp [] [] [] [] [] [] [] [] [] [] 0 jr mr rr rmr
-empty_kept cmp jr mr rr rmr = record {
-  rows_ok = record { ordered = sorted_none cmp; have = tt; are = λ i k e. cc };
+pub empty_kept : {K V : Type 0} (cmp : K → K → Ordering) (slot_of : K → Option ℕ) → ((q : K) → slot_of q ≡ None) → (jr mr rr rmr : ℕ) → IsKept {K = K} {V = V} cmp slot_of [] [] [] [] [] [] [] [] [] 0 jr mr rr rmr
+empty_kept cmp slot_of none jr mr rr rmr = record {
+  finds = record { found = λ i k e. absurd (cc); has = λ q i e. absurd (cc (none q)); alike = λ q k s. none q ∙ sym (none k) };
   places = record { keys_each = refl; uses_each = refl; counted = λ i. refl; free = λ i none. record { nothing = refl; unnamed = refl }; free_root = λ i none. refl };
   back_ok = record { within = λ i d lt. absurd (omega arith); divided = refl };
   forward_ok = record { within = λ i d lt. absurd (omega arith); divided = refl };
   root_fits = omega arith;
-  root_ok = record { ordered = sorted_none cmp; is = λ some. refl };
+  rooted_is = λ some. refl;
   room = no_spare _ _ _ _ _ _ _ _ (omega arith) (omega arith) (omega arith) (omega arith);
 }
 
-pub nothing_kept : {K V : Type 0} (cmp : K → K → Ordering) (rows : List (K × ℕ)) (keys : List (Option K)) (uses : List ℕ) (slots root : List (Option V)) (rooted : List (K × V)) (j redo : List (ℕ × Option V)) (marks redo_marks : List ℕ) (jr mr rr rmr : ℕ) → rows ≡ [] → keys ≡ [] → uses ≡ [] → slots ≡ [] → root ≡ [] → rooted ≡ [] → j ≡ [] → redo ≡ [] → marks ≡ [] → redo_marks ≡ [] → IsKept cmp rows keys uses slots root rooted j redo marks redo_marks 0 jr mr rr rmr
-nothing_kept cmp rows keys uses slots root rooted j redo marks redo_marks jr mr rr rmr a b c d e f g h i l = rw (a, b, c, d, e, f, g, h, i, l) (empty_kept cmp jr mr rr rmr)
+pub nothing_kept : {K V : Type 0} (cmp : K → K → Ordering) (slot_of : K → Option ℕ) → ((q : K) → slot_of q ≡ None) → (keys : List (Option K)) (uses : List ℕ) (slots root : List (Option V)) (rooted : List (K × V)) (j redo : List (ℕ × Option V)) (marks redo_marks : List ℕ) (jr mr rr rmr : ℕ) → keys ≡ [] → uses ≡ [] → slots ≡ [] → root ≡ [] → rooted ≡ [] → j ≡ [] → redo ≡ [] → marks ≡ [] → redo_marks ≡ [] → IsKept cmp slot_of keys uses slots root rooted j redo marks redo_marks 0 jr mr rr rmr
+nothing_kept cmp slot_of none keys uses slots root rooted j redo marks redo_marks jr mr rr rmr b c d e f g h i l = rw (b, c, d, e, f, g, h, i, l) (empty_kept cmp slot_of none jr mr rr rmr)
 
 -- nothing is ahead, whatever the slots
-pub no_states : {K V : Type 0} (rows other : List (K × ℕ)) (slots more : List (Option V)) (j : List (ℕ × Option V)) (marks : List ℕ) → length marks ≡ 0 → states other more j marks ≡ states rows slots j marks
-no_states rows other slots more j [] none = refl
-no_states rows other slots more j (n ∷ marks) none = absurd (omega (arith, none))
+pub no_states : {K V : Type 0} (keys other : List (Option K)) (slots more : List (Option V)) (j : List (ℕ × Option V)) (marks : List ℕ) → length marks ≡ 0 → states other more j marks ≡ states keys slots j marks
+no_states keys other slots more j [] none = refl
+no_states keys other slots more j (n ∷ marks) none = absurd (omega (arith, none))

@@ -1,4 +1,5 @@
 pub mod Alike
+pub mod Building
 pub mod Counted
 pub mod Counting
 pub mod Covering
@@ -6,13 +7,17 @@ pub mod Forgetting
 pub mod Giving
 pub mod Journals
 pub mod Live
+pub mod Lowest
 pub mod Maps
 pub mod Naming
+pub mod Nodes
 pub mod Past
 pub mod Placed
 pub mod Placing
+pub mod Playing
 pub mod Results
 pub mod Setting
 pub mod Turned
 pub mod Turning
 pub mod Walks
+pub mod Winning

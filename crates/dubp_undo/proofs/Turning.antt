@@ -7,11 +7,10 @@ use Rattle.std.proofs.lemmas.List.{length-reverse, reverse-append, get_or-take, 
 use Rattle.std.proofs.lemmas.List.Elements.{All-head, All-tail, All-push, All-drop}
 use Rattle.std.proofs.Math.Seq.{drop-cons}
 use Rattle.dubp_undo.specs.MovingTable.{last_count, SameValues}
-use Rattle.dubp_undo.specs.Rows.{live}
+use Rattle.dubp_undo.specs.Slots.{live}
 use Rattle.dubp_undo.specs.Journal.{undo, redo_of, states, Follows, IsKept}
 use Rattle.dubp_undo.proofs.Alike.{alike_live, alike_undo, alike_states, alike_from_values}
 use Rattle.dubp_undo.proofs.Journals.{length-undo, undo-append, undo-set, sum_push, sum_cons, states-append, length-states, no_spare, last_changes-push, last_count-states, parted, last_few, last_state, push_journal}
-use Rattle.dubp_undo.proofs.Live.{sorted_live}
 use Rattle.dubp_undo.proofs.Placed.{places_back, places_hold, places_again, places_drop}
 
 -- making again what was undone
@@ -47,27 +46,27 @@ redo_more slots j i c lt is =
     ap (redo_of slots) whole
 
 -- the changes of seg, undone and noted after those of `to`
-pub turned : {K V : Type 0} (rows : List (K × ℕ)) (slots : List (Option V)) (seg to : List (ℕ × Option V)) (marks : List ℕ) (n : ℕ) → sum marks ≡ length to → states rows (undo slots seg) (to ++ redo_of slots seg) (marks ++ n ∷ []) ≡ states rows slots to marks ++ (live rows slots, n) ∷ []
-turned rows slots seg to marks n e = states-append rows (undo slots seg) to (redo_of slots seg) marks n e ∙ ap (λ x. states rows x to marks ++ (live rows x, n) ∷ []) (undo-redo_of slots seg)
+pub turned : {K V : Type 0} (keys : List (Option K)) (slots : List (Option V)) (seg to : List (ℕ × Option V)) (marks : List ℕ) (n : ℕ) → sum marks ≡ length to → states keys (undo slots seg) (to ++ redo_of slots seg) (marks ++ n ∷ []) ≡ states keys slots to marks ++ (live keys slots, n) ∷ []
+turned keys slots seg to marks n e = states-append keys (undo slots seg) to (redo_of slots seg) marks n e ∙ ap (λ x. states keys x to marks ++ (live keys x, n) ∷ []) (undo-redo_of slots seg)
 
-module _ {K V : Type 0} {cmp : K → K → Ordering} {rows : List (K × ℕ)} {keys : List (Option K)} {uses : List ℕ} {slots root : List (Option V)} {rooted : List (K × V)} {j redo : List (ℕ × Option V)} where
-  pub back_kept : (marks redo_marks : List ℕ) (n spare : ℕ) {uses' : List ℕ} (f : Follows uses uses' j (take (length j - n) j)) {jr mr rr rmr : ℕ} (k : IsKept cmp rows keys uses slots root rooted j redo (marks ++ n ∷ []) redo_marks spare jr mr rr rmr) → IsKept cmp rows keys uses' (undo slots (drop (length j - n) j)) root rooted (take (length j - n) j) redo marks redo_marks 0 jr mr rr rmr
+module _ {K V : Type 0} {cmp : K → K → Ordering} {slot_of : K → Option ℕ} {keys : List (Option K)} {uses : List ℕ} {slots root : List (Option V)} {rooted : List (K × V)} {j redo : List (ℕ × Option V)} where
+  pub back_kept : (marks redo_marks : List ℕ) (n spare : ℕ) {uses' : List ℕ} (f : Follows uses uses' j (take (length j - n) j)) {jr mr rr rmr : ℕ} (k : IsKept cmp slot_of keys uses slots root rooted j redo (marks ++ n ∷ []) redo_marks spare jr mr rr rmr) → IsKept cmp slot_of keys uses' (undo slots (drop (length j - n) j)) root rooted (take (length j - n) j) redo marks redo_marks 0 jr mr rr rmr
   back_kept marks redo_marks n spare f k =
       let l = last_few (length slots) j marks n k.back_ok in
       let same = length-undo slots (drop (length j - n) j) in
       let front = (parted j n l.few).front in
       record {
-        rows_ok = k.rows_ok;
+        finds = k.finds;
         places = places_back k.places (length j - n) f;
         back_ok = rw same l.rest;
         forward_ok = k.forward_ok;
         root_fits = rw same k.root_fits;
-        root_ok = k.root_ok;
+        rooted_is = k.rooted_is;
         room = no_spare _ _ _ _ _ _ _ _ (omega (arith, k.room.back, front)) (omega (arith, k.room.back_marks, length_push marks n)) (omega (arith, k.room.forward)) (omega (arith, k.room.forward_marks));
       }
 
-  pub hold_kept : (marks redo_marks : List ℕ) (n spare : ℕ) {jr mr rr rmr : ℕ} (k : IsKept cmp rows keys uses slots root rooted j redo (marks ++ n ∷ []) redo_marks (spare + 1) jr mr rr rmr) →
-      IsKept cmp rows keys uses (undo slots (drop (length j - n) j)) (undo slots (drop (length j - n) j)) (live rows (undo slots (drop (length j - n) j))) (take (length j - n) j) (redo ++ redo_of slots (drop (length j - n) j)) marks (redo_marks ++ n ∷ []) spare jr mr rr rmr
+  pub hold_kept : (marks redo_marks : List ℕ) (n spare : ℕ) {jr mr rr rmr : ℕ} (k : IsKept cmp slot_of keys uses slots root rooted j redo (marks ++ n ∷ []) redo_marks (spare + 1) jr mr rr rmr) →
+      IsKept cmp slot_of keys uses (undo slots (drop (length j - n) j)) (undo slots (drop (length j - n) j)) (live keys (undo slots (drop (length j - n) j))) (take (length j - n) j) (redo ++ redo_of slots (drop (length j - n) j)) marks (redo_marks ++ n ∷ []) spare jr mr rr rmr
   hold_kept marks redo_marks n spare k =
       let l = last_few (length slots) j marks n k.back_ok in
       let p = parted j n l.few in
@@ -78,12 +77,12 @@ module _ {K V : Type 0} {cmp : K → K → Ordering} {rows : List (K × ℕ)} {k
       let total = last_changes-push marks n spare fewer in
       let redo_within : All (λ c. c.0 < length slots) redo = λ i d lt. omega (arith, k.forward_ok.within i d lt, k.root_fits) in
       record {
-        rows_ok = k.rows_ok;
+        finds = k.finds;
         places = places_hold k.places (length j - n);
         back_ok = rw same l.rest;
         forward_ok = rw same (push_journal (length slots) redo (redo_of slots seg) redo_marks n (record { within = redo_within; divided = k.forward_ok.divided }) (All-redo_of (length slots) slots seg l.last) moved);
         root_fits = omega arith;
-        root_ok = record { ordered = sorted_live cmp rows (undo slots seg) k.rows_ok.ordered; is = λ some. refl };
+        rooted_is = λ some. refl;
         room = record {
           back = omega (arith, k.room.back, p.front, moved, length-append redo (redo_of slots seg), l.few);
           back_marks = omega (arith, k.room.back_marks, length_push marks n, length_push redo_marks n);
@@ -93,8 +92,8 @@ module _ {K V : Type 0} {cmp : K → K → Ordering} {rows : List (K × ℕ)} {k
         };
       }
 
-  pub again_kept : (marks redo_marks : List ℕ) (n spare : ℕ) {jr mr rr rmr : ℕ} (k : IsKept cmp rows keys uses slots root rooted j redo marks (redo_marks ++ n ∷ []) spare jr mr rr rmr) →
-      IsKept cmp rows keys uses (undo slots (drop (length redo - n) redo)) (undo slots (drop (length redo - n) redo)) (live rows (undo slots (drop (length redo - n) redo))) (j ++ redo_of slots (drop (length redo - n) redo)) (take (length redo - n) redo) (marks ++ n ∷ []) redo_marks 0 jr mr rr rmr
+  pub again_kept : (marks redo_marks : List ℕ) (n spare : ℕ) {jr mr rr rmr : ℕ} (k : IsKept cmp slot_of keys uses slots root rooted j redo marks (redo_marks ++ n ∷ []) spare jr mr rr rmr) →
+      IsKept cmp slot_of keys uses (undo slots (drop (length redo - n) redo)) (undo slots (drop (length redo - n) redo)) (live keys (undo slots (drop (length redo - n) redo))) (j ++ redo_of slots (drop (length redo - n) redo)) (take (length redo - n) redo) (marks ++ n ∷ []) redo_marks 0 jr mr rr rmr
   again_kept marks redo_marks n spare k =
       let l = last_few (length root) redo redo_marks n k.forward_ok in
       let p = parted redo n l.few in
@@ -104,59 +103,59 @@ module _ {K V : Type 0} {cmp : K → K → Ordering} {rows : List (K × ℕ)} {k
       let seg_within : All (λ c. c.0 < length slots) seg = λ i d lt. omega (arith, l.last i d lt, k.root_fits) in
       let rest_within : All (λ c. c.0 < length slots) (take (length redo - n) redo) = λ i d lt. omega (arith, l.rest.within i d lt, k.root_fits) in
       record {
-        rows_ok = k.rows_ok;
+        finds = k.finds;
         places = places_again k.places (length redo - n);
         back_ok = rw same (push_journal (length slots) j (redo_of slots seg) marks n k.back_ok (All-redo_of (length slots) slots seg seg_within) moved);
         forward_ok = rw same (record { within = rest_within; divided = l.rest.divided });
         root_fits = omega arith;
-        root_ok = record { ordered = sorted_live cmp rows (undo slots seg) k.rows_ok.ordered; is = λ some. refl };
+        rooted_is = λ some. refl;
         room = no_spare _ _ _ _ _ _ _ _ (omega (arith, k.room.back, p.front, moved, length-append j (redo_of slots seg), l.few)) (omega (arith, k.room.back_marks, length_push marks n, length_push redo_marks n)) (omega (arith, k.room.forward, p.front)) (omega (arith, k.room.forward_marks, length_push redo_marks n));
       }
 
   -- the maps ahead, from slots at which they begin
-  same_ahead : {marks redo_marks : List ℕ} {spare jr mr rr rmr : ℕ} → IsTotalOrder cmp → IsKept cmp rows keys uses slots root rooted j redo marks redo_marks spare jr mr rr rmr → (reverse (states rows root redo redo_marks) ≡ []) ⊎ SameValues cmp (live rows slots) rooted → states rows slots redo redo_marks ≡ states rows root redo redo_marks
+  same_ahead : {marks redo_marks : List ℕ} {spare jr mr rr rmr : ℕ} → IsTotalOrder cmp → IsKept cmp slot_of keys uses slots root rooted j redo marks redo_marks spare jr mr rr rmr → (reverse (states keys root redo redo_marks) ≡ []) ⊎ SameValues cmp (live keys slots) rooted → states keys slots redo redo_marks ≡ states keys root redo redo_marks
   same_ahead {redo_marks = []} o k begins = refl
   same_ahead {redo_marks = m ∷ ms} o k (inl none) =
-      let n = length-reverse (states rows root redo (m ∷ ms)) in
-      absurd (omega (arith, n, ap length none, length-states rows root redo (m ∷ ms)))
+      let n = length-reverse (states keys root redo (m ∷ ms)) in
+      absurd (omega (arith, n, ap length none, length-states keys root redo (m ∷ ms)))
   same_ahead {redo_marks = m ∷ ms} o k (inr same) =
-      alike_states rows slots root redo (m ∷ ms) k.forward_ok.within k.root_fits (alike_from_values o rows slots root k.rows_ok (subst (λ m. SameValues cmp (live rows slots) m) (k.root_ok.is (omega arith)) same))
+      alike_states keys slots root redo (m ∷ ms) k.forward_ok.within k.root_fits (alike_from_values k.finds slots root (subst (λ m. SameValues cmp (live keys slots) m) (k.rooted_is (omega arith)) same))
 
   -- what `back` does, where all marks are `marks` and then n
-  pub back_parts : (all marks redo_marks : List ℕ) (n spare : ℕ) {uses' : List ℕ} → Follows uses uses' j (take (length j - n) j) → {jr mr rr rmr : ℕ} → all ≡ marks ++ n ∷ [] → IsKept cmp rows keys uses slots root rooted j redo all redo_marks spare jr mr rr rmr → record {
-    kept : IsKept cmp rows keys uses' (undo slots (drop (length j - n) j)) root rooted (take (length j - n) j) redo marks redo_marks 0 jr mr rr rmr;
-    past : states rows slots j all ≡ states rows (undo slots (drop (length j - n) j)) (take (length j - n) j) marks ++ (live rows (undo slots (drop (length j - n) j)), n) ∷ [];
+  pub back_parts : (all marks redo_marks : List ℕ) (n spare : ℕ) {uses' : List ℕ} → Follows uses uses' j (take (length j - n) j) → {jr mr rr rmr : ℕ} → all ≡ marks ++ n ∷ [] → IsKept cmp slot_of keys uses slots root rooted j redo all redo_marks spare jr mr rr rmr → record {
+    kept : IsKept cmp slot_of keys uses' (undo slots (drop (length j - n) j)) root rooted (take (length j - n) j) redo marks redo_marks 0 jr mr rr rmr;
+    past : states keys slots j all ≡ states keys (undo slots (drop (length j - n) j)) (take (length j - n) j) marks ++ (live keys (undo slots (drop (length j - n) j)), n) ∷ [];
   }
   back_parts all marks redo_marks n spare f split k =
       let k = rw split at k in
-      record { kept = back_kept marks redo_marks n spare f k; past = rw split (last_state rows slots (length slots) j marks n k.back_ok) }
+      record { kept = back_kept marks redo_marks n spare f k; past = rw split (last_state keys slots (length slots) j marks n k.back_ok) }
 
   -- what `unmark` does
-  pub unmark_parts : (all marks redo_marks : List ℕ) (n spare : ℕ) {jr mr rr rmr : ℕ} → all ≡ marks ++ n ∷ [] → last_count (states rows slots j all) ≡ 0 → IsKept cmp rows keys uses slots root rooted j redo all redo_marks spare jr mr rr rmr → record {
-    kept : IsKept cmp rows keys uses slots root rooted j redo marks redo_marks 0 jr mr rr rmr;
-    past : states rows slots j all ≡ states rows slots j marks ++ (live rows slots, 0) ∷ [];
+  pub unmark_parts : (all marks redo_marks : List ℕ) (n spare : ℕ) {jr mr rr rmr : ℕ} → all ≡ marks ++ n ∷ [] → last_count (states keys slots j all) ≡ 0 → IsKept cmp slot_of keys uses slots root rooted j redo all redo_marks spare jr mr rr rmr → record {
+    kept : IsKept cmp slot_of keys uses slots root rooted j redo marks redo_marks 0 jr mr rr rmr;
+    past : states keys slots j all ≡ states keys slots j marks ++ (live keys slots, 0) ∷ [];
   }
   unmark_parts all marks redo_marks n spare split none k =
       let k = rw split at k in
-      let zero : n ≡ 0 = sym (last_count-states rows slots j marks n) ∙ ap (λ x. last_count (states rows slots j x)) (sym split) ∙ none in
+      let zero : n ≡ 0 = sym (last_count-states keys slots j marks n) ∙ ap (λ x. last_count (states keys slots j x)) (sym split) ∙ none in
       let divided : sum marks ≡ length j = omega (arith, k.back_ok.divided, sum_push marks n, zero) in
       record {
         kept = record {
-          rows_ok = k.rows_ok;
+          finds = k.finds;
           places = k.places;
           back_ok = record { within = k.back_ok.within; divided = divided };
           forward_ok = k.forward_ok;
           root_fits = k.root_fits;
-          root_ok = k.root_ok;
+          rooted_is = k.rooted_is;
           room = no_spare _ _ _ _ _ _ _ _ k.room.back (omega (arith, k.room.back_marks, length_push marks n)) (omega (arith, k.room.forward)) (omega (arith, k.room.forward_marks));
         };
-        past = rw (split, zero) (ap (λ j. states rows slots j (marks ++ 0 ∷ [])) (sym (append-nil j)) ∙ states-append rows slots j [] marks 0 divided);
+        past = rw (split, zero) (ap (λ j. states keys slots j (marks ++ 0 ∷ [])) (sym (append-nil j)) ∙ states-append keys slots j [] marks 0 divided);
       }
 
   -- what `drop_oldest` does, where all marks are n and then `marks`
-  pub oldest_parts : (all marks redo_marks : List ℕ) (n spare : ℕ) {uses' : List ℕ} → Follows uses uses' j (drop n j) → {jr mr rr rmr : ℕ} → all ≡ n ∷ marks → IsKept cmp rows keys uses slots root rooted j redo all redo_marks spare jr mr rr rmr → record {
-    kept : IsKept cmp rows keys uses' slots root rooted (drop n j) redo marks redo_marks 0 jr mr rr rmr;
-    past : states rows slots (drop n j) marks ≡ drop 1 (states rows slots j all);
+  pub oldest_parts : (all marks redo_marks : List ℕ) (n spare : ℕ) {uses' : List ℕ} → Follows uses uses' j (drop n j) → {jr mr rr rmr : ℕ} → all ≡ n ∷ marks → IsKept cmp slot_of keys uses slots root rooted j redo all redo_marks spare jr mr rr rmr → record {
+    kept : IsKept cmp slot_of keys uses' slots root rooted (drop n j) redo marks redo_marks 0 jr mr rr rmr;
+    past : states keys slots (drop n j) marks ≡ drop 1 (states keys slots j all);
   }
   oldest_parts all marks redo_marks n spare f split k =
       let k = rw split at k in
@@ -164,71 +163,71 @@ module _ {K V : Type 0} {cmp : K → K → Ordering} {rows : List (K × ℕ)} {k
       let few : n ≤ length j = omega (arith, k.back_ok.divided, total) in
       record {
         kept = record {
-          rows_ok = k.rows_ok;
+          finds = k.finds;
           places = places_drop k.places n f;
           back_ok = record { within = All-drop (λ c. c.0 < length slots) n j k.back_ok.within; divided = omega (arith, k.back_ok.divided, total, length-drop n j) };
           forward_ok = k.forward_ok;
           root_fits = k.root_fits;
-          root_ok = k.root_ok;
+          rooted_is = k.rooted_is;
           room = no_spare _ _ _ _ _ _ _ _ (omega (arith, k.room.back, length-drop n j)) (omega (arith, k.room.back_marks)) (omega (arith, k.room.forward)) (omega (arith, k.room.forward_marks));
         };
         past = rw split refl;
       }
 
   -- as many changes as the oldest mark has are there
-  pub oldest_few : (all marks redo_marks : List ℕ) (n spare : ℕ) {jr mr rr rmr : ℕ} → all ≡ n ∷ marks → IsKept cmp rows keys uses slots root rooted j redo all redo_marks spare jr mr rr rmr → n ≤ length j
+  pub oldest_few : (all marks redo_marks : List ℕ) (n spare : ℕ) {jr mr rr rmr : ℕ} → all ≡ n ∷ marks → IsKept cmp slot_of keys uses slots root rooted j redo all redo_marks spare jr mr rr rmr → n ≤ length j
   oldest_few all marks redo_marks n spare split k = let k = rw split at k in omega (arith, k.back_ok.divided, sum_cons n marks)
 
   -- what `hold` does
-  pub hold_parts : IsTotalOrder cmp → (all marks redo_marks : List ℕ) (n spare before : ℕ) {jr mr rr rmr : ℕ} → all ≡ marks ++ n ∷ [] → before ≡ spare + 1 → IsKept cmp rows keys uses slots root rooted j redo all redo_marks before jr mr rr rmr → (reverse (states rows root redo redo_marks) ≡ []) ⊎ SameValues cmp (live rows slots) rooted → record {
+  pub hold_parts : IsTotalOrder cmp → (all marks redo_marks : List ℕ) (n spare before : ℕ) {jr mr rr rmr : ℕ} → all ≡ marks ++ n ∷ [] → before ≡ spare + 1 → IsKept cmp slot_of keys uses slots root rooted j redo all redo_marks before jr mr rr rmr → (reverse (states keys root redo redo_marks) ≡ []) ⊎ SameValues cmp (live keys slots) rooted → record {
     few : n ≤ length j;
     room : length redo + n ≤ rr;
     marks_room : length redo_marks < rmr;
-    kept : IsKept cmp rows keys uses (undo slots (drop (length j - n) j)) (undo slots (drop (length j - n) j)) (live rows (undo slots (drop (length j - n) j))) (take (length j - n) j) (redo ++ redo_of slots (drop (length j - n) j)) marks (redo_marks ++ n ∷ []) spare jr mr rr rmr;
-    past : states rows slots j all ≡ states rows (undo slots (drop (length j - n) j)) (take (length j - n) j) marks ++ (live rows (undo slots (drop (length j - n) j)), n) ∷ [];
-    ahead : reverse (states rows (undo slots (drop (length j - n) j)) (redo ++ redo_of slots (drop (length j - n) j)) (redo_marks ++ n ∷ [])) ≡ (live rows slots, n) ∷ reverse (states rows root redo redo_marks);
+    kept : IsKept cmp slot_of keys uses (undo slots (drop (length j - n) j)) (undo slots (drop (length j - n) j)) (live keys (undo slots (drop (length j - n) j))) (take (length j - n) j) (redo ++ redo_of slots (drop (length j - n) j)) marks (redo_marks ++ n ∷ []) spare jr mr rr rmr;
+    past : states keys slots j all ≡ states keys (undo slots (drop (length j - n) j)) (take (length j - n) j) marks ++ (live keys (undo slots (drop (length j - n) j)), n) ∷ [];
+    ahead : reverse (states keys (undo slots (drop (length j - n) j)) (redo ++ redo_of slots (drop (length j - n) j)) (redo_marks ++ n ∷ [])) ≡ (live keys slots, n) ∷ reverse (states keys root redo redo_marks);
   }
   hold_parts o all marks redo_marks n spare before split less k begins =
       let k = rw (split, less) at k in
       let l = last_few (length slots) j marks n k.back_ok in
       let total = last_changes-push marks n spare (omega (arith, k.room.few, length_push marks n)) in
-      let turn = turned rows slots (drop (length j - n) j) redo redo_marks n k.forward_ok.divided in
+      let turn = turned keys slots (drop (length j - n) j) redo redo_marks n k.forward_ok.divided in
       let same = same_ahead o k begins in
       record {
         few = l.few;
         room = omega (arith, k.room.forward, total);
         marks_room = omega (arith, k.room.forward_marks);
         kept = hold_kept marks redo_marks n spare k;
-        past = rw split (last_state rows slots (length slots) j marks n k.back_ok);
-        ahead = ap reverse turn ∙ reverse-append (states rows slots redo redo_marks) ((live rows slots, n) ∷ []) ∙ ap (λ x. (live rows slots, n) ∷ reverse x) same;
+        past = rw split (last_state keys slots (length slots) j marks n k.back_ok);
+        ahead = ap reverse turn ∙ reverse-append (states keys slots redo redo_marks) ((live keys slots, n) ∷ []) ∙ ap (λ x. (live keys slots, n) ∷ reverse x) same;
       }
 
   -- what `again` does
-  pub again_parts : IsTotalOrder cmp → (all marks redo_marks : List ℕ) (n spare : ℕ) {jr mr rr rmr : ℕ} → all ≡ redo_marks ++ n ∷ [] → IsKept cmp rows keys uses slots root rooted j redo marks all spare jr mr rr rmr → SameValues cmp (live rows slots) rooted → record {
+  pub again_parts : IsTotalOrder cmp → (all marks redo_marks : List ℕ) (n spare : ℕ) {jr mr rr rmr : ℕ} → all ≡ redo_marks ++ n ∷ [] → IsKept cmp slot_of keys uses slots root rooted j redo marks all spare jr mr rr rmr → SameValues cmp (live keys slots) rooted → record {
     few : n ≤ length redo;
     within : All (λ c. c.0 < length slots) redo;
     room : length j + n ≤ jr;
     marks_room : length marks < mr;
-    kept : IsKept cmp rows keys uses (undo slots (drop (length redo - n) redo)) (undo slots (drop (length redo - n) redo)) (live rows (undo slots (drop (length redo - n) redo))) (j ++ redo_of slots (drop (length redo - n) redo)) (take (length redo - n) redo) (marks ++ n ∷ []) redo_marks 0 jr mr rr rmr;
-    past : states rows (undo slots (drop (length redo - n) redo)) (j ++ redo_of slots (drop (length redo - n) redo)) (marks ++ n ∷ []) ≡ states rows slots j marks ++ (live rows slots, n) ∷ [];
-    ahead : reverse (states rows root redo all) ≡ (live rows (undo slots (drop (length redo - n) redo)), n) ∷ reverse (states rows (undo slots (drop (length redo - n) redo)) (take (length redo - n) redo) redo_marks);
+    kept : IsKept cmp slot_of keys uses (undo slots (drop (length redo - n) redo)) (undo slots (drop (length redo - n) redo)) (live keys (undo slots (drop (length redo - n) redo))) (j ++ redo_of slots (drop (length redo - n) redo)) (take (length redo - n) redo) (marks ++ n ∷ []) redo_marks 0 jr mr rr rmr;
+    past : states keys (undo slots (drop (length redo - n) redo)) (j ++ redo_of slots (drop (length redo - n) redo)) (marks ++ n ∷ []) ≡ states keys slots j marks ++ (live keys slots, n) ∷ [];
+    ahead : reverse (states keys root redo all) ≡ (live keys (undo slots (drop (length redo - n) redo)), n) ∷ reverse (states keys (undo slots (drop (length redo - n) redo)) (take (length redo - n) redo) redo_marks);
   }
   again_parts o all marks redo_marks n spare split k begins =
       let k = rw split at k in
       let l = last_few (length root) redo redo_marks n k.forward_ok in
       let seg = drop (length redo - n) redo in
-      let alike = alike_from_values o rows slots root k.rows_ok (subst (λ m. SameValues cmp (live rows slots) m) (k.root_ok.is (omega (arith, length_push redo_marks n))) begins) in
-      let after = alike_undo rows slots root seg l.last k.root_fits alike in
-      let later = alike_states rows (undo slots seg) (undo root seg) (take (length redo - n) redo) redo_marks (λ i d lt. omega (arith, l.rest.within i d lt, length-undo root seg)) (omega (arith, k.root_fits, length-undo root seg, length-undo slots seg)) after in
-      let was = last_state rows root (length root) redo redo_marks n k.forward_ok in
+      let alike = alike_from_values k.finds slots root (subst (λ m. SameValues cmp (live keys slots) m) (k.rooted_is (omega (arith, length_push redo_marks n))) begins) in
+      let after = alike_undo keys slots root seg l.last k.root_fits alike in
+      let later = alike_states keys (undo slots seg) (undo root seg) (take (length redo - n) redo) redo_marks (λ i d lt. omega (arith, l.rest.within i d lt, length-undo root seg)) (omega (arith, k.root_fits, length-undo root seg, length-undo slots seg)) after in
+      let was = last_state keys root (length root) redo redo_marks n k.forward_ok in
       record {
         few = l.few;
         within = λ i d lt. omega (arith, k.forward_ok.within i d lt, k.root_fits);
         room = omega (arith, k.room.back, l.few);
         marks_room = omega (arith, k.room.back_marks, length_push redo_marks n);
         kept = again_kept marks redo_marks n spare k;
-        past = turned rows slots seg j marks n k.back_ok.divided;
-        ahead = rw (split, alike_live rows (undo slots seg) (undo root seg) after, later) (ap reverse was ∙ reverse-append (states rows (undo root seg) (take (length redo - n) redo) redo_marks) ((live rows (undo root seg), n) ∷ []));
+        past = turned keys slots seg j marks n k.back_ok.divided;
+        ahead = rw (split, alike_live keys (undo slots seg) (undo root seg) after, later) (ap reverse was ∙ reverse-append (states keys (undo root seg) (take (length redo - n) redo) redo_marks) ((live keys (undo root seg), n) ∷ []));
       }
 
 -- the last change that is left of j after i of them
@@ -253,3 +252,10 @@ last_left slots j left i c lt is last =
       undone = sym (ap (undo slots) whole);
       to = redo_more slots j i c lt here;
     }
+
+-- its slot is one of those that are left
+pub left_within : {V : Type 0} (slots : List (Option V)) (j left : List (ℕ × Option V)) (i : ℕ) (c : ℕ × Option V) → i < length j → left ≡ take (length j - i) j → c ≡ get_or left (length left - 1) c → All (λ c. c.0 < length slots) j → c.0 < length (undo slots (drop (length j - i) j))
+left_within slots j left i c lt is last all =
+    let parts = last_left slots j left i c lt is last in
+    let there = all (length j - (i + 1)) c (omega arith) in
+    omega (arith, there, ap (λ x. x.0) parts.at, length-undo slots (drop (length j - i) j))

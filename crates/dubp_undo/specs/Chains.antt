@@ -1,5 +1,5 @@
 -- States along a chain of blocks, newest first: whose states those of a table are.
-use Rattle.std.proofs.Common.{◌≡◌, ℕ, zero, suc, ◌+◌, ◌≤◌, List, [], ◌∷◌, length, drop, refl, arith}
+use Rattle.std.proofs.Common.{ℕ, zero, suc, ◌≤◌, List, [], ◌∷◌, length, drop, arith}
 use Rattle.std.specs.Prelude.{⊤}
 use Rattle.dubp_undo.specs.Others.{but_last}
 

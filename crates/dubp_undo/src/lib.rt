@@ -21,18 +21,33 @@
 
 mod along;
 mod both;
+mod by_hash;
+mod by_number;
+mod by_order;
+mod finder;
+mod found;
 mod hints;
 mod leaf;
+mod least;
+mod matches;
 mod moves;
 mod moving;
 mod places;
-mod rows;
+mod slots;
+mod summary;
 mod table;
 mod three;
 
 pub use along::{Along, StateOf};
 pub use both::Both;
+pub use by_hash::ByHash;
+pub use by_number::ByNumber;
+pub use by_order::ByOrder;
+pub use finder::{Finder, OrderedFinder};
+pub use found::Found;
 pub use leaf::Leaf;
+pub use least::{Least, Measure};
 pub use moving::{Definition, Shows, Tables};
+pub use summary::{NoSummary, Summary};
 pub use table::UndoTable;
 pub use three::Three;

@@ -1,10 +1,12 @@
 //! Moves of changes between the slots and the journals, over the fields of a table.
-ghost use Rattle.std.specs.Prelude.{◌≡◌, ◌+◌, ◌-◌, ◌^◌, ◌<◌, ◌≤◌, ◌++◌, ℕ, length, get_or, set, take, drop, OnOk, IsOk, vec_capacity};
+ghost use Rattle.std.specs.Prelude.{◌≡◌, ◌+◌, ◌-◌, ◌^◌, ◌<◌, ◌≤◌, ◌++◌, ℕ, length, get_or, set, take, drop, OnOk, IsOk};
 ghost use Rattle.std.specs.List.{All, sum};
 ghost use Rattle.std.specs.VecDeque.{deque_capacity};
 ghost use Rattle.dubp_undo.specs.Journal.{Follows, undo, redo_of, named, noted, bump, last_changes};
 
 use crate::hints::Hints;
+use crate::slots::Slots;
+use crate::summary::Summary;
 use dubp_atoms::{NoMemory, Steps};
 use std::collections::VecDeque;
 use std::sync::ledger::Ledger as StepBook;
@@ -17,7 +19,6 @@ pub(crate) fn release(uses: &mut Vec<usize>, hints: &mut Hints, slot: usize)
     requires within { slot < length uses.old.items }
     requires named { 0 < get_or uses.old.items slot 0 }
     ensures uses { uses.new.items ≡ set uses.old.items slot (get_or uses.old.items slot 0 - 1) }
-    ensures capacity { vec_capacity uses.new ≡ vec_capacity uses.old }
 {
     uses[slot] -= 1;
     if uses[slot] == 0 {
@@ -26,8 +27,8 @@ pub(crate) fn release(uses: &mut Vec<usize>, hints: &mut Hints, slot: usize)
 }
 
 /// Undoes the last n changes, one step each.
-pub(crate) fn undo_last<V: Copy, L: StepBook>(
-    slots: &mut Vec<Option<V>>,
+pub(crate) fn undo_last<V: Copy, S: Summary<V>, L: StepBook>(
+    slots: &mut Slots<V, S>,
     journal: &mut VecDeque<Change<V>>,
     uses: &mut Vec<usize>,
     hints: &mut Hints,
@@ -35,20 +36,18 @@ pub(crate) fn undo_last<V: Copy, L: StepBook>(
     steps: &mut Steps<L>,
 )
     requires few { n ≤ length journal.old.items }
-    requires within { All (λ c. c.0 < length slots.old.items) journal.old.items }
-    requires uses_each { length uses.old.items ≡ length slots.old.items }
+    requires within { All (λ c. c.0 < length slots.old) journal.old.items }
+    requires uses_each { length uses.old.items ≡ length slots.old }
     requires counted { (i : ℕ) → named i journal.old.items ≤ get_or uses.old.items i 0 }
     ensures journal { journal.new.items ≡ take (length journal.old.items - n) journal.old.items }
-    ensures slots { slots.new.items ≡ undo slots.old.items (drop (length journal.old.items - n) journal.old.items) }
+    ensures slots { slots.new ≡ undo slots.old (drop (length journal.old.items - n) journal.old.items) }
     ensures uses { Follows uses.old.items uses.new.items journal.old.items journal.new.items }
-    ensures slots_capacity { vec_capacity slots.new ≡ vec_capacity slots.old }
-    ensures uses_capacity { vec_capacity uses.new ≡ vec_capacity uses.old }
     ensures capacity { deque_capacity journal.new ≡ deque_capacity journal.old }
     ensures steps { steps.new ≡ steps.old + n }
 {
     for _done in 0..n {
         let (slot, value) = journal.pop_back().unwrap();
-        slots[slot] = value;
+        slots.set(slot, value);
         release(uses, hints, slot);
         steps.tick();
     }
@@ -66,7 +65,6 @@ pub(crate) fn drop_first<V: Copy>(
     requires counted { (i : ℕ) → named i journal.old.items ≤ get_or uses.old.items i 0 }
     ensures items { journal.new.items ≡ drop n journal.old.items }
     ensures uses { Follows uses.old.items uses.new.items journal.old.items journal.new.items }
-    ensures uses_capacity { vec_capacity uses.new ≡ vec_capacity uses.old }
     ensures capacity { deque_capacity journal.new ≡ deque_capacity journal.old }
 {
     for _done in 0..n {
@@ -76,28 +74,27 @@ pub(crate) fn drop_first<V: Copy>(
 }
 
 /// Undoes the last n changes of `from`, and notes at the end of `to` how to make them again. One step each.
-pub(crate) fn move_last<V: Copy, L: StepBook>(
-    slots: &mut Vec<Option<V>>,
+pub(crate) fn move_last<V: Copy, S: Summary<V>, L: StepBook>(
+    slots: &mut Slots<V, S>,
     from: &mut VecDeque<Change<V>>,
     to: &mut VecDeque<Change<V>>,
     n: usize,
     steps: &mut Steps<L>,
 )
     requires few { n ≤ length from.old.items }
-    requires within { All (λ c. c.0 < length slots.old.items) from.old.items }
+    requires within { All (λ c. c.0 < length slots.old) from.old.items }
     requires room { length to.old.items + n ≤ deque_capacity to.old }
     ensures from { from.new.items ≡ take (length from.old.items - n) from.old.items }
-    ensures to { to.new.items ≡ to.old.items ++ redo_of slots.old.items (drop (length from.old.items - n) from.old.items) }
-    ensures slots { slots.new.items ≡ undo slots.old.items (drop (length from.old.items - n) from.old.items) }
-    ensures slots_capacity { vec_capacity slots.new ≡ vec_capacity slots.old }
+    ensures to { to.new.items ≡ to.old.items ++ redo_of slots.old (drop (length from.old.items - n) from.old.items) }
+    ensures slots { slots.new ≡ undo slots.old (drop (length from.old.items - n) from.old.items) }
     ensures from_capacity { deque_capacity from.new ≡ deque_capacity from.old }
     ensures to_capacity { deque_capacity to.new ≡ deque_capacity to.old }
     ensures steps { steps.new ≡ steps.old + n }
 {
     for _done in 0..n {
         let (slot, value) = from.pop_back().unwrap();
-        to.push_back_reserved((slot, slots[slot]));
-        slots[slot] = value;
+        to.push_back_reserved((slot, slots.get(slot)));
+        slots.set(slot, value);
         steps.tick();
     }
 }
@@ -116,7 +113,6 @@ pub(crate) fn note<V: Copy>(
     ensures journal { journal.new.items ≡ noted marks.old.items journal.old.items change }
     ensures marks { marks.new.items ≡ bump marks.old.items }
     ensures uses { Follows uses.old.items uses.new.items journal.old.items journal.new.items }
-    ensures uses_capacity { vec_capacity uses.new ≡ vec_capacity uses.old }
     ensures capacity { deque_capacity journal.new ≡ deque_capacity journal.old }
     ensures marks_capacity { deque_capacity marks.new ≡ deque_capacity marks.old }
 {

@@ -1,13 +1,15 @@
-ghost use Rattle.std.specs.Prelude.{◌≡◌, ◌⊎◌, ◌+◌, ◌-◌, ◌<◌, ◌≤◌, [], ◌∷◌, ◌++◌, length, drop, OnOk, OnErr, IsOk, IfSome, IfNone};
-ghost use Rattle.std.specs.BTreeMap.Range.{IsLeBy};
-ghost use Rattle.std.specs.List.Sorted.{IsStrictlySortedBy};
-ghost use Rattle.std.specs.Map.{keys_of};
-ghost use Rattle.dubp_undo.specs.MovingTable.{MovingTable, empty, IsUnchanged, get, Puts, SameValues, one_more, last_count, first_count, IsLeast, HasNone, IsAllPlaced, IsPlaced, Places, PlacesFewer, IsAfter};
+ghost use Rattle.std.specs.Prelude.{◌≡◌, ◌⊎◌, ◌+◌, ◌-◌, ◌<◌, ◌≤◌, [], ◌∷◌, ◌++◌, length, drop, None, ⊤, OnOk, OnErr, IsOk, IfSome, IfNone};
+ghost use Rattle.std.specs.BTreeMap.Range.{IsFromStart, IsLeBy};
+ghost use Rattle.dubp_undo.specs.MovingTable.{MovingTable, empty, IsUnchanged, get, Puts, SameValues, one_more, last_count, first_count, IsLeast, IsLowest, HasNone, IsAllPlaced, IsPlaced, Places, PlacesFewer, IsAfter};
 
+use crate::by_order::ByOrder;
+use crate::finder::{Finder, OrderedFinder};
 use crate::hints::Hints;
+use crate::least::{Least, Measure};
 use crate::moves::{Change, changes_since, drop_first, make_room, move_last, note, undo_last};
 use crate::places::{give_up_idle, place};
-use crate::rows::Rows;
+use crate::slots::Slots;
+use crate::summary::{NoSummary, Summary};
 use dubp_atoms::{NoMemory, Noted, Steps};
 use std::alloc::Global;
 use std::collections::VecDeque;
@@ -22,12 +24,12 @@ use std::sync::ledger::Ledger as StepBook;
 /// take any, and answer `NoMemory` where there is none. `mark` copies nothing. Every call but `reserve` and `hold` may lower
 /// `spare`; only `set` lowers `room`, by 1 at most.
 #[derive(Drop)]
-pub struct UndoTable<K: Ord, V> {
-    rows: Rows<K>,
+pub struct UndoTable<K, V, F: Finder<K> = ByOrder<K>, S: Summary<V> = NoSummary> {
+    finder: F,
     // the key of each slot, or `None` where it may be used again; how many changes name it; and what stands there now
     keys: Vec<Option<K>>,
     uses: Vec<usize>,
-    slots: Vec<Option<V>>,
+    slots: Slots<V, S>,
     hints: Hints,
     // the changes since the first mark, and how many come after each mark
     journal: VecDeque<Change<V>>,
@@ -39,49 +41,111 @@ pub struct UndoTable<K: Ord, V> {
     // how many changes led to the first mark from the one before it, which is forgotten
     first: usize,
     // the slots from which the changes of the way forward are undone
-    root: Noted<Vec<Option<V>>>,
-    // the rows and slots of the last `hold` or `again`, where the way forward begins
-    rooted_rows: Noted<Rows<K>>,
-    rooted: Noted<Vec<Option<V>>>,
+    root: Noted<Slots<V, S>>,
+    // the keys and slots of the last `hold` or `again`, where the way forward begins
+    rooted_keys: Noted<Vec<Option<K>>>,
+    rooted: Noted<Slots<V, S>>,
 }
 
-impl<K: Ord, V> Model for UndoTable<K, V> {
+impl<K, V, F: Finder<K>, S: Summary<V>> Model for UndoTable<K, V, F, S> {
     ghost use Rattle.std.specs.Prelude.{◌+◌, ◌-◌, length, reverse};
-    ghost use Rattle.std.specs.Map.{keys_of};
     ghost use Rattle.std.specs.VecDeque.{deque_capacity};
     ghost use Rattle.dubp_undo.specs.MovingTable.{MovingTable};
-    ghost use Rattle.dubp_undo.specs.Rows.{live};
+    ghost use Rattle.dubp_undo.specs.Slots.{live, keys_in};
     ghost use Rattle.dubp_undo.specs.Journal.{states, IsKept};
 
     ghost Value = { MovingTable K V };
 
     ghost view = { λ t. record {
-      past = states t.rows t.slots.items t.journal.items t.marks.items;
+      past = states t.keys.items t.slots t.journal.items t.marks.items;
       first = t.first;
-      now = live t.rows t.slots.items;
-      ahead = reverse (states t.rows t.root.value.items t.redo.items t.redo_marks.items);
-      root = live t.rooted_rows.value t.rooted.value.items;
+      now = live t.keys.items t.slots;
+      ahead = reverse (states t.keys.items t.root.value t.redo.items t.redo_marks.items);
+      root = live t.rooted_keys.value.items t.rooted.value;
       spare = t.spare;
       room = deque_capacity t.journal - (length t.journal.items + length t.redo.items);
-      placed = keys_of t.rows;
+      placed = keys_in t.keys.items;
     } };
 
-    ghost invariant = { λ t. IsKept K.cmp t.rows t.keys.items t.uses.items t.slots.items t.root.value.items (live t.rooted_rows.value t.rooted.value.items) t.journal.items t.redo.items t.marks.items t.redo_marks.items t.spare (deque_capacity t.journal) (deque_capacity t.marks) (deque_capacity t.redo) (deque_capacity t.redo_marks) };
+    ghost invariant = { λ t. IsKept F.cmp (F.slot_of t.finder) t.keys.items t.uses.items t.slots t.root.value (live t.rooted_keys.value.items t.rooted.value) t.journal.items t.redo.items t.marks.items t.redo_marks.items t.spare (deque_capacity t.journal) (deque_capacity t.marks) (deque_capacity t.redo) (deque_capacity t.redo_marks) };
 }
 
 impl<K: Ord + Copy, V: Copy + Eq> UndoTable<K, V> {
-    /// The empty table, which keeps no earlier state. It takes no memory.
+    /// The empty table whose slots are found by the order of their keys. It keeps no earlier state, and takes no memory.
     pub fn new(alloc: Global) -> UndoTable<K, V>
         ensures { result ≡ empty }
     {
-        let rows = Rows::new(alloc);
-        let slots = Vec::new(alloc);
+        UndoTable::over(ByOrder::new(alloc), NoSummary, alloc)
+    }
+}
+
+impl<K: Copy, V: Copy + Eq, F: OrderedFinder<K>, S: Summary<V>> UndoTable<K, V, F, S> {
+    /// The least key of `now` that is at least k, with its value, or `None` where there is none.
+    /// It steps over placed keys without a value.
+    pub fn next_from(&self, k: K) -> Option<(K, V)>
+        ensures found { IfSome result (IsLeast F.cmp self.now.now (IsLeBy F.cmp k)) }
+        ensures none { IfNone result (HasNone F.cmp self.now.now (IsLeBy F.cmp k)) }
+    {
+        self.first_from(Bound::Included(k))
+    }
+
+    /// The least key of `now` above k, or the least of all where k is `None`, with its value. `None` where there is none.
+    /// It steps over placed keys without a value.
+    pub fn next_after(&self, k: Option<K>) -> Option<(K, V)>
+        ensures found { IfSome result (IsLeast F.cmp self.now.now (IsAfter F.cmp k)) }
+        ensures none { IfNone result (HasNone F.cmp self.now.now (IsAfter F.cmp k)) }
+    {
+        match k {
+            Some(k) => self.first_from(Bound::Excluded(k)),
+            None => self.first_from(Bound::Unbounded),
+        }
+    }
+
+    // The least key from a bound on whose slot has a value, with that value.
+    fn first_from(&self, first: Bound<K>) -> Option<(K, V)>
+        ensures found { IfSome result (IsLeast F.cmp self.now.now (IsFromStart F.cmp first)) }
+        ensures none { IfNone result (HasNone F.cmp self.now.now (IsFromStart F.cmp first)) }
+    {
+        let _finder = &self.finder;
+        let mut from = first;
+        loop {
+            let (k, slot) = self.finder.next(from)?;
+            if let Some(v) = self.slots.get(slot) {
+                return Some((k, v));
+            }
+            from = Bound::Excluded(k);
+        }
+    }
+}
+
+impl<K: Copy, V: Copy + Eq, F: Finder<K>, M: Measure<V>> UndoTable<K, V, F, Least<M>> {
+    /// An entry of `now` whose value has the least measure, in one look. `None` where `now` has no entry.
+    pub fn lowest(&self) -> Option<(K, V)>
+        ensures found { IfSome result (IsLowest F.cmp M.measure self.now.now) }
+        ensures none { IfNone result (HasNone F.cmp self.now.now (λ q. ⊤)) }
+    {
+        let slot = self.slots.summary().least(self.slots.values())?;
+        let k = self.keys[slot]?;
+        let v = self.slots.get(slot)?;
+        Some((k, v))
+    }
+}
+
+impl<K: Copy, V: Copy + Eq, F: Finder<K>, S: Summary<V>> UndoTable<K, V, F, S> {
+    /// The empty table over a finder that finds no key, and the summary of no slot. It keeps no earlier state, and takes no memory.
+    pub fn over(finder: F, summary: S, alloc: Global) -> UndoTable<K, V, F, S>
+        requires finds { (k : K) → F.slot_of finder k ≡ None }
+        requires sums { S.sums summary [] }
+        ensures { result ≡ empty }
+    {
+        let keys = Vec::new(alloc);
+        let slots = Slots::new(summary, alloc);
         let root = Noted::of(&slots);
-        let rooted_rows = Noted::of(&rows);
+        let rooted_keys = Noted::of(&keys);
         let rooted = Noted::of(&slots);
         UndoTable {
-            rows,
-            keys: Vec::new(alloc),
+            finder,
+            keys,
             uses: Vec::new(alloc),
             slots,
             hints: Hints::new(alloc),
@@ -93,38 +157,17 @@ impl<K: Ord + Copy, V: Copy + Eq> UndoTable<K, V> {
             spare: 0,
             first: 0,
             root,
-            rooted_rows,
+            rooted_keys,
             rooted,
         }
     }
 
     /// The value that `now` has at the key, or `None` where it has none.
     pub fn get(&self, k: K) -> Option<V>
-        ensures { result ≡ get K.cmp self.now.now k }
+        ensures { result ≡ get F.cmp self.now.now k }
     {
-        let slot = self.rows.slot(k)?;
-        self.slots[slot]
-    }
-
-    /// The least key of `now` that is at least k, with its value, or `None` where there is none.
-    /// It steps over placed keys without a value.
-    pub fn next_from(&self, k: K) -> Option<(K, V)>
-        ensures found { IfSome result (IsLeast K.cmp self.now.now (IsLeBy K.cmp k)) }
-        ensures none { IfNone result (HasNone K.cmp self.now.now (IsLeBy K.cmp k)) }
-    {
-        self.rows.first_held(Bound::Included(k), &self.slots)
-    }
-
-    /// The least key of `now` above k, or the least of all where k is `None`, with its value. `None` where there is none.
-    /// It steps over placed keys without a value.
-    pub fn next_after(&self, k: Option<K>) -> Option<(K, V)>
-        ensures found { IfSome result (IsLeast K.cmp self.now.now (IsAfter K.cmp k)) }
-        ensures none { IfNone result (HasNone K.cmp self.now.now (IsAfter K.cmp k)) }
-    {
-        match k {
-            Some(k) => self.rows.first_held(Bound::Excluded(k), &self.slots),
-            None => self.rows.first_held(Bound::Unbounded, &self.slots),
-        }
+        let slot = self.finder.slot(k)?;
+        self.slots.get(slot)
     }
 
     /// How many earlier maps are kept.
@@ -132,9 +175,7 @@ impl<K: Ord + Copy, V: Copy + Eq> UndoTable<K, V> {
     /// Each key of a map of `past`, `now`, `ahead` or, where something is ahead, `root` is placed.
     pub fn depth(&self) -> usize
         ensures depth { result ≡ length self.now.past }
-        ensures sorted { IsStrictlySortedBy K.cmp (keys_of self.now.now) }
-        ensures placed { IsAllPlaced K.cmp self.now }
-        ensures sorted_root { IsStrictlySortedBy K.cmp (keys_of self.now.root) }
+        ensures placed { IsAllPlaced F.cmp self.now }
     {
         self.marks.len()
     }
@@ -148,10 +189,10 @@ impl<K: Ord + Copy, V: Copy + Eq> UndoTable<K, V> {
         v: Option<V>,
         steps: &mut Steps<L>,
     ) -> Result<(), NoMemory>
-        ensures now { OnOk result (Puts K.cmp self.old.now self.new.now k v) }
+        ensures now { OnOk result (Puts F.cmp self.old.now self.new.now k v) }
         ensures first { self.new.first ≡ self.old.first }
         ensures past { OnOk result (self.new.past ≡ one_more self.old.past) }
-        ensures placed { OnOk result (Places K.cmp self.old.placed self.new.placed k) }
+        ensures placed { OnOk result (Places F.cmp self.old.placed self.new.placed k) }
         ensures step { OnOk result (steps.new ≡ steps.old + 1) }
         ensures ahead { self.new.ahead ≡ self.old.ahead }
         ensures root { self.new.root ≡ self.old.root }
@@ -159,11 +200,11 @@ impl<K: Ord + Copy, V: Copy + Eq> UndoTable<K, V> {
 
         ensures refused { OnErr result (IsUnchanged self.old self.new) }
         ensures no_step { OnErr result (steps.new ≡ steps.old) }
-        ensures succeeds { IsPlaced K.cmp k self.old.placed → 1 ≤ self.old.room → IsOk result }
+        ensures succeeds { IsPlaced F.cmp k self.old.placed → 1 ≤ self.old.room → IsOk result }
     {
         make_room(&mut self.journal, self.redo.len(), 1)?;
         let slot = place(
-            &mut self.rows,
+            &mut self.finder,
             &mut self.keys,
             &mut self.uses,
             &mut self.slots,
@@ -174,9 +215,9 @@ impl<K: Ord + Copy, V: Copy + Eq> UndoTable<K, V> {
             &mut self.journal,
             &mut self.marks,
             &mut self.uses,
-            (slot, self.slots[slot]),
+            (slot, self.slots.get(slot)),
         );
-        self.slots[slot] = v;
+        self.slots.set(slot, v);
         self.hints.note_idle(slot);
         self.spare = 0;
         steps.tick();
@@ -188,7 +229,7 @@ impl<K: Ord + Copy, V: Copy + Eq> UndoTable<K, V> {
     /// `NoMemory` comes only where the key is not placed or `room` is below n; nothing has changed then, `spare` and `room`
     /// aside.
     pub fn ready(&mut self, k: K, n: usize) -> Result<(), NoMemory>
-        ensures placed { OnOk result (Places K.cmp self.old.placed self.new.placed k) }
+        ensures placed { OnOk result (Places F.cmp self.old.placed self.new.placed k) }
         ensures room { OnOk result (n ≤ self.new.room) }
         ensures room_stays { self.old.room ≤ self.new.room }
         ensures past { self.new.past ≡ self.old.past }
@@ -198,11 +239,11 @@ impl<K: Ord + Copy, V: Copy + Eq> UndoTable<K, V> {
         ensures root { self.new.root ≡ self.old.root }
 
         ensures refused { OnErr result (IsUnchanged self.old self.new) }
-        ensures succeeds { IsPlaced K.cmp k self.old.placed → n ≤ self.old.room → IsOk result }
+        ensures succeeds { IsPlaced F.cmp k self.old.placed → n ≤ self.old.room → IsOk result }
     {
         make_room(&mut self.journal, self.redo.len(), n)?;
         let _slot = place(
-            &mut self.rows,
+            &mut self.finder,
             &mut self.keys,
             &mut self.uses,
             &mut self.slots,
@@ -282,7 +323,7 @@ impl<K: Ord + Copy, V: Copy + Eq> UndoTable<K, V> {
     pub fn hold<L: StepBook>(&mut self, steps: &mut Steps<L>)
         requires past { 0 < length self.old.past }
         requires spare { 1 ≤ self.old.spare }
-        requires begins { (self.old.ahead ≡ []) ⊎ SameValues K.cmp self.old.now self.old.root }
+        requires begins { (self.old.ahead ≡ []) ⊎ SameValues F.cmp self.old.now self.old.root }
         ensures past { self.old.past ≡ self.new.past ++ (self.new.now, steps.new - steps.old) ∷ [] }
         ensures first { self.new.first ≡ self.old.first }
         ensures ahead { self.new.ahead ≡ (self.old.now, steps.new - steps.old) ∷ self.old.ahead }
@@ -296,7 +337,7 @@ impl<K: Ord + Copy, V: Copy + Eq> UndoTable<K, V> {
         move_last(&mut self.slots, &mut self.journal, &mut self.redo, n, steps);
         self.redo_marks.push_back_reserved(n);
         self.root = Noted::of(&self.slots);
-        self.rooted_rows = Noted::of(&self.rows);
+        self.rooted_keys = Noted::of(&self.keys);
         self.rooted = Noted::of(&self.slots);
         self.spare -= 1;
     }
@@ -329,7 +370,7 @@ impl<K: Ord + Copy, V: Copy + Eq> UndoTable<K, V> {
     /// memory. One step for each key that was set between the two.
     pub fn again<L: StepBook>(&mut self, steps: &mut Steps<L>)
         requires ahead { 0 < length self.old.ahead }
-        requires begins { SameValues K.cmp self.old.now self.old.root }
+        requires begins { SameValues F.cmp self.old.now self.old.root }
         ensures past { self.new.past ≡ self.old.past ++ (self.old.now, steps.new - steps.old) ∷ [] }
         ensures first { self.new.first ≡ self.old.first }
         ensures ahead { self.old.ahead ≡ (self.new.now, steps.new - steps.old) ∷ self.new.ahead }
@@ -342,7 +383,7 @@ impl<K: Ord + Copy, V: Copy + Eq> UndoTable<K, V> {
         move_last(&mut self.slots, &mut self.redo, &mut self.journal, n, steps);
         self.marks.push_back_reserved(n);
         self.root = Noted::of(&self.slots);
-        self.rooted_rows = Noted::of(&self.rows);
+        self.rooted_keys = Noted::of(&self.keys);
         self.rooted = Noted::of(&self.slots);
         self.spare = 0;
     }
@@ -358,8 +399,8 @@ impl<K: Ord + Copy, V: Copy + Eq> UndoTable<K, V> {
         ensures first { self.new.first ≡ first_count self.old.past }
         ensures ahead { self.new.ahead ≡ self.old.ahead }
         ensures root { self.new.root ≡ self.old.root }
-        ensures placed { PlacesFewer K.cmp self.old.placed self.new.placed }
-        ensures held { IsAllPlaced K.cmp self.new }
+        ensures placed { PlacesFewer F.cmp self.old.placed self.new.placed }
+        ensures held { IsAllPlaced F.cmp self.new }
         ensures room_stays { self.old.room ≤ self.new.room }
     {
         let n = self.marks.pop_front().unwrap();
@@ -379,8 +420,8 @@ impl<K: Ord + Copy, V: Copy + Eq> UndoTable<K, V> {
         ensures now { self.new.now ≡ self.old.now }
         ensures first { self.new.first ≡ self.old.first }
         ensures root { self.new.root ≡ self.old.root }
-        ensures placed { PlacesFewer K.cmp self.old.placed self.new.placed }
-        ensures held { IsAllPlaced K.cmp self.new }
+        ensures placed { PlacesFewer F.cmp self.old.placed self.new.placed }
+        ensures held { IsAllPlaced F.cmp self.new }
         ensures room_stays { self.old.room ≤ self.new.room }
     {
         let changes = self.redo.len();
@@ -397,13 +438,13 @@ impl<K: Ord + Copy, V: Copy + Eq> UndoTable<K, V> {
         ensures first { self.new.first ≡ self.old.first }
         ensures ahead { self.new.ahead ≡ self.old.ahead }
         ensures root { self.new.root ≡ self.old.root }
-        ensures placed { PlacesFewer K.cmp self.old.placed self.new.placed }
-        ensures held { IsAllPlaced K.cmp self.new }
+        ensures placed { PlacesFewer F.cmp self.old.placed self.new.placed }
+        ensures held { IsAllPlaced F.cmp self.new }
         ensures room { self.new.room ≡ self.old.room }
     {
         if self.redo_marks.is_empty() {
             give_up_idle(
-                &mut self.rows,
+                &mut self.finder,
                 &mut self.keys,
                 &self.uses,
                 &self.slots,

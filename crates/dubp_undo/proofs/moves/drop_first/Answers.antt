@@ -31,6 +31,5 @@ loop-done-preserved g c =
     record {
       items = c.pop_front.ensures.rest ∙ ap (drop 1) k.items ∙ drop-drop 1 c.loop-done._done c.args.journal.now.items;
       uses = rw c.release.ensures.uses gone;
-      uses_capacity = c.release.ensures.capacity ∙ k.uses_capacity;
       capacity = c.pop_front.ensures.capacity ∙ k.capacity;
     }
