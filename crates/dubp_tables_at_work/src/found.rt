@@ -13,8 +13,8 @@ struct AsItIs;
 impl Measure<u64> for AsItIs {
     ghost measure = { λ v. v };
 
-    fn measure(value: &u64) -> u128 {
-        u128::from(*value)
+    fn is_below(value: &u64, other: &u64) -> bool {
+        value < other
     }
 }
 

@@ -1,21 +1,21 @@
-ghost use Rattle.std.specs.Prelude.{◌≡◌, ◌≤◌, ℕ, [], length, IfSome, IfNone};
+ghost use Rattle.std.specs.Prelude.{◌≡◌, ◌≤◌, nat_lt, ℕ, [], length, IfSome, IfNone};
 ghost use Rattle.dubp_undo.specs.Least.{IsLeast, HasNone};
 ghost use Rattle.dubp_undo.specs.Matches.{IsPlayedOver};
 ghost use Rattle.dubp_undo.specs.Growing.{one_slot_more};
 
-use crate::matches::{measure_at, play_above, play_all, winner_at};
+use crate::matches::{play_above, play_all, value_at, winner_at};
 use crate::summary::Summary;
 use dubp_atoms::NoMemory;
 use std::alloc::Global;
 use std::marker::PhantomData;
 
-/// By what values are compared: a marker type gives each value its measure.
+/// By what values are compared: a marker type gives each value its measure. No measure is made to be compared, so it may be of any size.
 pub trait Measure<V> {
     ghost measure: { V → ℕ };
 
-    /// The measure of a value.
-    fn measure(value: &V) -> u128
-        ensures { result ≡ measure value.now };
+    /// Whether the measure of a value is below that of another.
+    fn is_below(value: &V, other: &V) -> bool
+        ensures { result ≡ nat_lt (measure value.now) (measure other.now) };
 }
 
 /// Which slot has the value with the least measure, as a tournament between the slots: each change plays a logarithm of matches, and
@@ -52,7 +52,7 @@ impl<M> Least<M> {
             return None;
         }
         let slot = winner_at(&self.winners, 1);
-        match measure_at::<V, M>(values, slot) {
+        match value_at(values, slot) {
             Some(_) => Some(slot),
             None => None,
         }

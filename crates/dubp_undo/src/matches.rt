@@ -1,18 +1,16 @@
-ghost use Rattle.std.specs.Prelude.{◌≡◌, ◌+◌, ◌<◌, length};
+ghost use Rattle.std.specs.Prelude.{◌≡◌, ◌+◌, ◌<◌, None, get_or, length};
 ghost use Rattle.dubp_undo.specs.Matches.{measure_at, play, winner_at, AreBelow, ArePlayedBut, IsTournament};
 
 use crate::least::Measure;
 
-/// The measure of what a place holds. A place behind the last slot holds nothing.
-pub(crate) fn measure_at<V: Copy, M: Measure<V>>(values: &[Option<V>], place: usize) -> Option<u128>
-    ensures { result ≡ measure_at M.measure values.now place }
+/// What a place holds. A place behind the last slot holds nothing.
+pub(crate) fn value_at<V: Copy>(values: &[Option<V>], place: usize) -> Option<V>
+    ensures { result ≡ get_or values.now place None }
 {
-    if values.len() <= place {
-        return None;
-    }
-    match &values[place] {
-        Some(value) => Some(M::measure(value)),
-        None => None,
+    if place < values.len() {
+        values[place]
+    } else {
+        None
     }
 }
 
@@ -31,13 +29,13 @@ pub(crate) fn winner_at(winners: &[usize], node: usize) -> usize
 fn play_two<V: Copy, M: Measure<V>>(values: &[Option<V>], i: usize, j: usize) -> usize
     ensures { result ≡ play (measure_at M.measure values.now) i j }
 {
-    match (measure_at::<V, M>(values, i), measure_at::<V, M>(values, j)) {
+    match (value_at(values, i), value_at(values, j)) {
         (None, _) => j,
         (Some(_), None) => i,
         (Some(v), Some(w)) => {
-            if v < w {
+            if M::is_below(&v, &w) {
                 i
-            } else if w < v {
+            } else if M::is_below(&w, &v) {
                 j
             } else {
                 i.min(j)
