@@ -7,7 +7,7 @@ ghost use Rattle.dubp_lines.specs.Taking.{Gives, line_at, just, named, first_at,
 
 use crate::reading::ReadText;
 use crate::refusal::Refused;
-use memchr::memchr;
+use memchr::{memchr, memchr_iter};
 use std::marker::Model;
 
 /// The lines of a text that are not taken yet, and what stands behind the last LF.
@@ -41,7 +41,7 @@ fn count_ends(text: &[u8]) -> usize
     ensures value { result ≡ count_by (λ c. c == LF) text.now }
     ensures bound { result ≤ length text.now }
 {
-    text.iter().filter(|c| **c == b'\n').count()
+    memchr_iter(b'\n', text).count()
 }
 
 /// The next line, and the text behind it. None exactly where no LF stands in the text.
