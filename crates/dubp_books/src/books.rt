@@ -1,7 +1,7 @@
 ghost use Rattle.std.specs.Prelude.{◌≡◌, List, []};
 ghost use Rattle.dubp_chain.specs.Chains.{Chain};
 
-use dubp_atoms::{NoMemory, Steps};
+use dubp_atoms::{NoMemory, Secret, Steps};
 use dubp_block::Block;
 use dubp_money_checks::Money;
 use dubp_people::People;
@@ -89,8 +89,18 @@ impl Books {
         ensures kept { (⟦<Books as Tables<Block>>⟧.others result).kept ≡ [] }
         ensures ahead { (⟦<Books as Tables<Block>>⟧.others result).ahead ≡ [] }
     {
+        Books::with_secret(alloc, Secret::known())
+    }
+
+    /// Those of the empty chain. What strangers choose is hashed by the secret. It takes no memory.
+    pub fn with_secret(alloc: Global, secret: Secret) -> Books
+        ensures at { ⟦<Books as Tables<Block>>⟧.at result [] }
+        ensures count { ⟦<Books as Tables<Block>>⟧.count result ≡ 0 }
+        ensures kept { (⟦<Books as Tables<Block>>⟧.others result).kept ≡ [] }
+        ensures ahead { (⟦<Books as Tables<Block>>⟧.others result).ahead ≡ [] }
+    {
         Books {
-            tables: Both::new(People::new(alloc), Money::new(alloc)),
+            tables: Both::new(People::new(alloc), Money::with_secret(alloc, secret)),
         }
     }
 

@@ -1,11 +1,12 @@
 use crate::books::Books;
+use dubp_atoms::Secret;
 use dubp_people::People;
 use dubp_people_and_money::{Money, PeopleAndMoney};
 use std::alloc::Global;
 
 impl PeopleAndMoney for Books {
-    fn empty(alloc: Global) -> Books {
-        Books::new(alloc)
+    fn empty(alloc: Global, secret: Secret) -> Books {
+        Books::with_secret(alloc, secret)
     }
 
     fn people(&self) -> &People {

@@ -66,7 +66,7 @@ impl<T: PeopleAndMoney> Model for Branches<T> {
 }
 
 impl<T: PeopleAndMoney> Branches<T> {
-    /// The empty chain and no stored block, for verdicts that strangers choose: who does not know the secret makes none that are slower to
+    /// The empty chain and no stored block, for what strangers choose: who does not know the secret makes none that are slower to
     /// keep than others. It takes no memory.
     pub fn with_secret(alloc: Global, secret: Secret) -> Branches<T>
         ensures { result ≡ no_branches }
@@ -74,8 +74,8 @@ impl<T: PeopleAndMoney> Branches<T> {
         Branches {
             alloc,
             verdicts: Verdicts::with_secret(alloc, secret),
-            ledger: Ledger::new(alloc),
-            store: Store::new(alloc),
+            ledger: Ledger::with_secret(alloc, secret),
+            store: Store::new(alloc, secret),
         }
     }
 

@@ -7,7 +7,7 @@ ghost use Rattle.dubp_block.specs.declared.block.Block.{Block as BlockValue};
 ghost use Rattle.dubp_replay.specs.Turns.{previous_stamp, stored};
 ghost use Rattle.dubp_forks.specs.Entries.{AreKept, blocks_in};
 
-use dubp_atoms::Stamp;
+use dubp_atoms::{Secret, Stamp};
 use dubp_block::Block;
 use indexmap::IndexMap;
 use std::mem;
@@ -37,7 +37,7 @@ pub(crate) fn before_in(entry: &Option<Block>) -> Option<Option<Stamp>>
 
 /// The stamp before that of a stored block. None where no block has the stamp. It takes no memory.
 pub(crate) fn before_stored(
-    blocks: &IndexMap<Stamp, Option<Block>>,
+    blocks: &IndexMap<Stamp, Option<Block>, Secret>,
     stamp: &Stamp,
 ) -> Option<Option<Stamp>>
     requires { AreKept blocks.now.entries }
@@ -51,7 +51,7 @@ pub(crate) fn before_stored(
 
 /// Puts a block, or none, into the entry of the stamp, and hands out what was there. It takes no memory.
 pub(crate) fn exchange(
-    blocks: &mut IndexMap<Stamp, Option<Block>>,
+    blocks: &mut IndexMap<Stamp, Option<Block>, Secret>,
     stamp: &Stamp,
     with: Option<Block>,
 ) -> Option<Block>
@@ -66,7 +66,7 @@ pub(crate) fn exchange(
 }
 
 /// The entries whose blocks are lent leave; the others keep their order. It takes no memory.
-pub(crate) fn drop_lent(blocks: &mut IndexMap<Stamp, Option<Block>>)
+pub(crate) fn drop_lent(blocks: &mut IndexMap<Stamp, Option<Block>, Secret>)
     ensures entries { blocks.new.entries ≡ filter (λ e. is_some e.1) blocks.old.entries }
     ensures room { spare blocks.old ≤ spare blocks.new }
 {

@@ -3,7 +3,7 @@ ghost use Rattle.dubp_forks.specs.Entries.{AreKept, blocks_in};
 ghost use Rattle.dubp_forks.specs.Switching.{LeadsTo};
 
 use crate::entries::before_stored;
-use dubp_atoms::{NoMemory, Stamp};
+use dubp_atoms::{NoMemory, Secret, Stamp};
 use dubp_block::Block;
 use indexmap::IndexMap;
 use std::alloc::Global;
@@ -22,7 +22,7 @@ pub(crate) struct Path {
 /// `NoMemory` where there is no room for its stamps.
 pub(crate) fn path_from(
     alloc: Global,
-    blocks: &IndexMap<Stamp, Option<Block>>,
+    blocks: &IndexMap<Stamp, Option<Block>, Secret>,
     stamp: Stamp,
 ) -> Result<Path, NoMemory>
     requires { AreKept blocks.now.entries }

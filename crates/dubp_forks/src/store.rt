@@ -14,7 +14,7 @@ use crate::entries::before_in;
 use crate::path::path_from;
 use crate::refusals::{OfferRefusal, SwitchRefusal};
 use crate::switching::{check_room, count_behind, replace};
-use dubp_atoms::{NoMemory, Stamp, Steps};
+use dubp_atoms::{NoMemory, Secret, Stamp, Steps};
 use dubp_block::{Block, ReadRefusal, read_block, stamp_of};
 use dubp_ledger::{Ledger, PeopleAndMoney};
 use dubp_verdict::Verdicts;
@@ -33,7 +33,7 @@ pub const MOST_STORED: usize = 1024;
 #[derive(Drop)]
 pub struct Store {
     pub(crate) alloc: Global,
-    pub(crate) blocks: IndexMap<Stamp, Option<Block>>,
+    pub(crate) blocks: IndexMap<Stamp, Option<Block>, Secret>,
 }
 
 impl Model for Store {
@@ -55,13 +55,13 @@ impl Model for Store {
 }
 
 impl Store {
-    /// A store of no block. It takes no memory.
-    pub fn new(alloc: Global) -> Store
+    /// A store of no block. The secret is what the stamps of blocks are hashed by. It takes no memory.
+    pub fn new(alloc: Global, secret: Secret) -> Store
         ensures { result ≡ [] }
     {
         Store {
             alloc,
-            blocks: IndexMap::new(alloc),
+            blocks: IndexMap::with_hasher(alloc, secret),
         }
     }
 

@@ -17,7 +17,7 @@ ghost use Rattle.dubp_replay.specs.Turns.{blocks_behind, most_stored};
 use crate::entries::{drop_lent, exchange};
 use crate::refusals::SwitchRefusal;
 use crate::store::MOST_STORED;
-use dubp_atoms::{Stamp, Steps};
+use dubp_atoms::{Secret, Stamp, Steps};
 use dubp_block::{Block, stamp_of};
 use dubp_ledger::{Ledger, PeopleAndMoney, SubmitRefusal};
 use dubp_verdict::Verdicts;
@@ -26,7 +26,7 @@ use std::sync::ledger::Ledger as StepBook;
 
 /// Accepts the stored block of this stamp, which is lent then. On a refusal it is back, and the ledger is as before.
 fn accept<T: PeopleAndMoney, L: StepBook>(
-    blocks: &mut IndexMap<Stamp, Option<Block>>,
+    blocks: &mut IndexMap<Stamp, Option<Block>, Secret>,
     stamp: &Stamp,
     ledger: &mut Ledger<T>,
     verdicts: &Verdicts,
@@ -59,7 +59,7 @@ fn accept<T: PeopleAndMoney, L: StepBook>(
 
 /// Takes the blocks of these stamps, newest first, off the chain, and puts them back where they were stored. It takes no memory.
 fn take_back<T: PeopleAndMoney, L: StepBook>(
-    blocks: &mut IndexMap<Stamp, Option<Block>>,
+    blocks: &mut IndexMap<Stamp, Option<Block>, Secret>,
     stamps: &[Stamp],
     ledger: &mut Ledger<T>,
     steps: &mut Steps<L>,
@@ -80,7 +80,7 @@ fn take_back<T: PeopleAndMoney, L: StepBook>(
 /// Accepts the stored blocks of these stamps, newest first, from the last up; they are lent then. Where one is refused all are back, and
 /// the ledger is as before.
 fn accept_all<T: PeopleAndMoney, L: StepBook>(
-    blocks: &mut IndexMap<Stamp, Option<Block>>,
+    blocks: &mut IndexMap<Stamp, Option<Block>, Secret>,
     stamps: &[Stamp],
     ledger: &mut Ledger<T>,
     verdicts: &Verdicts,
@@ -109,7 +109,7 @@ fn accept_all<T: PeopleAndMoney, L: StepBook>(
 
 /// Puts these blocks behind the others, in their order: none has a stamp that is there, no two have one, and there is room for them. It
 /// takes no memory.
-fn put_last(blocks: &mut IndexMap<Stamp, Option<Block>>, last: Vec<Block>)
+fn put_last(blocks: &mut IndexMap<Stamp, Option<Block>, Secret>, last: Vec<Block>)
     requires { length last.items ≤ spare blocks.old }
     ensures { (store : List BlockValue) → blocks.old.entries ≡ entries_of [] store → AreApart (store ++ last.items) → blocks.new.entries ≡ entries_of [] (store ++ last.items) }
 {
@@ -121,7 +121,7 @@ fn put_last(blocks: &mut IndexMap<Stamp, Option<Block>>, last: Vec<Block>)
 }
 
 /// Puts the block under its stamp. There is room for it.
-fn put_one(blocks: &mut IndexMap<Stamp, Option<Block>>, block: Block)
+fn put_one(blocks: &mut IndexMap<Stamp, Option<Block>, Secret>, block: Block)
     requires { 0 < spare blocks.old }
     ensures entries { blocks.new.entries ≡ insert_entry same_stamp blocks.old.entries (block_stamp block) (Some block) }
     ensures room { spare blocks.old ≤ spare blocks.new + 1 }
@@ -137,7 +137,7 @@ fn put_one(blocks: &mut IndexMap<Stamp, Option<Block>>, block: Block)
 ///
 /// On a refusal, and where there is no room, all is as before.
 pub(crate) fn replace<T: PeopleAndMoney, L: StepBook>(
-    blocks: &mut IndexMap<Stamp, Option<Block>>,
+    blocks: &mut IndexMap<Stamp, Option<Block>, Secret>,
     stamps: &[Stamp],
     count: usize,
     ledger: &mut Ledger<T>,

@@ -19,7 +19,7 @@ ghost use Rattle.dubp_ledger.specs.Written.{IsWrittenAt};
 use crate::refusal::{SubmitRefusal, TooDeep};
 use crate::traces::Traces;
 use crate::written::WrittenBlock;
-use dubp_atoms::{Key, NoMemory, Stamp, Steps};
+use dubp_atoms::{Key, NoMemory, Secret, Stamp, Steps};
 use dubp_block::Block;
 use dubp_chain::Head;
 use dubp_docs::TxHashes;
@@ -68,9 +68,18 @@ impl<T: PeopleAndMoney> Ledger<T> {
         ensures kept { result.kept ≡ 0 }
         ensures out { result.out ≡ None }
     {
+        Ledger::with_secret(alloc, Secret::known())
+    }
+
+    /// The ledger of the empty chain. What strangers choose is hashed by the secret. It takes no memory.
+    pub fn with_secret(alloc: Global, secret: Secret) -> Ledger<T>
+        ensures chain { result.chain ≡ [] }
+        ensures kept { result.kept ≡ 0 }
+        ensures out { result.out ≡ None }
+    {
         Ledger {
             alloc,
-            kept: Kept::new(alloc, T::empty(alloc)),
+            kept: Kept::new(alloc, T::empty(alloc, secret)),
             traces: Traces::new(alloc),
         }
     }

@@ -8,7 +8,6 @@ use Rattle.std.proofs.lemmas.List.Elements.{filter_agree}
 use Rattle.std.proofs.lemmas.List.Folds.{list_any-append}
 use Rattle.std.proofs.lemmas.List.Sorted.{IsPermutation-refl, IsPermutation-sym, IsPermutation-trans, IsPermutation-append_left}
 use Rattle.std.proofs.lemmas.Bool.{lt-ltb, ltb-true}
-use Rattle.dubp_sindex.specs.Balances.{Any}
 use Rattle.dubp_sindex.specs.Rows.{Entry, units_of_entry, is_of, is_named, of_account, units_in, without, Rises, AreRows, IsAtMost, balance_of_row, IsLeastBalance}
 use Rattle.dubp_sindex.proofs.Elements.{is_false, IsIn, in_all, all_more, in_any, any_in, not_true, in_filter, kept_in, filter_on, filter_true, filter_twice}
 use Rattle.dubp_sindex.proofs.Sources.{same_source_own, OnceEach, once_each, one_of_name}
@@ -200,18 +199,18 @@ cleared_next Has Has' limit rows so_far now account is below others put =
     ] refl
 
 -- where the least balance has the limit, all have
-least_enough : (limit : ℕ) (rows : List Entry) (least : ℕ × ℕ) → IsLeastBalance rows Any least → limit ≤ least.0 → HasEnough limit rows
+least_enough : (limit : ℕ) (rows : List Entry) (least : ℕ × ℕ) → IsLeastBalance rows least → limit ≤ least.0 → HasEnough limit rows
 least_enough limit rows least is enough = record {
-  each = all_more (λ e. Any (balance_of_row rows e) → IsAtMost least (balance_of_row rows e)) (λ e. limit ≤ units_in e.1.account rows)
-      (λ e at_most. elim (at_most tt) [ inl more ↦ omega (arith, more, enough) | inr same ↦ omega (arith, same.0, enough) ]) rows is.least;
+  each = all_more (λ e. IsAtMost least (balance_of_row rows e)) (λ e. limit ≤ units_in e.1.account rows)
+      (λ e at_most. elim at_most [ inl more ↦ omega (arith, more, enough) | inr same ↦ omega (arith, same.0, enough) ]) rows is.least;
 }
 
-pub below_found : (limit : ℕ) (rows : List Entry) (least : ℕ × ℕ) → IsLeastBalance rows Any least → (o : Option ℕ) → IfSome o (λ account. (account ≡ least.1) × (least.0 < limit))
+pub below_found : (limit : ℕ) (rows : List Entry) (least : ℕ × ℕ) → IsLeastBalance rows least → (o : Option ℕ) → IfSome o (λ account. (account ≡ least.1) × (least.0 < limit))
     → IfSome o (λ account. units_in account rows < limit)
 below_found limit rows least is None below = tt
 below_found limit rows least is (Some account) below = subst (λ a. units_in a rows < limit) (sym below.0) (subst (λ n. n < limit) is.is.units below.1)
 
-pub below_none : (limit : ℕ) (rows : List Entry) (least : ℕ × ℕ) → IsLeastBalance rows Any least → (o : Option ℕ) → IfNone o (limit ≤ least.0) → IfNone o (HasEnough limit rows)
+pub below_none : (limit : ℕ) (rows : List Entry) (least : ℕ × ℕ) → IsLeastBalance rows least → (o : Option ℕ) → IfNone o (limit ≤ least.0) → IfNone o (HasEnough limit rows)
 below_none limit rows least is None enough = least_enough limit rows least is enough
 below_none limit rows least is (Some account) enough = tt
 

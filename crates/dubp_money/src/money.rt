@@ -4,10 +4,10 @@ ghost use Rattle.dubp_chain.specs.Tables.{has_transaction, totals};
 ghost use Rattle.dubp_money.specs.Tables.{transaction_at, totals_at, totals_entry};
 
 use crate::sources::Sources;
-use dubp_atoms::{Hash, NoMemory, Steps};
+use dubp_atoms::{Hash, NoMemory, Secret, Steps};
 use dubp_block::Block;
 use dubp_facts::Facts;
-use dubp_undo::{Both, Definition, Leaf, Tables, Three};
+use dubp_undo::{Both, ByHash, Definition, Found, Leaf, NoSummary, Tables, Three};
 use std::alloc::Global;
 use std::sync::ledger::Ledger as StepBook;
 
@@ -34,7 +34,7 @@ impl Definition<Block, (), Totals> for TotalsOf {
     ghost at = { totals_at };
 }
 
-pub(crate) type HashTable = Leaf<Block, Hash, (), TransactionsOf>;
+pub(crate) type HashTable = Found<Block, Hash, (), TransactionsOf, ByHash<Hash, Secret>, NoSummary>;
 
 pub(crate) type HashesAndTotals = Both<Block, HashTable, Leaf<Block, (), Totals, TotalsOf>>;
 
@@ -109,13 +109,16 @@ impl Tables<Block> for Money {
 }
 
 // The tables beside the sources, in which nothing stands.
-fn no_tables(alloc: Global) -> HashesAndTotals
+fn no_tables(alloc: Global, secret: Secret) -> HashesAndTotals
     ensures at { ⟦<HashesAndTotals as Tables<Block>>⟧.at result [] }
     ensures count { ⟦<HashesAndTotals as Tables<Block>>⟧.count result ≡ 0 }
     ensures kept { (⟦<HashesAndTotals as Tables<Block>>⟧.others result).kept ≡ [] }
     ensures ahead { (⟦<HashesAndTotals as Tables<Block>>⟧.others result).ahead ≡ [] }
 {
-    Both::new(Leaf::new(alloc), Leaf::new(alloc))
+    Both::new(
+        Found::over(ByHash::new(alloc, secret), NoSummary, alloc),
+        Leaf::new(alloc),
+    )
 }
 
 impl Money {
@@ -126,8 +129,22 @@ impl Money {
         ensures kept { (⟦<Money as Tables<Block>>⟧.others result).kept ≡ [] }
         ensures ahead { (⟦<Money as Tables<Block>>⟧.others result).ahead ≡ [] }
     {
+        Money::with_secret(alloc, Secret::known())
+    }
+
+    /// That of the empty chain, whose accounts and sources strangers choose: they are hashed by the secret. It takes no memory.
+    pub fn with_secret(alloc: Global, secret: Secret) -> Money
+        ensures at { ⟦<Money as Tables<Block>>⟧.at result [] }
+        ensures count { ⟦<Money as Tables<Block>>⟧.count result ≡ 0 }
+        ensures kept { (⟦<Money as Tables<Block>>⟧.others result).kept ≡ [] }
+        ensures ahead { (⟦<Money as Tables<Block>>⟧.others result).ahead ≡ [] }
+    {
         Money {
-            tables: Three::new(Sources::new(alloc), no_tables(alloc), Facts::new(alloc)),
+            tables: Three::new(
+                Sources::new(alloc, secret),
+                no_tables(alloc, secret),
+                Facts::new(alloc),
+            ),
         }
     }
 

@@ -4,7 +4,7 @@ ghost use Rattle.dubp_money_steps.specs.Left.{sources_left};
 ghost use Rattle.dubp_money.specs.Index.{StandsFor};
 ghost use Rattle.dubp_money.specs.Texts.{Fits};
 
-use dubp_atoms::{NoMemory, Steps};
+use dubp_atoms::{NoMemory, Secret, Steps};
 use dubp_block::Block;
 use dubp_sindex::{SIndex, SourceRows};
 use dubp_undo::Tables;
@@ -83,15 +83,15 @@ impl Tables<Block> for Sources {
 }
 
 impl Sources {
-    /// Those of the empty chain. It takes no memory.
-    pub fn new(alloc: Global) -> Sources
+    /// Those of the empty chain. The secret is what they are hashed by. It takes no memory.
+    pub fn new(alloc: Global, secret: Secret) -> Sources
         ensures at { ⟦<Sources as Tables<Block>>⟧.at result [] }
         ensures count { ⟦<Sources as Tables<Block>>⟧.count result ≡ 0 }
         ensures kept { (⟦<Sources as Tables<Block>>⟧.others result).kept ≡ [] }
         ensures ahead { (⟦<Sources as Tables<Block>>⟧.others result).ahead ≡ [] }
     {
         Sources {
-            index: SIndex::new(alloc),
+            index: SIndex::with_secret(alloc, secret),
         }
     }
 }

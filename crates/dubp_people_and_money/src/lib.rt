@@ -4,7 +4,7 @@
 //! proved over any such tables; `dubp_books` has those that there are.
 //!
 //! ```text
-//! let tables = T::empty(alloc);
+//! let tables = T::empty(alloc, secret);
 //! let index = tables.people().iindex();
 //! ```
 #![tactic(auto)]
@@ -15,7 +15,7 @@ ghost use Rattle.dubp_judge.specs.OfKept.{KeptChain, AreStates};
 
 use dubp_block::Block;
 pub use dubp_judge::{Judgement, Judges, judge, trial};
-pub use dubp_money::Money;
+pub use dubp_money::{Money, Secret};
 pub use dubp_registry::Registry as People;
 use dubp_undo::Tables;
 use std::alloc::Global;
@@ -25,8 +25,8 @@ use std::alloc::Global;
 /// What stands on a ledger is proved over any such tables. Where their states are those of a chain, so are those of the people and of the
 /// money.
 pub trait PeopleAndMoney: Judges {
-    /// Those of the empty chain. It takes no memory.
-    fn empty(alloc: Global) -> Self
+    /// Those of the empty chain. What strangers choose is hashed by the secret. It takes no memory.
+    fn empty(alloc: Global, secret: Secret) -> Self
         ensures at { Self.at result [] }
         ensures count { Self.count result ≡ 0 }
         ensures kept { (Self.others result).kept ≡ [] }

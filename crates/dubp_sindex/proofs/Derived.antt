@@ -129,9 +129,9 @@ module _ (rows : List Entry) (r : Entry) (order : AreRows rows) (new : IsNewRow 
         (Decides-eqb k.1 x.1.order).0 (and_right (k.0 == x.1.account) (k.1 == x.1.order) also),
       ))))
 
-  balance-push : (xs : List Entry) → balance_of (xs ++ r ∷ []) ≡ Some (joined (balance_of xs) (units_of_entry r))
-  balance-push [] = ap (λ n. Some (record { units = n; count = 1 })) (zero-add (units_of_entry r))
-  balance-push (x ∷ xs) = λ i. Some (record { units = whole i; count = counted i })
+  balance-push : (a : ℕ) (xs : List Entry) → balance_of a (xs ++ r ∷ []) ≡ Some (joined (balance_of a xs) a (units_of_entry r))
+  balance-push a [] = ap (λ n. Some (record { account = a; units = n; count = 1 })) (zero-add (units_of_entry r))
+  balance-push a (x ∷ xs) = λ i. Some (record { account = a; units = whole i; count = counted i })
     where
       whole : sum_by units_of_entry ((x ∷ xs) ++ r ∷ []) ≡ sum_by units_of_entry (x ∷ xs) + units_of_entry r
       whole = sum_by-append units_of_entry (x ∷ xs) (r ∷ []) ∙ ap (λ n. sum_by units_of_entry (x ∷ xs) + n) (zero-add (units_of_entry r))
@@ -139,13 +139,13 @@ module _ (rows : List Entry) (r : Entry) (order : AreRows rows) (new : IsNewRow 
       counted : length ((x ∷ xs) ++ r ∷ []) ≡ length (x ∷ xs) + 1
       counted = omega (arith, length-append (x ∷ xs) (r ∷ []))
 
-  pub made_balance : (account : ℕ) → balance_at account (rows ++ r ∷ []) ≡ cond (account == r.1.account) (Some (joined (balance_at account rows) (units_of_entry r))) (balance_at account rows)
+  pub made_balance : (account : ℕ) → balance_at account (rows ++ r ∷ []) ≡ cond (account == r.1.account) (Some (joined (balance_at account rows) r.1.account (units_of_entry r))) (balance_at account rows)
   made_balance account =
-      ap balance_of (filter-append (is_of account) rows (r ∷ []))
-      ∙ elim (account == r.1.account) as (λ k. balance_of (of_account account rows ++ cond k (r ∷ []) []) ≡ cond k (Some (joined (balance_at account rows) (units_of_entry r))) (balance_at account rows)) [
-        | true ↦ balance-push (of_account account rows)
-        | false ↦ ap balance_of (append-nil (of_account account rows))
-      ]
+      ap (balance_of account) (filter-append (is_of account) rows (r ∷ []))
+      ∙ elim (account == r.1.account) as (λ k. (account == r.1.account) ≡ k → balance_of account (of_account account rows ++ cond k (r ∷ []) []) ≡ cond k (Some (joined (balance_at account rows) r.1.account (units_of_entry r))) (balance_at account rows)) [
+        | true ↦ λ is. balance-push account (of_account account rows) ∙ ap (λ n. Some (joined (balance_at account rows) n (units_of_entry r))) ((Decides-eqb account r.1.account).0 is)
+        | false ↦ λ is. ap (balance_of account) (append-nil (of_account account rows))
+      ] refl
 
   rises-push : (xs : List Entry) → Rises xs → AllByRecursion (λ (e : Entry). e.1.order < r.1.order) xs → Rises (xs ++ r ∷ [])
   rises-push [] rises behind = (tt, tt)
@@ -193,16 +193,16 @@ count_is [] = refl
 count_is (x ∷ xs) = omega (arith, sum_by-cons (λ (e : Entry). 1) x xs, count_is xs)
 
 -- one row less
-parted_is : (xs ys : List Entry) (units : ℕ) → length ys + 1 ≡ length xs → sum_by units_of_entry ys + units ≡ sum_by units_of_entry xs → balance_of ys ≡ parted (balance_of xs) units
-parted_is [] ys units counted whole = absurd (omega (arith, counted))
-parted_is (x ∷ xs) [] units counted whole =
+parted_is : (a : ℕ) (xs ys : List Entry) (units : ℕ) → length ys + 1 ≡ length xs → sum_by units_of_entry ys + units ≡ sum_by units_of_entry xs → balance_of a ys ≡ parted (balance_of a xs) units
+parted_is a [] ys units counted whole = absurd (omega (arith, counted))
+parted_is a (x ∷ xs) [] units counted whole =
     let last : (length (x ∷ xs) == 1) ≡ true = (Decides-eqb (length (x ∷ xs)) 1).1 (omega (arith, counted)) in
     rw last refl
-parted_is (x ∷ xs) (y ∷ ys) units counted whole =
+parted_is a (x ∷ xs) (y ∷ ys) units counted whole =
     let more : (length (x ∷ xs) == 1) ≡ false = is_false (length (x ∷ xs) == 1) (λ e. omega (arith, counted, (Decides-eqb (length (x ∷ xs)) 1).0 e)) in
     let left : sum_by units_of_entry (y ∷ ys) ≡ sum_by units_of_entry (x ∷ xs) - units = omega (arith, whole) in
     let fewer : length (y ∷ ys) ≡ length (x ∷ xs) - 1 = omega (arith, counted) in
-    rw more (λ i. Some (record { units = left i; count = fewer i }))
+    rw more (λ i. Some (record { account = a; units = left i; count = fewer i }))
 
 module _ (rows : List Entry) (r : Entry) (order : AreRows rows) (there : IsIn r rows) where
   pub gone_row : (id : SourceId) → row_at id (without r.0 rows) ≡ cond (same_source id r.0) None (row_at id rows)
@@ -229,12 +229,12 @@ module _ (rows : List Entry) (r : Entry) (order : AreRows rows) (there : IsIn r 
       turned false true = refl
       turned false false = refl
 
-  own_balance : (account : ℕ) → (account == r.1.account) ≡ true → balance_of (without r.0 (of_account account rows)) ≡ parted (balance_at account rows) (units_of_entry r)
+  own_balance : (account : ℕ) → (account == r.1.account) ≡ true → balance_of account (without r.0 (of_account account rows)) ≡ parted (balance_at account rows) (units_of_entry r)
   own_balance account is =
       let xs = of_account account rows in
       let once : OnceEach xs = once-filter same_source same_source_is same_source_own (λ (e : Entry). e.0) (is_of account) rows (once_each rows order) in
       let in_xs = kept_in (is_of account) rows r there is in
-      parted_is xs (without r.0 xs) (units_of_entry r)
+      parted_is account xs (without r.0 xs) (units_of_entry r)
       (omega (arith, length-filter_both (is_named r.0) (λ e. not (is_named r.0 e)) (λ e. refl) xs, count_is (filter (is_named r.0) xs), one_row (λ (e : Entry). 1) xs once r in_xs))
       (omega (arith, sum_by-filter_both (is_named r.0) (λ e. not (is_named r.0 e)) (λ e. refl) units_of_entry xs, one_row units_of_entry xs once r in_xs))
 
@@ -247,10 +247,10 @@ module _ (rows : List Entry) (r : Entry) (order : AreRows rows) (there : IsIn r 
 
   pub gone_balance : (account : ℕ) → balance_at account (without r.0 rows) ≡ cond (account == r.1.account) (parted (balance_at account rows) (units_of_entry r)) (balance_at account rows)
   gone_balance account =
-      ap balance_of (swapped account)
-      ∙ elim (account == r.1.account) as (λ k. (account == r.1.account) ≡ k → balance_of (without r.0 (of_account account rows)) ≡ cond k (parted (balance_at account rows) (units_of_entry r)) (balance_at account rows)) [
+      ap (balance_of account) (swapped account)
+      ∙ elim (account == r.1.account) as (λ k. (account == r.1.account) ≡ k → balance_of account (without r.0 (of_account account rows)) ≡ cond k (parted (balance_at account rows) (units_of_entry r)) (balance_at account rows)) [
         | true ↦ λ is. own_balance account is
-        | false ↦ λ is. ap balance_of (other_balance account is)
+        | false ↦ λ is. ap (balance_of account) (other_balance account is)
       ] refl
 
 -- what is left when a source is spent
@@ -279,13 +279,13 @@ own_account a account f rows before old =
 -- ---- the rows, and what becomes of a source
 
 module _ (rows : List Entry) (r : Entry) (before : Option Balance) (was : before ≡ balance_at r.1.account rows) (are : AreRows rows) where
-  pub is_made : IsNewRow rows r → (after : Balance) → after ≡ joined before (units_of_entry r)
+  pub is_made : IsNewRow rows r → (after : Balance) → after ≡ joined before r.1.account (units_of_entry r)
       → IsChanged r.0 (record { row = Some r.1; place = (r.1.account, r.1.order); before = before; after = Some after }) rows (rows ++ r ∷ [])
   is_made new after is = record {
     source = made_row rows r are new;
     place = made_place rows r are new;
     before = was;
-    after = λ a. made_balance rows r are new a ∙ own_account a r.1.account (λ x. Some (joined x (units_of_entry r))) rows before was ∙ ap (λ b. cond (a == r.1.account) (Some b) (balance_at a rows)) (sym is);
+    after = λ a. made_balance rows r are new a ∙ own_account a r.1.account (λ x. Some (joined x r.1.account (units_of_entry r))) rows before was ∙ ap (λ b. cond (a == r.1.account) (Some b) (balance_at a rows)) (sym is);
   }
 
   pub is_gone : IsIn r rows → (after : Option Balance) → after ≡ parted before (units_of_entry r)

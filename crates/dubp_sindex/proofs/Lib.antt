@@ -2,6 +2,5 @@ pub mod Derived
 pub mod Elements
 pub mod Lookups
 pub mod Once
-pub mod Places
 pub mod Sources
 pub mod Texts

@@ -1,22 +1,22 @@
 -- What the code finds in the tables: the account that has least, and the sources of an account one behind the other.
-use Rattle.std.proofs.Common.{◌≡◌, ℕ, ◌+◌, ◌<◌, ◌≤◌, true, false, cond, ◌&&◌, ◌==◌, List, [], ◌∷◌, ◌++◌, Option, Some, None, option_map, length, sum_by, refl, ap, sym, ◌∙◌, subst, true≢false, inl, inr, ◌⊎◌, arith, append_assoc, length-append, append-nil, min}
-use Rattle.std.specs.Prelude.{find, unwrap_or, ◌^◌}
-use Rattle.std.specs.Option.{IsSome, IfSome, IfNone, option_map_or}
+use Rattle.std.proofs.Common.{◌≡◌, ℕ, ◌+◌, ◌<◌, ◌≤◌, nat_lt, true, false, cond, ◌&&◌, ◌==◌, List, [], ◌∷◌, ◌++◌, Option, Some, None, option_map, length, sum_by, refl, ap, sym, ◌∙◌, subst, true≢false, inl, inr, ◌⊎◌, arith, append_assoc, length-append, append-nil, min}
+use Rattle.std.specs.Prelude.{find, unwrap_or, ◌^◌, ⊤}
+use Rattle.std.specs.Option.{IsSome, IfSome, option_map_or}
 use Rattle.std.specs.List.{list_any, AllByRecursion}
-use Rattle.std.specs.Ordering.{nat_cmp, ordering_then, is_gt, is_lt, MatchOrdering}
+use Rattle.std.specs.Ordering.{nat_cmp, ordering_then, is_gt, MatchOrdering}
 use Rattle.std.specs.declared.cmp.Ordering.{Ordering}
 use Rattle.std.specs.declared.cmp.Ordering.TheVariants.{Less, Equal, Greater}
-use Rattle.std.specs.BTreeMap.Range.{IsLeBy, IsLtBy}
+use Rattle.std.specs.BTreeMap.Range.{IsLeBy}
 use Rattle.std.proofs.lemmas.Cmp.{ranked}
 use Rattle.std.proofs.lemmas.Option.{none-some}
+use Rattle.std.proofs.lemmas.Bool.{ltb-true, ltb-false}
 use Rattle.std.proofs.lemmas.Bool.Decides.{Decides-eqb}
 use Rattle.dubp_cond.specs.declared.source.SourceId.{SourceId}
-use Rattle.dubp_undo.specs.MovingTable.{get, IsLeast, HasNone, IsAfter}
+use Rattle.dubp_undo.specs.MovingTable.{get, IsLeast, IsLowest, HasNone}
 use Rattle.dubp_sindex.specs.declared.rows.SourceRow.{SourceRow}
 use Rattle.dubp_sindex.specs.declared.rows.Balance.{Balance}
-use Rattle.dubp_sindex.specs.Balances.{Any, IsFrom}
-use Rattle.dubp_sindex.specs.Rows.{Entry, same_source, units_of_entry, is_of, is_named, of_account, units_in, row_at, Rises, IsInRange, AreRows, IsAtMost, IsUnder, IsLeastBalance, HasNoBalance, balance_of_row}
-use Rattle.dubp_sindex.specs.Derived.{pair_cmp, is_placed_at, id_at, balance_of, has_units, stands_at}
+use Rattle.dubp_sindex.specs.Rows.{Entry, same_source, units_of_entry, is_of, is_named, of_account, units_in, row_at, Rises, IsInRange, AreRows, IsAtMost, IsLeastBalance, balance_of_row}
+use Rattle.dubp_sindex.specs.Derived.{pair_cmp, is_placed_at, id_at, balance_of, balance_at, measure}
 use Rattle.dubp_sindex.proofs.Elements.{and_left, and_right, is_false, IsIn, in_right, in_append, in_all, all_append, all_from_in, in_any, in_filter, kept_in}
 use Rattle.dubp_sindex.proofs.Derived.{rises-filter}
 use Rattle.dubp_sindex.proofs.Sources.{same_source_own, once_each, one_of_name, row_there, row_is_some}
@@ -51,134 +51,61 @@ le_pair x y same le = by (nat_cmp x.0 y.0) (nat_cmp x.1 y.1) (ranked x.0 y.0 (na
     by Equal Equal is also = refl
     by Equal Greater is also = absurd (omega (arith, also, le))
 
-at_most : (x y : ℕ × ℕ) → IsLeBy pair_cmp x y → IsAtMost x y
-at_most x y le = by (nat_cmp x.0 y.0) (nat_cmp x.1 y.1) (ranked x.0 y.0 (nat_cmp x.0 y.0) refl) (ranked x.1 y.1 (nat_cmp x.1 y.1) refl) le
-  where
-    by : (o p : Ordering) → MatchOrdering o (x.0 < y.0) (x.0 ≡ y.0) (y.0 < x.0) → MatchOrdering p (x.1 < y.1) (x.1 ≡ y.1) (y.1 < x.1) → is_gt (ordering_then o p) ≡ false → IsAtMost x y
-    by Less p is also le = inl is
-    by Greater p is also le = absurd (true≢false le)
-    by Equal Less is also le = inr (is, omega (arith, also))
-    by Equal Equal is also le = inr (is, omega (arith, also))
-    by Equal Greater is also le = absurd (true≢false le)
-
--- a key is behind another, by the order and by its parts
-under : (x y : ℕ × ℕ) → IsLtBy pair_cmp x y → IsUnder x y
-under x y lt = by (nat_cmp x.0 y.0) (nat_cmp x.1 y.1) (ranked x.0 y.0 (nat_cmp x.0 y.0) refl) (ranked x.1 y.1 (nat_cmp x.1 y.1) refl) lt
-  where
-    by : (o p : Ordering) → MatchOrdering o (x.0 < y.0) (x.0 ≡ y.0) (y.0 < x.0) → MatchOrdering p (x.1 < y.1) (x.1 ≡ y.1) (y.1 < x.1) → ordering_then o p ≡ Less → IsUnder x y
-    by Less p is also lt = inl is
-    by Greater p is also lt = absurd (true≢false (sym (ap is_lt lt)))
-    by Equal Less is also lt = inr (is, also)
-    by Equal Equal is also lt = absurd (true≢false (sym (ap is_lt lt)))
-    by Equal Greater is also lt = absurd (true≢false (sym (ap is_lt lt)))
-
-is_under : (x y : ℕ × ℕ) → IsUnder x y → IsLtBy pair_cmp x y
-is_under x y lt = by (nat_cmp x.0 y.0) (nat_cmp x.1 y.1) (ranked x.0 y.0 (nat_cmp x.0 y.0) refl) (ranked x.1 y.1 (nat_cmp x.1 y.1) refl) lt
-  where
-    by : (o p : Ordering) → MatchOrdering o (x.0 < y.0) (x.0 ≡ y.0) (y.0 < x.0) → MatchOrdering p (x.1 < y.1) (x.1 ≡ y.1) (y.1 < x.1) → IsUnder x y → ordering_then o p ≡ Less
-    by Less p is also lt = refl
-    by Equal Less is also lt = refl
-    by Equal Equal is also (inl lt) = absurd (omega (arith, is, lt))
-    by Equal Equal is also (inr lt) = absurd (omega (arith, also, lt.1))
-    by Equal Greater is also (inl lt) = absurd (omega (arith, is, lt))
-    by Equal Greater is also (inr lt) = absurd (omega (arith, also, lt.1))
-    by Greater p is also (inl lt) = absurd (omega (arith, is, lt))
-    by Greater p is also (inr lt) = absurd (omega (arith, is, lt.0))
-
--- where a search begins, in the order of keys and in the words of the contract
-from_least : (least : ℕ) (k : ℕ × ℕ) → least ≤ k.0 → IsLeBy pair_cmp (least, 0) k
-from_least least k most = by (nat_cmp least k.0) (nat_cmp 0 k.1) (ranked least k.0 (nat_cmp least k.0) refl) (ranked 0 k.1 (nat_cmp 0 k.1) refl)
-  where
-    by : (o p : Ordering) → MatchOrdering o (least < k.0) (least ≡ k.0) (k.0 < least) → MatchOrdering p (0 < k.1) (0 ≡ k.1) (k.1 < 0) → is_gt (ordering_then o p) ≡ false
-    by Less p is also = refl
-    by Equal Less is also = refl
-    by Equal Equal is also = refl
-    by Equal Greater is also = absurd (omega (arith, also))
-    by Greater p is also = absurd (omega (arith, is, most))
-
-under_units : (x y : ℕ × ℕ) → IsUnder x y → x.0 ≤ y.0
-under_units x y (inl lt) = omega (arith, lt)
-under_units x y (inr lt) = omega (arith, lt.0)
-
--- behind a key that has the least units, only the key counts; with more units than it, only the units
-pub behind_into : (least : ℕ) (after k : ℕ × ℕ) → IsFrom least (Some after) k → IsAfter pair_cmp (Some after) k
-behind_into least after k from = is_under after k from.1
-
-pub behind_back : (least : ℕ) (after k : ℕ × ℕ) → least ≤ after.0 → IsAfter pair_cmp (Some after) k → IsFrom least (Some after) k
-behind_back least after k most behind = let u = under after k behind in (omega (arith, most, under_units after k u), u)
-
-pub from_into : (least : ℕ) (after : Option (ℕ × ℕ)) (k : ℕ × ℕ) → IsFrom least after k → IsLeBy pair_cmp (least, 0) k
-from_into least None k from = from_least least k from
-from_into least (Some after) k from = from_least least k from.0
-
-pub from_back : (least : ℕ) (after : Option (ℕ × ℕ)) (k : ℕ × ℕ) → IfSome after (λ (x : ℕ × ℕ). x.0 < least) → IsLeBy pair_cmp (least, 0) k → IsFrom least after k
-from_back least None k none le = le_first (least, 0) k le
-from_back least (Some after) k below le = let m = le_first (least, 0) k le in (m, inl (omega (arith, below, m)))
-
 -- ---- the account that has least
 
-abbrev standing : Option (Unit {0})
-standing = Some tt
-
--- an account stands under its units where it has a row
-stands_is : (k : ℕ × ℕ) (rows : List Entry) (u : Unit {0}) → stands_at k rows ≡ Some u → (list_any (is_of k.1) rows ≡ true) × (k.0 ≡ units_in k.1 rows)
-stands_is k rows u is = by (of_account k.1 rows) refl is
+-- what stands at an account that has a balance
+balance_there : (a : ℕ) (rows : List Entry) (b : Balance) → balance_at a rows ≡ Some b → (list_any (is_of a) rows ≡ true) × (b.units ≡ units_in a rows) × (b.account ≡ a)
+balance_there a rows b is = by (of_account a rows) refl is
   where
-    by : (xs : List Entry) → of_account k.1 rows ≡ xs → cond (has_units k.0 (balance_of xs)) standing None ≡ Some u → (list_any (is_of k.1) rows ≡ true) × (k.0 ≡ units_in k.1 rows)
-    by [] are is = absurd (none-some u is)
+    by : (xs : List Entry) → of_account a rows ≡ xs → balance_of a xs ≡ Some b → (list_any (is_of a) rows ≡ true) × (b.units ≡ units_in a rows) × (b.account ≡ a)
+    by [] are is = absurd (none-some b is)
     by (x ∷ xs) are is =
-        let h = in_filter (is_of k.1) rows x (subst (IsIn x) (sym are) (inl refl)) in
-        let units : (k.0 == sum_by units_of_entry (x ∷ xs)) ≡ true = elim (k.0 == sum_by units_of_entry (x ∷ xs)) as (λ r. cond r standing None ≡ Some u → r ≡ true) [ true ↦ λ _. refl | false ↦ λ e. absurd (none-some u e) ] is in
-        (in_any (is_of k.1) rows x h.0 h.1, (Decides-eqb k.0 (sum_by units_of_entry (x ∷ xs))).0 units ∙ ap (sum_by units_of_entry) (sym are))
+        let h = in_filter (is_of a) rows x (subst (IsIn x) (sym are) (inl refl)) in (
+          in_any (is_of a) rows x h.0 h.1,
+          ap (λ o. option_map_or (λ (y : Balance). y.units) o 0) (sym is) ∙ ap (sum_by units_of_entry) (sym are),
+          ap (λ o. option_map_or (λ (y : Balance). y.account) o a) (sym is),
+        )
 
-is_standing : (rows : List Entry) (e : Entry) → IsIn e rows → stands_at (units_in e.1.account rows, e.1.account) rows ≡ standing
-is_standing rows e there = by (of_account e.1.account rows) refl
+-- the account of a row has a balance
+row_balance : (rows : List Entry) (e : Entry) → IsIn e rows → balance_at e.1.account rows ≡ Some (record { account = e.1.account; units = units_in e.1.account rows; count = length (of_account e.1.account rows) })
+row_balance rows e there = by (of_account e.1.account rows) (kept_in (is_of e.1.account) rows e there ((Decides-eqb e.1.account e.1.account).1 refl))
   where
-    by : (xs : List Entry) → of_account e.1.account rows ≡ xs → cond (has_units (units_in e.1.account rows) (balance_of xs)) standing None ≡ standing
-    by [] are = absurd (subst (IsIn e) are (kept_in (is_of e.1.account) rows e there ((Decides-eqb e.1.account e.1.account).1 refl)))
-    by (x ∷ xs) are =
-        let same : (units_in e.1.account rows == sum_by units_of_entry (x ∷ xs)) ≡ true = (Decides-eqb (units_in e.1.account rows) (sum_by units_of_entry (x ∷ xs))).1 (ap (sum_by units_of_entry) are) in
-        ap (λ r. cond r standing None) same
+    by : (xs : List Entry) → IsIn e xs → balance_of e.1.account xs ≡ Some (record { account = e.1.account; units = sum_by units_of_entry xs; count = length xs })
+    by [] none = absurd none
+    by (x ∷ xs) there = refl
 
-some_is : (o : Option (Unit {0})) → o ≡ standing → IsSome o
-some_is o is = subst IsSome (sym is) refl
+-- the order of measures is that of units, and of numbers where the units are the same
+pub below_is : (a b : Balance) → a.account < 2 ^ 64 → measure a ≤ measure b → IsAtMost (a.units, a.account) (b.units, b.account)
+below_is a b fits le =
+    elim (nat_lt a.units b.units) as (λ r. nat_lt a.units b.units ≡ r → IsAtMost (a.units, a.account) (b.units, b.account)) [
+      | true ↦ λ is. inl (ltb-true a.units b.units is)
+      | false ↦ λ is. let not = ltb-false a.units b.units is in inr (omega (arith, not, fits, le), omega (arith, not, fits, le))
+    ] refl
 
--- keys of the order that pass a test, and accounts whose balances pass it
-module _ (o : List ((ℕ × ℕ) × Unit {0})) (rows : List Entry) (at : (k : ℕ × ℕ) → get pair_cmp o k ≡ stands_at k rows) (Passes Test : ℕ × ℕ → Type 0)
-    (into : (k : ℕ × ℕ) → Passes k → Test k) where
-  pub least_is : ((k : ℕ × ℕ) → Test k → Passes k) → (k : ℕ × ℕ) (u : Unit {0}) → IsLeast pair_cmp o Test (k, u) → IsLeastBalance rows Passes k
-  least_is back k u least =
-      let h = stands_is k rows u (sym (at k) ∙ least.value) in
+module _ (o : List (ℕ × Balance)) (rows : List Entry) (at : (a : ℕ) → get nat_cmp o a ≡ balance_at a rows) where
+  pub least_is : (account : ℕ) (b : Balance) → account < 2 ^ 64 → IsLowest nat_cmp measure o (account, b) → IsLeastBalance rows (b.units, account)
+  least_is account b fits lowest =
+      let h = balance_there account rows b (sym (at account) ∙ lowest.value) in
       record {
         is = record { there = h.0; units = h.1 };
-        passes = back k least.passes;
-        least = all_from_in (λ e. Passes (balance_of_row rows e) → IsAtMost k (balance_of_row rows e)) rows (λ e there passes.
-            at_most k (balance_of_row rows e) (least.least (balance_of_row rows e) (into (balance_of_row rows e) passes) (some_is (get pair_cmp o (balance_of_row rows e)) (at (balance_of_row rows e) ∙ is_standing rows e there))));
+        least = all_from_in (λ e. IsAtMost (b.units, account) (balance_of_row rows e)) rows (λ e there. (
+            let v : Balance = record { account = e.1.account; units = units_in e.1.account rows; count = length (of_account e.1.account rows) } in
+            subst (λ n. IsAtMost (b.units, n) (balance_of_row rows e)) h.2
+            (below_is b v (subst (λ n. n < 2 ^ 64) (sym h.2) fits) (lowest.lowest e.1.account v (at e.1.account ∙ row_balance rows e there)))));
       }
 
-  pub none_passes : HasNone pair_cmp o Test → HasNoBalance rows Passes
-  none_passes none = all_from_in (λ e. Passes (balance_of_row rows e) → ⊥) rows (λ e there passes. none-some tt (sym (none (balance_of_row rows e) (into (balance_of_row rows e) passes)) ∙ at (balance_of_row rows e) ∙ is_standing rows e there))
-
--- the same of the answer of a search
-module _ (o : List ((ℕ × ℕ) × Unit {0})) (rows : List Entry) (at : (k : ℕ × ℕ) → get pair_cmp o k ≡ stands_at k rows) (Passes Test : ℕ × ℕ → Type 0)
-    (into : (k : ℕ × ℕ) → Passes k → Test k) where
-  pub some_least : ((k : ℕ × ℕ) → Test k → Passes k) → (found : Option (ℕ × ℕ)) → IfSome found (λ k. IsLeast pair_cmp o Test (k, tt)) → IfSome found (IsLeastBalance rows Passes)
-  some_least back (Some k) least = least_is o rows at Passes Test into back k tt least
-  some_least back None least = tt
-
-  pub none_least : (found : Option (ℕ × ℕ)) → IfNone found (HasNone pair_cmp o Test) → IfNone found (HasNoBalance rows Passes)
-  none_least (Some k) none = tt
-  none_least None none = none_passes o rows at Passes Test into none
-
-pub no_rows : (rows : List Entry) → HasNoBalance rows Any → rows ≡ []
-no_rows [] none = refl
-no_rows (e ∷ rows) none = absurd (none.0 tt)
+  pub no_rows : HasNone nat_cmp o (λ q. ⊤) → rows ≡ []
+  no_rows none = by rows (λ e there. none-some _ (sym (none e.1.account tt) ∙ at e.1.account ∙ row_balance rows e there))
+    where
+      by : (xs : List Entry) → ((e : Entry) → IsIn e xs → ⊥) → xs ≡ []
+      by [] none = refl
+      by (e ∷ xs) none = absurd (none e (inl refl))
 
 -- ---- the balance of an account
 
-pub units_is : (xs : List Entry) → option_map_or (λ (b : Balance). b.units) (balance_of xs) 0 ≡ sum_by units_of_entry xs
-units_is [] = refl
-units_is (x ∷ xs) = refl
+pub units_is : (a : ℕ) (xs : List Entry) → option_map_or (λ (b : Balance). b.units) (balance_of a xs) 0 ≡ sum_by units_of_entry xs
+units_is a [] = refl
+units_is a (x ∷ xs) = refl
 
 -- ---- the sources of an account, one behind the other
 
@@ -358,6 +285,6 @@ counted_out rows account from turns so_far is past = by is.left refl
     by [] are = refl
     by (e ∷ ls) are = absurd (omega (arith, past, ap length (is.split ∙ ap (λ l. so_far ++ l) are), length-append so_far (e ∷ ls), is.counted))
 
-pub count_of_balance : (xs : List Entry) → option_map_or (λ (b : Balance). b.count) (balance_of xs) 0 ≡ length xs
-count_of_balance [] = refl
-count_of_balance (x ∷ xs) = refl
+pub count_of_balance : (a : ℕ) (xs : List Entry) → option_map_or (λ (b : Balance). b.count) (balance_of a xs) 0 ≡ length xs
+count_of_balance a [] = refl
+count_of_balance a (x ∷ xs) = refl

@@ -1,37 +1,19 @@
 -- One source more, or one less: what it makes of the tables. These words mirror the code.
-use Rattle.std.specs.Prelude.{◌≡◌, ℕ, ◌+◌, ◌-◌, ◌≤◌, ◌==◌, ◌&&◌, Bool, false, List, Option, Some, None, option_map, if◌then◌else◌}
-use Rattle.std.specs.Option.{IfSome, option_map_or}
+use Rattle.std.specs.Prelude.{◌≡◌, ℕ, ◌+◌, ◌-◌, ◌==◌, ◌&&◌, List, Option, Some, None, option_map, if◌then◌else◌}
 use Rattle.dubp_cond.specs.declared.source.SourceId.{SourceId}
-use Rattle.dubp_undo.specs.MovingTable.{MovingTable, IsPlaced, PlacesStay}
 use Rattle.dubp_sindex.specs.declared.rows.Balance.{Balance}
 use Rattle.dubp_sindex.specs.declared.change.Change.{Change}
 use Rattle.dubp_sindex.specs.Rows.{Entry, row_at, same_source}
-use Rattle.dubp_sindex.specs.Derived.{pair_cmp, id_at, balance_at}
+use Rattle.dubp_sindex.specs.Derived.{id_at, balance_at}
 
 -- a balance with one source more of these units, and with one less
-abbrev pub joined : Option Balance → ℕ → Balance
-joined None units = record { units = units; count = 1 }
-joined (Some b) units = record { units = b.units + units; count = b.count + 1 }
+abbrev pub joined : Option Balance → ℕ → ℕ → Balance
+joined None account units = record { account = account; units = units; count = 1 }
+joined (Some b) account units = record { account = account; units = b.units + units; count = b.count + 1 }
 
 abbrev pub parted : Option Balance → ℕ → Option Balance
 parted None units = None
-parted (Some b) units = if b.count == 1 then None else Some (record { units = b.units - units; count = b.count - 1 })
-
--- where an account with this balance stands in the order of balances
-abbrev pub place_of : ℕ → Option Balance → Option (ℕ × ℕ)
-place_of account balance = option_map (λ b. (b.units, account)) balance
-
-abbrev pub is_key : ℕ × ℕ → Option (ℕ × ℕ) → Bool
-is_key k key = option_map_or (λ x. k.0 == x.0 && k.1 == x.1) key false
-
--- a key of the order that can be set so many times without memory
-abbrev pub IsReady : ℕ → Option (ℕ × ℕ) → MovingTable (ℕ × ℕ) (Unit {0}) → Type 0
-IsReady n key t = IfSome key (λ k. IsPlaced pair_cmp k t.placed × (n ≤ t.room))
-
--- what was placed stays so, and at most one set is taken from the room
-pub record TakesOne (old new : MovingTable (ℕ × ℕ) (Unit {0})) : Type 0 where
-  pub placed : PlacesStay pair_cmp old.placed new.placed
-  pub room : old.room ≤ new.room + 1
+parted (Some b) units = if b.count == 1 then None else Some (record { account = b.account; units = b.units - units; count = b.count - 1 })
 
 -- the account has this balance after, and each other what it had
 abbrev pub IsMoved : ℕ → Option Balance → List Entry → List Entry → Type 0

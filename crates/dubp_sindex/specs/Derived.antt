@@ -1,6 +1,5 @@
 -- The tables that are kept beside the sources, as functions of the rows. Protocol: money.
-use Rattle.std.specs.Prelude.{ℕ, ◌==◌, ◌&&◌, Bool, false, List, [], ◌∷◌, sum_by, Option, Some, None, option_map, find, length, if◌then◌else◌}
-use Rattle.std.specs.Option.{option_map_or}
+use Rattle.std.specs.Prelude.{ℕ, ◌+◌, ◌-◌, ◌*◌, ◌^◌, min, ◌==◌, ◌&&◌, Bool, List, [], ◌∷◌, sum_by, Option, Some, None, option_map, find, length}
 use Rattle.std.specs.Ordering.{nat_cmp, ordering_then}
 use Rattle.std.specs.declared.cmp.Ordering.{Ordering}
 use Rattle.dubp_cond.specs.declared.source.SourceId.{SourceId}
@@ -19,16 +18,13 @@ abbrev pub id_at : ℕ × ℕ → List Entry → Option SourceId
 id_at k rows = option_map (λ e. e.0) (find (is_placed_at k) rows)
 
 -- balances: the units of an account that has a row, and how many it has
-abbrev pub balance_of : List Entry → Option Balance
-balance_of [] = None
-balance_of (e ∷ es) = Some (record { units = sum_by units_of_entry (e ∷ es); count = length (e ∷ es) })
+abbrev pub balance_of : ℕ → List Entry → Option Balance
+balance_of account [] = None
+balance_of account (e ∷ es) = Some (record { account = account; units = sum_by units_of_entry (e ∷ es); count = length (e ∷ es) })
 
 abbrev pub balance_at : ℕ → List Entry → Option Balance
-balance_at account rows = balance_of (of_account account rows)
+balance_at account rows = balance_of account (of_account account rows)
 
--- the order of balances: each account that has a row stands under its units
-abbrev pub has_units : ℕ → Option Balance → Bool
-has_units units balance = option_map_or (λ b. units == b.units) balance false
-
-abbrev pub stands_at : ℕ × ℕ → List Entry → Option (Unit {0})
-stands_at k rows = if has_units k.0 (balance_at k.1 rows) then Some tt else None
+-- the place of a balance among all: by its units, and then by the number of its account, which is below 2^64
+abbrev pub measure : Balance → ℕ
+measure b = b.units * 2 ^ 64 + min b.account (2 ^ 64 - 1)

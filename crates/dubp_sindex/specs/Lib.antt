@@ -1,5 +1,4 @@
 pub mod Accounts
-pub mod Balances
 pub mod Changes
 pub mod Derived
 pub mod Numbering

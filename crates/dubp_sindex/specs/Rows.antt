@@ -77,9 +77,6 @@ pub record IsNewRow (rows : List Entry) (e : Entry) : Type 0 where
 abbrev pub IsAtMost : ℕ × ℕ → ℕ × ℕ → Type 0
 IsAtMost x y = (x.0 < y.0) ⊎ ((x.0 ≡ y.0) × (x.1 ≤ y.1))
 
-abbrev pub IsUnder : ℕ × ℕ → ℕ × ℕ → Type 0
-IsUnder x y = (x.0 < y.0) ⊎ ((x.0 ≡ y.0) × (x.1 < y.1))
-
 -- the balance of the account of a row
 abbrev pub balance_of_row : List Entry → Entry → ℕ × ℕ
 balance_of_row rows e = (units_in e.1.account rows, e.1.account)
@@ -89,12 +86,7 @@ pub record IsBalance (rows : List Entry) (balance : ℕ × ℕ) : Type 0 where
   pub there : IsTrue (list_any (is_of balance.1) rows)
   pub units : balance.0 ≡ units_in balance.1 rows
 
--- it is the balance of an account that passes the test, and no account that has a row and passes has less
-pub record IsLeastBalance (rows : List Entry) (Passes : ℕ × ℕ → Type 0) (balance : ℕ × ℕ) : Type 0 where
+-- it is the balance of an account, and no account that has a row has less
+pub record IsLeastBalance (rows : List Entry) (balance : ℕ × ℕ) : Type 0 where
   pub is : IsBalance rows balance
-  pub passes : Passes balance
-  pub least : AllByRecursion (λ e. Passes (balance_of_row rows e) → IsAtMost balance (balance_of_row rows e)) rows
-
--- no account that has a row passes the test
-abbrev pub HasNoBalance : List Entry → (ℕ × ℕ → Type 0) → Type 0
-HasNoBalance rows Passes = AllByRecursion (λ e. Passes (balance_of_row rows e) → ⊥) rows
+  pub least : AllByRecursion (λ e. IsAtMost balance (balance_of_row rows e)) rows

@@ -1,4 +1,4 @@
--- The four tables along a chain of states, newest first: each state is the rows that stand after a block, and each table is a function
+-- The three tables along a chain of states, newest first: each state is the rows that stand after a block, and each table is a function
 -- of the newest. Protocol: money.
 use Rattle.std.specs.Prelude.{ℕ, List, [], Option}
 use Rattle.dubp_cond.specs.declared.source.SourceId.{SourceId}
@@ -6,7 +6,7 @@ use Rattle.dubp_undo.specs.States.{newest}
 use Rattle.dubp_sindex.specs.declared.rows.SourceRow.{SourceRow}
 use Rattle.dubp_sindex.specs.declared.rows.Balance.{Balance}
 use Rattle.dubp_sindex.specs.Rows.{Entry, row_at}
-use Rattle.dubp_sindex.specs.Derived.{id_at, balance_at, stands_at}
+use Rattle.dubp_sindex.specs.Derived.{id_at, balance_at}
 
 abbrev pub States : Type 0
 States = List (List Entry)
@@ -23,6 +23,3 @@ places_of s k = id_at k (rows_of s)
 
 abbrev pub balances_of : States → ℕ → Option Balance
 balances_of s account = balance_at account (rows_of s)
-
-abbrev pub order_of : States → ℕ × ℕ → Option (Unit {0})
-order_of s k = stands_at k (rows_of s)

@@ -3,7 +3,7 @@ ghost use Rattle.std.specs.List.{list_any, position_or_len};
 ghost use Rattle.dubp_atoms.specs.Same.{same_text};
 ghost use Rattle.dubp_sindex.specs.Numbering.{AreApart, number_of, with_text};
 
-use dubp_atoms::NoMemory;
+use dubp_atoms::{NoMemory, Secret};
 use indexmap::IndexSet;
 use std::alloc::Global;
 use std::marker::Model;
@@ -14,7 +14,7 @@ use std::marker::Model;
 #[derive(Drop)]
 pub struct Accounts {
     alloc: Global,
-    texts: IndexSet<Vec<u8>>,
+    texts: IndexSet<Vec<u8>, Secret>,
 }
 
 impl Model for Accounts {
@@ -27,13 +27,13 @@ impl Model for Accounts {
 }
 
 impl Accounts {
-    /// No text. It takes no memory.
-    pub fn new(alloc: Global) -> Accounts
+    /// No text. The secret is what the texts are hashed by. It takes no memory.
+    pub fn new(alloc: Global, secret: Secret) -> Accounts
         ensures { result ≡ [] }
     {
         Accounts {
             alloc,
-            texts: IndexSet::new(alloc),
+            texts: IndexSet::with_hasher(alloc, secret),
         }
     }
 
@@ -85,7 +85,7 @@ fn copy(alloc: Global, text: &[u8]) -> Result<Vec<u8>, NoMemory>
 }
 
 // The place of the text, which goes last where it is new.
-fn put_last(texts: &mut IndexSet<Vec<u8>>, text: Vec<u8>) -> Result<usize, NoMemory>
+fn put_last(texts: &mut IndexSet<Vec<u8>, Secret>, text: Vec<u8>) -> Result<usize, NoMemory>
     ensures place { IfOk result (λ n. n ≡ position_or_len (λ v. same_text text.items v.items) texts.old.keys) }
     ensures keys { OnOk result (texts.new.keys ≡ (if list_any (λ v. same_text text.items v.items) texts.old.keys then texts.old.keys else texts.old.keys ++ text ∷ [])) }
     ensures refused { OnErr result (texts.new.keys ≡ texts.old.keys) }

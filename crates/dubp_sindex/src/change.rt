@@ -1,11 +1,8 @@
 ghost use Rattle.std.specs.Prelude.{◌≡◌, ◌+◌, ◌≤◌, ◌∷◌, List, min, option_map, IfOk, OnOk, OnErr};
 ghost use Rattle.dubp_sindex.specs.Rows.{Entry, units};
-ghost use Rattle.dubp_sindex.specs.Derived.{balance_at};
 ghost use Rattle.dubp_sindex.specs.States.{States, rows_of};
-ghost use Rattle.dubp_sindex.specs.Changes.{IsMoved, IsChanged, joined, parted};
+ghost use Rattle.dubp_sindex.specs.Changes.{IsChanged, joined, parted};
 
-use crate::balances::BalanceTables;
-use crate::order::move_place;
 use crate::rows::{Balance, SourceRow, SourceRows, SourceTables};
 use dubp_atoms::{NoMemory, Steps};
 use dubp_cond::SourceId;
@@ -31,16 +28,21 @@ pub fn units_of(row: SourceRow) -> u128
     u128::from(row.amount) * 10_u128.pow(u32::from(row.base.min(MAX_BASE)))
 }
 
-/// The balance with one source more. `NoMemory` where a number of it would leave its range.
-pub fn join(before: Option<Balance>, units: u128) -> Result<Balance, NoMemory>
-    ensures { IfOk result (λ balance. balance ≡ joined before units) }
+/// The balance of the account with one source more. `NoMemory` where a number of it would leave its range.
+pub fn join(before: Option<Balance>, account: usize, units: u128) -> Result<Balance, NoMemory>
+    ensures { IfOk result (λ balance. balance ≡ joined before account units) }
 {
     match before {
         Some(balance) => Ok(Balance {
+            account,
             units: balance.units.checked_add(units).ok_or(NoMemory)?,
             count: balance.count.checked_add(1).ok_or(NoMemory)?,
         }),
-        None => Ok(Balance { units, count: 1 }),
+        None => Ok(Balance {
+            account,
+            units,
+            count: 1,
+        }),
     }
 }
 
@@ -53,34 +55,11 @@ pub fn part(before: Option<Balance>, units: u128) -> Option<Balance>
         None
     } else {
         Some(Balance {
+            account: balance.account,
             units: balance.units.saturating_sub(units),
             count: balance.count.saturating_sub(1),
         })
     }
-}
-
-/// The account, whose balance was `before`, has the balance `after`. At most three sets.
-///
-/// `NoMemory` where there is no memory for its keys; then both tables are as they were.
-fn move_balance<L: StepBook>(
-    tables: &mut BalanceTables,
-    account: usize,
-    before: Option<Balance>,
-    after: Option<Balance>,
-    steps: &mut Steps<L>,
-) -> Result<(), NoMemory>
-    ensures at { OnOk result ((s t : States) (rows : List Entry) → ⟦<BalanceTables as Tables<SourceRows>>⟧.at tables.old s → before ≡ balance_at account (rows_of s) → IsMoved account after (rows_of s) rows → ⟦<BalanceTables as Tables<SourceRows>>⟧.at tables.new (rows ∷ t)) }
-    ensures others { ⟦<BalanceTables as Tables<SourceRows>>⟧.others tables.new ≡ ⟦<BalanceTables as Tables<SourceRows>>⟧.others tables.old }
-    ensures count { ⟦<BalanceTables as Tables<SourceRows>>⟧.count tables.new + steps.old ≤ ⟦<BalanceTables as Tables<SourceRows>>⟧.count tables.old + steps.new }
-    ensures steps { OnOk result (steps.new ≤ steps.old + 3) }
-
-    ensures refused { OnErr result (⟦<BalanceTables as Tables<SourceRows>>⟧.now tables.new ≡ ⟦<BalanceTables as Tables<SourceRows>>⟧.now tables.old) }
-    ensures no_step { OnErr result (steps.new ≡ steps.old) }
-{
-    tables.tables.first.ready(account, 1)?;
-    move_place(&mut tables.tables.second, account, before, after, steps)?;
-    tables.tables.first.set(account, after, steps)?;
-    Ok(())
 }
 
 // The source of this name, where it has a row.
@@ -93,7 +72,7 @@ fn owner(row: Option<SourceRow>, id: &SourceId) -> Option<SourceId>
     }
 }
 
-/// Makes the change of the source in each table. At most five sets.
+/// Makes the change of the source in each table. Three sets.
 ///
 /// `NoMemory` where there is no memory for its keys; then every table is as it was.
 pub fn put<L: StepBook>(
@@ -113,13 +92,8 @@ pub fn put<L: StepBook>(
     let owner = owner(change.row, id);
     tables.first.ready(*id, 1)?;
     tables.second.ready(change.place, 1)?;
-    move_balance(
-        &mut tables.third,
-        change.place.0,
-        change.before,
-        change.after,
-        steps,
-    )?;
+    tables.third.ready(change.place.0, 1)?;
+    tables.third.set(change.place.0, change.after, steps)?;
     tables.second.set(change.place, owner, steps)?;
     tables.first.set(*id, change.row, steps)?;
     Ok(())

@@ -1,4 +1,4 @@
-//! The index of unspent sources: which sources are unspent, those of each account, and the balances of accounts in order.
+//! The index of unspent sources: which sources are unspent, those of each account, and the balances of accounts with the least.
 //!
 //! Contracts see the index by whose rows it has. A state is the list of rows `(SourceId, SourceRow)` in the order of making
 //! (`specs/Rows.antt`); the index stands for a chain of states, newest first, as `dubp_undo` says of its `Tables`. Accounts
@@ -17,10 +17,8 @@
 #![tactic(auto)]
 
 mod accounts;
-mod balances;
 mod change;
 mod laws;
-mod order;
 mod reading;
 mod rows;
 mod sindex;

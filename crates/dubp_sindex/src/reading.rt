@@ -1,16 +1,13 @@
-ghost use Rattle.std.specs.Prelude.{◌≡◌, ◌++◌, ◌∷◌, ◌<◌, ◌≤◌, [], Some, OnOk, IfOk, IfSome, IfNone};
+ghost use Rattle.std.specs.Prelude.{◌≡◌, ◌<◌, ◌^◌, ◌++◌, ◌∷◌, [], OnOk, IfOk, IfSome, IfNone};
 ghost use Rattle.std.specs.Option.{option_map_or};
 ghost use Rattle.std.specs.Ordering.{nat_cmp};
 ghost use Rattle.dubp_cond.specs.SourceOrder.{derived_cmp};
-ghost use Rattle.dubp_undo.specs.MovingTable.{get, IsLeast, HasNone, IsAfter};
-ghost use Rattle.std.specs.BTreeMap.Range.{IsLeBy};
-ghost use Rattle.dubp_sindex.specs.Derived.{pair_cmp};
-ghost use Rattle.dubp_sindex.specs.Balances.{Any, IsFrom};
-ghost use Rattle.dubp_sindex.specs.Rows.{AreRows, IsLeastBalance, HasNoBalance, row_at, of_account, units_in};
+ghost use Rattle.dubp_undo.specs.MovingTable.{get};
+ghost use Rattle.dubp_sindex.specs.Rows.{AreRows, IsLeastBalance, row_at, of_account, units_in};
 ghost use Rattle.dubp_sindex.specs.States.{States, rows_of};
 
 use crate::SIndex;
-use crate::rows::{SourceRow, SourceRows};
+use crate::rows::{Balance, SourceRow, SourceRows};
 use dubp_atoms::NoMemory;
 use dubp_cond::SourceId;
 use dubp_undo::Tables;
@@ -28,61 +25,29 @@ impl SIndex {
     pub fn balance(&self, account: usize) -> u128
         ensures { (s : States) → ⟦<SIndex as Tables<SourceRows>>⟧.at self.now s → result ≡ units_in account (rows_of s) }
     {
-        match self.tables.third.tables.first.get(account) {
+        match self.tables.third.get(account) {
             Some(balance) => balance.units,
             None => 0,
         }
     }
 
     /// The least balance among accounts with an unspent source, and its account: the least number of those that have it.
-    /// `None` where no source is unspent. It takes no memory.
+    /// `None` where no source is unspent. It takes no memory, and one look.
     pub fn lowest(&self) -> Option<(u128, usize)>
-        ensures found { (s : States) → ⟦<SIndex as Tables<SourceRows>>⟧.at self.now s → IfSome result (IsLeastBalance (rows_of s) Any) }
+        ensures found { (s : States) → ⟦<SIndex as Tables<SourceRows>>⟧.at self.now s → IfSome result (IsLeastBalance (rows_of s)) }
         ensures none { (s : States) → ⟦<SIndex as Tables<SourceRows>>⟧.at self.now s → IfNone result (rows_of s ≡ []) }
     {
-        match self.tables.third.tables.second.next_after(None) {
-            Some((lowest, _)) => Some(lowest),
-            None => None,
-        }
-    }
-
-    /// The least balance of at least `least` units among accounts with an unspent source, and its account; where `after` is
-    /// given, the least behind it, by units and then by number. `None` where there is none. It takes no memory.
-    pub fn next_balance(&self, least: u128, after: Option<(u128, usize)>) -> Option<(u128, usize)>
-        ensures found { (s : States) → ⟦<SIndex as Tables<SourceRows>>⟧.at self.now s → IfSome result (IsLeastBalance (rows_of s) (IsFrom least after)) }
-        ensures none { (s : States) → ⟦<SIndex as Tables<SourceRows>>⟧.at self.now s → IfNone result (HasNoBalance (rows_of s) (IsFrom least after)) }
-    {
-        match behind(least, after) {
-            Some(key) => self.balance_behind(key),
-            None => self.balance_from(least),
-        }
-    }
-
-    fn balance_behind(&self, key: (u128, usize)) -> Option<(u128, usize)>
-        ensures found { IfSome result (λ k. IsLeast pair_cmp self.now.tables.third.tables.second.table.now (IsAfter pair_cmp (Some key)) (k, tt)) }
-        ensures none { IfNone result (HasNone pair_cmp self.now.tables.third.tables.second.table.now (IsAfter pair_cmp (Some key))) }
-    {
-        match self.tables.third.tables.second.next_after(Some(key)) {
-            Some((found, ())) => Some(found),
-            None => None,
-        }
-    }
-
-    fn balance_from(&self, least: u128) -> Option<(u128, usize)>
-        ensures found { IfSome result (λ k. IsLeast pair_cmp self.now.tables.third.tables.second.table.now (IsLeBy pair_cmp (least, 0)) (k, tt)) }
-        ensures none { IfNone result (HasNone pair_cmp self.now.tables.third.tables.second.table.now (IsLeBy pair_cmp (least, 0))) }
-    {
-        match self.tables.third.tables.second.next_from((least, 0)) {
-            Some((found, ())) => Some(found),
+        match self.tables.third.lowest() {
+            Some((account, balance)) => Some(units_of(account, balance)),
             None => None,
         }
     }
 
     // How many unspent sources the account has.
     fn count_of(&self, account: usize) -> usize
-        ensures { result ≡ option_map_or (λ b. b.count) (get nat_cmp self.now.tables.third.tables.first.table.now account) 0 }
+        ensures { result ≡ option_map_or (λ b. b.count) (get nat_cmp self.now.tables.third.table.now account) 0 }
     {
-        match self.tables.third.tables.first.get(account) {
+        match self.tables.third.get(account) {
             Some(balance) => balance.count,
             None => 0,
         }
@@ -127,13 +92,12 @@ impl SIndex {
     }
 }
 
-// The balance behind which a search begins, where it has at least so many units.
-fn behind(least: u128, after: Option<(u128, usize)>) -> Option<(u128, usize)>
-    ensures kept { IfSome result (λ k. (after ≡ Some k) × (least ≤ k.0)) }
-    ensures dropped { IfNone result (IfSome after (λ k. k.0 < least)) }
+// The units of the account, whose number has 64 bits.
+fn units_of(account: usize, balance: Balance) -> (u128, usize)
+    ensures value { result ≡ (balance.units, account) }
+    ensures fits { account < 2 ^ 64 }
 {
-    let key = after?;
-    if least <= key.0 { Some(key) } else { None }
+    (balance.units, account)
 }
 
 fn put_entry(

@@ -1,9 +1,10 @@
-ghost use Rattle.std.specs.Prelude.{List, []};
-ghost use Rattle.dubp_sindex.specs.States.{sources_of, places_of, balances_of, order_of};
+ghost use Rattle.std.specs.Prelude.{◌≡◌, List, []};
+ghost use Rattle.dubp_sindex.specs.States.{sources_of, places_of, balances_of};
+ghost use Rattle.dubp_sindex.specs.Derived.{measure};
 
-use crate::balances::BalanceTables;
+use dubp_atoms::Secret;
 use dubp_cond::SourceId;
-use dubp_undo::{Definition, Leaf, Three};
+use dubp_undo::{ByHash, ByNumber, Definition, Found, Leaf, Least, Measure, NoSummary, Three};
 use std::marker::Model;
 
 /// An unspent source.
@@ -21,9 +22,10 @@ pub struct SourceRow {
     pub order: u64,
 }
 
-/// What an account with unspent sources has: their units together, and their number.
+/// What an account with unspent sources has: its number, their units together, and how many they are.
 #[derive(Clone, Copy, Debug, PartialEq, Eq)]
 pub struct Balance {
+    pub account: usize,
     pub units: u128,
     pub count: usize,
 }
@@ -64,18 +66,32 @@ impl Definition<SourceRows, usize, Balance> for BalancesOf {
     ghost at = { balances_of };
 }
 
-/// Each account that has an unspent source, under its units.
-pub struct OrderOf;
+/// Balances are in the order of their units, and of the numbers of their accounts where these are the same.
+pub struct ByUnits;
 
-impl Definition<SourceRows, (u128, usize), ()> for OrderOf {
-    ghost at = { order_of };
+impl Measure<Balance> for ByUnits {
+    ghost measure = { measure };
+
+    fn is_below(value: &Balance, other: &Balance) -> bool {
+        value.units < other.units || (value.units == other.units && value.account < other.account)
+    }
 }
 
 /// The table of rows.
-pub type Sources = Leaf<SourceRows, SourceId, SourceRow, SourcesOf>;
+pub type Sources = Found<
+    SourceRows,
+    SourceId,
+    SourceRow,
+    SourcesOf,
+    ByHash<SourceId, Secret>,
+    NoSummary,
+>;
 
 /// The sources of each account, in the order of making.
 pub type Places = Leaf<SourceRows, (usize, u64), SourceId, PlacesOf>;
 
-/// The four tables.
-pub type SourceTables = Three<SourceRows, Sources, Places, BalanceTables>;
+/// The balances of accounts, with the least of them.
+pub type Balances = Found<SourceRows, usize, Balance, BalancesOf, ByNumber, Least<ByUnits>>;
+
+/// The three tables.
+pub type SourceTables = Three<SourceRows, Sources, Places, Balances>;

@@ -6,12 +6,11 @@ ghost use Rattle.dubp_sindex.specs.Numbering.{AreApart, number_of, with_text};
 ghost use Rattle.dubp_sindex.specs.States.{States};
 
 use crate::accounts::Accounts;
-use crate::balances::BalanceTables;
-use crate::rows::{SourceRows, SourceTables};
+use crate::rows::{Balance, SourceRows, SourceTables};
 use arrayvec::ArrayVec;
-use dubp_atoms::{Line, NoMemory, Steps};
+use dubp_atoms::{Line, NoMemory, Secret, Steps};
 use dubp_cond::{Cond, put_cond};
-use dubp_undo::{Leaf, Tables, Three};
+use dubp_undo::{ByHash, ByNumber, Found, Leaf, Least, NoSummary, Tables, Three};
 use std::alloc::Global;
 use std::sync::ledger::Ledger as StepBook;
 
@@ -88,21 +87,23 @@ impl Tables<SourceRows> for SIndex {
 }
 
 // The tables in which nothing stands.
-fn no_tables(alloc: Global) -> SourceTables
+fn no_tables(alloc: Global, secret: Secret) -> SourceTables
     ensures at { ⟦<SourceTables as Tables<SourceRows>>⟧.at result [] }
     ensures count { ⟦<SourceTables as Tables<SourceRows>>⟧.count result ≡ 0 }
     ensures kept { (⟦<SourceTables as Tables<SourceRows>>⟧.others result).kept ≡ [] }
     ensures ahead { (⟦<SourceTables as Tables<SourceRows>>⟧.others result).ahead ≡ [] }
 {
-    Three::new(
-        Leaf::new(alloc),
-        Leaf::new(alloc),
-        BalanceTables::new(alloc),
-    )
+    let sources = Found::over(ByHash::new(alloc, secret), NoSummary, alloc);
+    let places = Leaf::new(alloc);
+    let least = Least::new::<Balance>(alloc);
+    let balances = Found::over(ByNumber::new(alloc), least, alloc);
+    let tables = Three::new(sources, places, balances);
+    tables
 }
 
 impl SIndex {
-    /// The index in which no source is unspent, and no account has a number. It takes no memory.
+    /// The index in which no source is unspent, and no account has a number, hashed by the secret that everybody knows. It takes
+    /// no memory.
     pub fn new(alloc: Global) -> SIndex
         ensures at { ⟦<SIndex as Tables<SourceRows>>⟧.at result [] }
         ensures count { ⟦<SIndex as Tables<SourceRows>>⟧.count result ≡ 0 }
@@ -110,9 +111,20 @@ impl SIndex {
         ensures ahead { (⟦<SIndex as Tables<SourceRows>>⟧.others result).ahead ≡ [] }
         ensures accounts { accounts result ≡ [] }
     {
+        SIndex::with_secret(alloc, Secret::known())
+    }
+
+    /// The same index, whose accounts and sources are hashed by this secret.
+    pub fn with_secret(alloc: Global, secret: Secret) -> SIndex
+        ensures at { ⟦<SIndex as Tables<SourceRows>>⟧.at result [] }
+        ensures count { ⟦<SIndex as Tables<SourceRows>>⟧.count result ≡ 0 }
+        ensures kept { (⟦<SIndex as Tables<SourceRows>>⟧.others result).kept ≡ [] }
+        ensures ahead { (⟦<SIndex as Tables<SourceRows>>⟧.others result).ahead ≡ [] }
+        ensures accounts { accounts result ≡ [] }
+    {
         SIndex {
-            tables: no_tables(alloc),
-            accounts: Accounts::new(alloc),
+            tables: no_tables(alloc, secret),
+            accounts: Accounts::new(alloc, secret),
         }
     }
 

@@ -49,8 +49,8 @@ impl SIndex {
         ensures refused { OnErr result (⟦<SIndex as Tables<SourceRows>>⟧.now self.new ≡ ⟦<SIndex as Tables<SourceRows>>⟧.now self.old) }
         ensures no_step { OnErr result (steps.new ≡ steps.old) }
     {
-        let before = self.tables.third.tables.first.get(row.account);
-        let after = join(before, units_of(row))?;
+        let before = self.tables.third.get(row.account);
+        let after = join(before, row.account, units_of(row))?;
         let change = Change {
             row: Some(row),
             place: (row.account, row.order),
@@ -90,7 +90,7 @@ impl SIndex {
         let Some(row) = self.tables.first.get(*id) else {
             return Ok(());
         };
-        let before = self.tables.third.tables.first.get(row.account);
+        let before = self.tables.third.get(row.account);
         let change = Change {
             row: None,
             place: (row.account, row.order),

@@ -16,7 +16,7 @@ loop-init c = λ s at_sources at_places at_balances are. subst (IsFound (rows_of
 pub loop-preserved : goal.loop-preserved
 loop-preserved c = λ s at_sources at_places at_balances are.
     let rows = rows_of s in
-    let counted = c.count_of-end.ensures ∙ ap (λ b. option_map_or (λ (x : Balance). x.count) b 0) (at_balances c.args.account) ∙ count_of_balance (of_account c.args.account rows) in
+    let counted = c.count_of-end.ensures ∙ ap (λ b. option_map_or (λ (x : Balance). x.count) b 0) (at_balances c.args.account) ∙ count_of_balance c.args.account (of_account c.args.account rows) in
     found_more c.args.self.now.tables.second.table.now rows are are.in_range at_places c.args.account c.loop.from c.loop.counter c.loop.found.items (c.in-Some.owner, c.in-Some.order) c.in-Some.id
     c.in-Some.ensures.found c.if-owner-account.true c.saturating_add-from.result c.put_source.new.found.items (c.loop.invariant s at_sources at_places at_balances are) (omega arith)
     (next_place c.in-Some.order c.saturating_add-from.result c.saturating_add-from.ensures)
@@ -25,8 +25,8 @@ loop-preserved c = λ s at_sources at_places at_balances are.
 pub returns : goal.returns
 returns c = λ s at are.
     let rows = rows_of s in
-    let is = c.loop.invariant s at.0 at.1 at.2.0 are in
-    let counted = c.count_of-end.ensures ∙ ap (λ b. option_map_or (λ (x : Balance). x.count) b 0) (at.2.0 c.args.account) ∙ count_of_balance (of_account c.args.account rows) in
+    let is = c.loop.invariant s at.0 at.1 at.2 are in
+    let counted = c.count_of-end.ensures ∙ ap (λ b. option_map_or (λ (x : Balance). x.count) b 0) (at.2 c.args.account) ∙ count_of_balance c.args.account (of_account c.args.account rows) in
     elim c.loop-test.branch [
       | else-loop-test w ↦ all_found rows c.args.account c.loop.from c.loop.counter c.loop.found.items is
           (counted_out rows c.args.account c.loop.from c.loop.counter c.loop.found.items is (omega (arith, counted, w.loop-test.false)))

@@ -10,5 +10,5 @@ use Rattle.dubp_sindex.proofs.sindex.SIndex.sources.Given as goal
 -- whatever rows the tables have, the first sources of the account were found
 abbrev pub invariant-loop : goal.invariant-loop
 invariant-loop l =
-    (s : States) → IsAt derived_cmp sources_of l.self.tables.first.table.now s → IsAt pair_cmp places_of l.self.tables.second.table.now s → IsAt nat_cmp balances_of l.self.tables.third.tables.first.table.now s
+    (s : States) → IsAt derived_cmp sources_of l.self.tables.first.table.now s → IsAt pair_cmp places_of l.self.tables.second.table.now s → IsAt nat_cmp balances_of l.self.tables.third.table.now s
     → AreRows (rows_of s) → IsFound (rows_of s) l.account l.from l.counter l.found.items
