@@ -2,25 +2,26 @@
 use Rattle.std.proofs.Common.{◌≡◌, ℕ, ◌+◌, ◌-◌, ◌<◌, ◌≤◌, Bool, true, false, cond, not, ◌||◌, ◌&&◌, ◌==◌, List, [], ◌∷◌, ◌++◌, Option, Some, None, option_map, filter, length, sum_by, nat_lt, refl, ap, sym, ◌∙◌, subst, true≢false, inl, inr, arith, append-nil, length-append, zero-add, min}
 use Rattle.std.specs.Prelude.{find}
 use Rattle.std.specs.Option.{option_or}
-use Rattle.std.specs.List.{list_any, AllByRecursion}
+use Rattle.std.specs.List.{list_any}
 use Rattle.std.specs.Ordering.{nat_cmp, ordering_then, is_eq}
 use Rattle.std.specs.declared.cmp.Ordering.{Ordering}
 use Rattle.std.specs.declared.cmp.Ordering.TheVariants.{Less, Equal, Greater}
 use Rattle.std.proofs.lemmas.List.Elements.{filter-append, filter_agree}
 use Rattle.std.proofs.lemmas.List.Filters.{length-filter_both, sum_by-filter_both}
 use Rattle.std.proofs.lemmas.List.Sums.{sum_by-cons, sum_by-append}
-use Rattle.std.proofs.lemmas.Bool.{ltb-true}
+use Rattle.std.proofs.lemmas.Bool.{ltb-true, ltb-false, le-ltb}
+use Rattle.std.proofs.lemmas.List.Folds.{find-append, list_any-append}
 use Rattle.std.proofs.lemmas.Bool.Decides.{Decides-eqb}
 use Rattle.std.proofs.lemmas.Map.Text.{is_eq-slice_cmp}
 use Rattle.dubp_cond.specs.declared.source.SourceId.{SourceId}
 use Rattle.dubp_cond.specs.declared.source.SourceId.TheVariants.{D, T}
 use Rattle.dubp_cond.specs.SourceOrder.{derived_cmp}
 use Rattle.dubp_sindex.specs.declared.rows.Balance.{Balance}
-use Rattle.dubp_sindex.specs.Rows.{Entry, same_source, units, units_of_entry, is_of, is_named, of_account, row_at, without, Rises, IsBelow, IsInRange, IsNewRow, AreRows}
+use Rattle.dubp_sindex.specs.Rows.{Entry, same_source, units, units_of_entry, is_of, is_named, of_account, row_at, without, Rises, IsBelow, IsInRange, IsNewRow, IsFreeRow, is_before, with_row, AreRows}
 use Rattle.dubp_sindex.specs.Derived.{pair_cmp, is_placed_at, id_at, balance_of, balance_at}
 use Rattle.dubp_sindex.specs.Changes.{joined, parted, IsChanged}
-use Rattle.dubp_sindex.proofs.Elements.{and_right, is_false, not_true, IsIn, in_all, all_append, all_from_in, in_any, none_in, in_filter, kept_in, filter_on, filter_true, filter_twice}
-use Rattle.dubp_sindex.proofs.Once.{once-filter, once-append, sum_of_one, each_once-map}
+use Rattle.dubp_sindex.proofs.Elements.{and_right, or_left, is_false, not_true, IsIn, in_left, in_right, in_append, in_all, all_from_in, in_any, none_in, in_filter, kept_in, filter_on, filter_true, filter_twice}
+use Rattle.dubp_sindex.proofs.Once.{once-filter, once-append, once-parts, sum_of_one, each_once-map}
 use Rattle.dubp_sindex.proofs.Sources.{same_source_is, same_source_own, OnceEach, once_each, one_of_name}
 
 -- ---- keys that compare as equal
@@ -48,11 +49,6 @@ tied_sources (T t m) (T t' m') = is_eq_then _ (nat_cmp m m') ∙ (λ i. is_eq-sl
 
 -- ---- what is found at a key
 
-find-push : (p : Entry → Bool) (rows : List Entry) (r : Entry) → find p (rows ++ r ∷ []) ≡ option_or (find p rows) (cond (p r) (Some r) None)
-find-push p [] r = refl
-find-push p (x ∷ rows) r =
-    elim (p x) as (λ k. cond k (Some x) (find p (rows ++ r ∷ [])) ≡ option_or (cond k (Some x) (find p rows)) (cond (p r) (Some r) None)) [ true ↦ refl | false ↦ find-push p rows r ]
-
 find_none : (p : Entry → Bool) (rows : List Entry) → list_any p rows ≡ false → find p rows ≡ None
 find_none p [] none = refl
 find_none p (x ∷ rows) none =
@@ -69,18 +65,14 @@ find_kept p q (x ∷ rows) same =
 
 module _ {A : Type 0} where
   -- where the new row passes and no other does
-  pub put_found : (f : Entry → A) (p : Entry → Bool) (rows : List Entry) (r : Entry) → (p r ≡ true → list_any p rows ≡ false)
-      → option_map f (find p (rows ++ r ∷ [])) ≡ cond (p r) (Some (f r)) (option_map f (find p rows))
-  put_found f p rows r none =
-      ap (option_map f) (find-push p rows r)
-      ∙ elim (p r) as (λ k. p r ≡ k → option_map f (option_or (find p rows) (cond k (Some r) None)) ≡ cond k (Some (f r)) (option_map f (find p rows))) [
-        | true ↦ λ is. ap (λ o. option_map f (option_or o (Some r))) (find_none p rows (none is))
-        | false ↦ λ _. by_either (find p rows)
+  pub put_found : (f : Entry → A) (p : Entry → Bool) (front back rows : List Entry) → front ++ back ≡ rows → (r : Entry) → (p r ≡ true → list_any p rows ≡ false)
+      → option_map f (find p (front ++ r ∷ back)) ≡ cond (p r) (Some (f r)) (option_map f (find p rows))
+  put_found f p front back rows are r none =
+      ap (option_map f) (find-append p front (r ∷ back))
+      ∙ elim (p r) as (λ k. p r ≡ k → option_map f (option_or (find p front) (cond k (Some r) (find p back))) ≡ cond k (Some (f r)) (option_map f (find p rows))) [
+        | true ↦ λ is. ap (λ o. option_map f (option_or o (Some r))) (find_none p front (or_left (list_any p front) (list_any p back) (sym (list_any-append p front back) ∙ ap (list_any p) are ∙ none is)))
+        | false ↦ λ _. ap (option_map f) (sym (find-append p front back) ∙ ap (find p) are)
       ] refl
-    where
-      by_either : (o : Option Entry) → option_map f (option_or o None) ≡ option_map f o
-      by_either None = refl
-      by_either (Some x) = refl
 
   -- a row that passes alone is gone, and no other is
   pub gone_found : (f : Entry → A) (p : Entry → Bool) (rows : List Entry) (r : Entry) → OnceEach rows → IsIn r rows → ((x : Entry) → IsIn x rows → p x ≡ true → p r ≡ true → x ≡ r)
@@ -112,58 +104,147 @@ one_of_order (z ∷ zs) rises x y (inr there) (inr there') same = one_of_order z
 
 -- ---- one source more
 
-module _ (rows : List Entry) (r : Entry) (order : AreRows rows) (new : IsNewRow rows r) where
-  pub made_row : (id : SourceId) → row_at id (rows ++ r ∷ []) ≡ cond (same_source id r.0) (Some r.1) (row_at id rows)
+-- none of the rows has the name of the source, nor its place
+pub record IsFree (rows : List Entry) (r : Entry) : Type 0 where
+  pub unnamed : list_any (is_named r.0) rows ≡ false
+  pub unplaced : (x : Entry) → IsIn x rows → x.1.order ≡ r.1.order → ⊥
+
+pub free_behind : (rows : List Entry) (r : Entry) → IsNewRow rows r → IsFree rows r
+free_behind rows r new = record {
+  unnamed = new.unnamed;
+  unplaced = λ x there same. omega (arith, in_all (λ (e : Entry). e.1.order < r.1.order) rows new.behind x there, same);
+}
+
+pub free_between : (rows : List Entry) (r : Entry) → IsFreeRow rows r → IsFree rows r
+free_between rows r free = record {
+  unnamed = free.unnamed;
+  unplaced = λ x there same. true≢false (sym (in_any (λ (y : Entry). y.1.order == r.1.order) rows x there ((Decides-eqb x.1.order r.1.order).1 same)) ∙ free.unplaced);
+}
+
+-- the new row stands between the others
+module _ (front back rows : List Entry) (are : front ++ back ≡ rows) (r : Entry) (free : IsFree rows r) where
+  pub made_row : (id : SourceId) → row_at id (front ++ r ∷ back) ≡ cond (same_source id r.0) (Some r.1) (row_at id rows)
   made_row id =
-      put_found (λ (e : Entry). e.1) (is_named id) rows r
-      (λ is. subst (λ name. list_any (is_named name) rows ≡ false) (sym (same_source_is id r.0 is)) new.unnamed)
+      put_found (λ (e : Entry). e.1) (is_named id) front back rows are r
+      (λ is. subst (λ name. list_any (is_named name) rows ≡ false) (sym (same_source_is id r.0 is)) free.unnamed)
 
-  pub made_place : (k : ℕ × ℕ) → id_at k (rows ++ r ∷ []) ≡ cond (is_placed_at k r) (Some r.0) (id_at k rows)
+  pub made_place : (k : ℕ × ℕ) → id_at k (front ++ r ∷ back) ≡ cond (is_placed_at k r) (Some r.0) (id_at k rows)
   made_place k =
-      put_found (λ (e : Entry). e.0) (is_placed_at k) rows r
+      put_found (λ (e : Entry). e.0) (is_placed_at k) front back rows are r
       (λ is. none_in (is_placed_at k) rows (λ x there. is_false (is_placed_at k x) (λ also.
-      omega (
-        arith,
-        in_all (λ (e : Entry). e.1.order < r.1.order) rows new.behind x there,
-        (Decides-eqb k.1 r.1.order).0 (and_right (k.0 == r.1.account) (k.1 == r.1.order) is),
-        (Decides-eqb k.1 x.1.order).0 (and_right (k.0 == x.1.account) (k.1 == x.1.order) also),
-      ))))
+      free.unplaced x there (sym ((Decides-eqb k.1 x.1.order).0 (and_right (k.0 == x.1.account) (k.1 == x.1.order) also)) ∙ (Decides-eqb k.1 r.1.order).0 (and_right (k.0 == r.1.account) (k.1 == r.1.order) is)))))
 
-  balance-push : (a : ℕ) (xs : List Entry) → balance_of a (xs ++ r ∷ []) ≡ Some (joined (balance_of a xs) a (units_of_entry r))
-  balance-push a [] = ap (λ n. Some (record { account = a; units = n; count = 1 })) (zero-add (units_of_entry r))
-  balance-push a (x ∷ xs) = λ i. Some (record { account = a; units = whole i; count = counted i })
+  balance_between : (a : ℕ) (xs ys : List Entry) → balance_of a (xs ++ r ∷ ys) ≡ Some (joined (balance_of a (xs ++ ys)) a (units_of_entry r))
+  balance_between a [] [] = ap (λ n. Some (record { account = a; units = n; count = 1 })) (zero-add (units_of_entry r))
+  balance_between a [] (y ∷ ys) = λ i. Some (record { account = a; units = whole i; count = counted i })
     where
-      whole : sum_by units_of_entry ((x ∷ xs) ++ r ∷ []) ≡ sum_by units_of_entry (x ∷ xs) + units_of_entry r
-      whole = sum_by-append units_of_entry (x ∷ xs) (r ∷ []) ∙ ap (λ n. sum_by units_of_entry (x ∷ xs) + n) (zero-add (units_of_entry r))
+      whole : sum_by units_of_entry (r ∷ y ∷ ys) ≡ sum_by units_of_entry (y ∷ ys) + units_of_entry r
+      whole = omega (arith, sum_by-cons units_of_entry r (y ∷ ys))
 
-      counted : length ((x ∷ xs) ++ r ∷ []) ≡ length (x ∷ xs) + 1
-      counted = omega (arith, length-append (x ∷ xs) (r ∷ []))
+      counted : length (r ∷ y ∷ ys) ≡ length (y ∷ ys) + 1
+      counted = omega arith
+  balance_between a (x ∷ xs) ys = λ i. Some (record { account = a; units = whole i; count = counted i })
+    where
+      whole : sum_by units_of_entry ((x ∷ xs) ++ r ∷ ys) ≡ sum_by units_of_entry ((x ∷ xs) ++ ys) + units_of_entry r
+      whole = omega (arith, sum_by-append units_of_entry (x ∷ xs) (r ∷ ys), sum_by-append units_of_entry (x ∷ xs) ys, sum_by-cons units_of_entry r ys)
 
-  pub made_balance : (account : ℕ) → balance_at account (rows ++ r ∷ []) ≡ cond (account == r.1.account) (Some (joined (balance_at account rows) r.1.account (units_of_entry r))) (balance_at account rows)
+      counted : length ((x ∷ xs) ++ r ∷ ys) ≡ length ((x ∷ xs) ++ ys) + 1
+      counted = omega (arith, length-append (x ∷ xs) (r ∷ ys), length-append (x ∷ xs) ys)
+
+  pub made_balance : (account : ℕ) → balance_at account (front ++ r ∷ back) ≡ cond (account == r.1.account) (Some (joined (balance_at account rows) r.1.account (units_of_entry r))) (balance_at account rows)
   made_balance account =
-      ap (balance_of account) (filter-append (is_of account) rows (r ∷ []))
-      ∙ elim (account == r.1.account) as (λ k. (account == r.1.account) ≡ k → balance_of account (of_account account rows ++ cond k (r ∷ []) []) ≡ cond k (Some (joined (balance_at account rows) r.1.account (units_of_entry r))) (balance_at account rows)) [
-        | true ↦ λ is. balance-push account (of_account account rows) ∙ ap (λ n. Some (joined (balance_at account rows) n (units_of_entry r))) ((Decides-eqb account r.1.account).0 is)
-        | false ↦ λ is. ap (balance_of account) (append-nil (of_account account rows))
+      let of_rows : of_account account front ++ of_account account back ≡ of_account account rows = sym (filter-append (is_of account) front back) ∙ ap (of_account account) are in
+      ap (balance_of account) (filter-append (is_of account) front (r ∷ back))
+      ∙ elim (account == r.1.account) as (λ k. (account == r.1.account) ≡ k → balance_of account (of_account account front ++ cond k (r ∷ of_account account back) (of_account account back)) ≡ cond k (Some (joined (balance_at account rows) r.1.account (units_of_entry r))) (balance_at account rows)) [
+        | true ↦ λ is. balance_between account (of_account account front) (of_account account back) ∙ (λ i. Some (joined (balance_of account (of_rows i)) ((Decides-eqb account r.1.account).0 is i) (units_of_entry r)))
+        | false ↦ λ is. ap (balance_of account) of_rows
       ] refl
 
-  rises-push : (xs : List Entry) → Rises xs → AllByRecursion (λ (e : Entry). e.1.order < r.1.order) xs → Rises (xs ++ r ∷ [])
-  rises-push [] rises behind = (tt, tt)
-  rises-push (x ∷ xs) rises behind = (all_append (λ (e : Entry). x.1.order < e.1.order) xs (r ∷ []) rises.0 (behind.0, tt), rises-push xs rises.1 behind.1)
+-- a row between others, where all before it come earlier, and all behind it later
+pub made_rows : (front back : List Entry) (r : Entry) → AreRows (front ++ back) → IsFree (front ++ back) r → IsInRange r → ((x : Entry) → IsIn x front → x.1.order < r.1.order) → ((x : Entry) → IsIn x back → r.1.order < x.1.order)
+    → AreRows (front ++ r ∷ back)
+made_rows front back r order free fits before behind = record {
+  once = each_once-map same_source (λ (e : Entry). e.0) (front ++ r ∷ back) ∙ once_between;
+  rises = rises_between front back order.rises before behind;
+  in_range = all_from_in IsInRange (front ++ r ∷ back) (λ x there. elim (in_append x front (r ∷ back) there) [
+    | inl early ↦ in_all IsInRange (front ++ back) order.in_range x (in_left x front back early)
+    | inr late ↦ elim late [
+      | inl same ↦ subst IsInRange (sym same) fits
+      | inr later ↦ in_all IsInRange (front ++ back) order.in_range x (in_right x front back later)
+    ]
+  ]);
+}
+  where
+    once : OnceEach (front ++ back)
+    once = once_each (front ++ back) order
 
-  pub made_rows : AreRows (rows ++ r ∷ [])
-  made_rows = record {
-    once =
-        each_once-map same_source (λ (e : Entry). e.0) (rows ++ r ∷ [])
-        ∙ once-append same_source same_source_is same_source_own (λ (e : Entry). e.0) rows (r ∷ []) (once_each rows order) refl
-        (λ x y there last. is_false (same_source x.0 y.0) (λ same.
-        elim last [
-          | inl e ↦ true≢false (sym (in_any (is_named r.0) rows x there (subst (λ id. same_source r.0 id ≡ true) (sym (same_source_is x.0 y.0 same ∙ ap (λ (w : Entry). w.0) e)) (same_source_own r.0))) ∙ new.unnamed)
-          | inr none ↦ none
-        ]));
-    rises = rises-push rows order.rises new.behind;
-    in_range = all_append IsInRange rows (r ∷ []) order.in_range (new.in_range, tt);
-  }
+    other : (x : Entry) → IsIn x (front ++ back) → same_source r.0 x.0 ≡ false
+    other x there = is_false (same_source r.0 x.0) (λ same. true≢false (sym (in_any (is_named r.0) (front ++ back) x there same) ∙ free.unnamed))
+
+    cons_once : (ys : List Entry) → OnceEach ys → ((y : Entry) → IsIn y ys → same_source r.0 y.0 ≡ false) → OnceEach (r ∷ ys)
+    cons_once ys o apart = let none = none_in (λ (y : Entry). same_source r.0 y.0) ys apart in rw none o
+
+    once_between : OnceEach (front ++ r ∷ back)
+    once_between =
+        let parts = once-parts same_source same_source_is same_source_own (λ (e : Entry). e.0) front back once in
+        once-append same_source same_source_is same_source_own (λ (e : Entry). e.0) front (r ∷ back) parts.0
+        (cons_once back parts.1 (λ y there. other y (in_right y front back there)))
+        (λ x y there late. elim late [
+          | inl same ↦ is_false (same_source x.0 y.0) (λ e. (
+              let is : x.0 ≡ r.0 = same_source_is x.0 y.0 e ∙ ap (λ (w : Entry). w.0) same in
+              true≢false (sym (subst (λ id. same_source r.0 id ≡ true) (sym is) (same_source_own r.0)) ∙ other x (in_left x front back there))))
+          | inr later ↦ is_false (same_source x.0 y.0) (λ e. (
+              let is : x ≡ y = one_of_name (front ++ back) once x y (in_left x front back there) (in_right y front back later) e in
+              omega (arith, before x there, behind y later, ap (λ (w : Entry). w.1.order) is)))
+        ])
+
+    rises_between : (xs ys : List Entry) → Rises (xs ++ ys) → ((x : Entry) → IsIn x xs → x.1.order < r.1.order) → ((y : Entry) → IsIn y ys → r.1.order < y.1.order) → Rises (xs ++ r ∷ ys)
+    rises_between [] ys rises earlier later = (all_from_in (λ (e : Entry). r.1.order < e.1.order) ys later, rises)
+    rises_between (x ∷ xs) ys rises earlier later = (
+      all_from_in (λ (e : Entry). x.1.order < e.1.order) (xs ++ r ∷ ys) (λ y there. elim (in_append y xs (r ∷ ys) there) [
+        | inl early ↦ in_all (λ (e : Entry). x.1.order < e.1.order) (xs ++ ys) rises.0 y (in_left y xs ys early)
+        | inr late ↦ elim late [
+          | inl same ↦ subst (λ (w : Entry). x.1.order < w.1.order) (sym same) (earlier x (inl refl))
+          | inr after ↦ in_all (λ (e : Entry). x.1.order < e.1.order) (xs ++ ys) rises.0 y (in_right y xs ys after)
+        ]
+      ]),
+      rises_between xs ys rises.1 (λ y there. earlier y (inr there)) later,
+    )
+
+filter_false : (xs : List Entry) → filter (λ (x : Entry). false) xs ≡ []
+filter_false [] = refl
+filter_false (x ∷ xs) = filter_false xs
+
+-- those before the place, and those behind it, are all rows
+pub before_first : (rows : List Entry) (e : Entry) → Rises rows → filter (is_before e) rows ++ filter (λ x. not (is_before e x)) rows ≡ rows
+before_first [] e rises = refl
+before_first (x ∷ rows) e rises =
+    elim (is_before e x) as (λ k. is_before e x ≡ k → cond k (x ∷ filter (is_before e) rows) (filter (is_before e) rows) ++ cond (not k) (x ∷ filter (λ y. not (is_before e y)) rows) (filter (λ y. not (is_before e y)) rows) ≡ x ∷ rows) [
+      | true ↦ λ _. ap (λ l. x ∷ l) (before_first rows e rises.1)
+      | false ↦ λ late. (
+          let after : (y : Entry) → IsIn y rows → is_before e y ≡ false = λ y there. le-ltb y.1.order e.1.order (omega (arith, ltb-false x.1.order e.1.order late, in_all (λ (z : Entry). x.1.order < z.1.order) rows rises.0 y there)) in
+          let none : filter (is_before e) rows ≡ [] = filter_on (is_before e) (λ y. false) rows after ∙ filter_false rows in
+          let all : filter (λ y. not (is_before e y)) rows ≡ rows = filter_on (λ y. not (is_before e y)) (λ y. true) rows (λ y there. ap not (after y there)) ∙ filter_true rows in
+          λ i. none i ++ x ∷ all i)
+    ] refl
+
+pub placed_rows : (rows : List Entry) (e : Entry) → AreRows rows → IsFreeRow rows e → AreRows (with_row e rows)
+placed_rows rows e order free =
+    let are = before_first rows e order.rises in
+    made_rows (filter (is_before e) rows) (filter (λ x. not (is_before e x)) rows) e (subst AreRows (sym are) order) (subst (λ l. IsFree l e) (sym are) (free_between rows e free)) free.in_range
+    (λ x there. ltb-true x.1.order e.1.order (in_filter (is_before e) rows x there).1)
+    (λ x there. (
+    let h = in_filter (λ y. not (is_before e y)) rows x there in
+    let late = ltb-false x.1.order e.1.order (not_true (is_before e x) h.1) in
+    elim (nat_lt e.1.order x.1.order) as (λ k. nat_lt e.1.order x.1.order ≡ k → e.1.order < x.1.order) [
+      | true ↦ λ lt. ltb-true e.1.order x.1.order lt
+      | false ↦ λ ge. absurd ((free_between rows e free).unplaced x h.0 (omega (arith, late, ltb-false e.1.order x.1.order ge)))
+    ] refl))
+
+pub behind_rows : (rows : List Entry) (e : Entry) → AreRows rows → IsNewRow rows e → AreRows (rows ++ e ∷ [])
+behind_rows rows e order new =
+    made_rows rows [] e (subst AreRows (sym (append-nil rows)) order) (subst (λ l. IsFree l e) (sym (append-nil rows)) (free_behind rows e new)) new.in_range
+    (λ x there. in_all (λ (y : Entry). y.1.order < e.1.order) rows new.behind x there) (λ x none. absurd none)
 
 -- ---- one source less
 
@@ -278,16 +359,17 @@ own_account a account f rows before old =
 
 -- ---- the rows, and what becomes of a source
 
-module _ (rows : List Entry) (r : Entry) (before : Option Balance) (was : before ≡ balance_at r.1.account rows) (are : AreRows rows) where
-  pub is_made : IsNewRow rows r → (after : Balance) → after ≡ joined before r.1.account (units_of_entry r)
-      → IsChanged r.0 (record { row = Some r.1; place = (r.1.account, r.1.order); before = before; after = Some after }) rows (rows ++ r ∷ [])
-  is_made new after is = record {
-    source = made_row rows r are new;
-    place = made_place rows r are new;
+module _ (rows : List Entry) (r : Entry) (before : Option Balance) (was : before ≡ balance_at r.1.account rows) where
+  pub is_made : (front back : List Entry) → front ++ back ≡ rows → IsFree rows r → (after : Balance) → after ≡ joined before r.1.account (units_of_entry r)
+      → IsChanged r.0 (record { row = Some r.1; place = (r.1.account, r.1.order); before = before; after = Some after }) rows (front ++ r ∷ back)
+  is_made front back are free after is = record {
+    source = made_row front back rows are r free;
+    place = made_place front back rows are r free;
     before = was;
-    after = λ a. made_balance rows r are new a ∙ own_account a r.1.account (λ x. Some (joined x r.1.account (units_of_entry r))) rows before was ∙ ap (λ b. cond (a == r.1.account) (Some b) (balance_at a rows)) (sym is);
+    after = λ a. made_balance front back rows are r free a ∙ own_account a r.1.account (λ x. Some (joined x r.1.account (units_of_entry r))) rows before was ∙ ap (λ b. cond (a == r.1.account) (Some b) (balance_at a rows)) (sym is);
   }
 
+module _ (rows : List Entry) (r : Entry) (before : Option Balance) (was : before ≡ balance_at r.1.account rows) (are : AreRows rows) where
   pub is_gone : IsIn r rows → (after : Option Balance) → after ≡ parted before (units_of_entry r)
       → IsChanged r.0 (record { row = None; place = (r.1.account, r.1.order); before = before; after = after }) rows (without r.0 rows)
   is_gone there after is = record {

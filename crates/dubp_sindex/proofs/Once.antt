@@ -46,6 +46,14 @@ module _ {X K : Type 0} (eq : K → K → Bool) (is : (a b : K) → eq a b ≡ t
       ∙ none_in (λ y. eq (key x) (key y)) ys (λ y there. apart x y (inl refl) there) in
       rw none rest
 
+  pub once-parts : (xs ys : List X) → Once (xs ++ ys) → Once xs × Once ys
+  once-parts [] ys o = (refl, o)
+  once-parts (x ∷ xs) ys o =
+      let rest = once-parts xs ys (once_tail x (xs ++ ys) o) in
+      let none : list_any (λ y. eq (key x) (key y)) xs ≡ false =
+      or_left (list_any (λ y. eq (key x) (key y)) xs) (list_any (λ y. eq (key x) (key y)) ys) (sym (list_any-append (λ y. eq (key x) (key y)) xs ys) ∙ once_head x (xs ++ ys) o) in
+      (rw none rest.0, rest.1)
+
   -- elements with other keys are named by no key at once
   pub apart : {I : Type 0} (name : I → K) (x : X) (i : I) (is' : List I) → eq (key x) (name i) ≡ true
       → list_any (λ j. eq (name i) (name j)) is' ≡ false → list_any (λ j. eq (key x) (name j)) is' ≡ false

@@ -1,6 +1,6 @@
 -- The unspent sources as rows in the order of making, each with its name and the number of its account; what an account has, and
 -- which account has least. Protocol: money.
-use Rattle.std.specs.Prelude.{◌≡◌, ℕ, ◌*◌, ◌^◌, ◌<◌, ◌≤◌, ◌==◌, ◌&&◌, Bool, true, false, not, List, [], ◌∷◌, Option, option_map, filter, find, map, sum_by, IsTrue, ◌⊎◌, ⊤}
+use Rattle.std.specs.Prelude.{◌≡◌, ℕ, ◌*◌, ◌^◌, ◌<◌, ◌≤◌, ◌==◌, ◌&&◌, nat_lt, Bool, true, false, not, List, [], ◌∷◌, ◌++◌, Option, option_map, filter, find, map, sum_by, IsTrue, ◌⊎◌, ⊤}
 use Rattle.std.specs.List.{list_any, AllByRecursion}
 use Rattle.dubp_atoms.specs.Same.{same_text}
 use Rattle.dubp_cond.specs.declared.source.SourceId.{SourceId}
@@ -71,6 +71,19 @@ pub record AreRows (rows : List Entry) : Type 0 where
 pub record IsNewRow (rows : List Entry) (e : Entry) : Type 0 where
   pub unnamed : list_any (is_named e.0) rows ≡ false
   pub behind : AllByRecursion (λ (x : Entry). x.1.order < e.1.order) rows
+  pub in_range : IsInRange e
+
+-- the rows with one more, between those that were made before it and those behind it
+abbrev pub is_before : Entry → Entry → Bool
+is_before e x = nat_lt x.1.order e.1.order
+
+abbrev pub with_row : Entry → List Entry → List Entry
+with_row e rows = filter (is_before e) rows ++ e ∷ filter (λ x. not (is_before e x)) rows
+
+-- the source is not among the rows, and none of them has its place in the order of making
+pub record IsFreeRow (rows : List Entry) (e : Entry) : Type 0 where
+  pub unnamed : list_any (is_named e.0) rows ≡ false
+  pub unplaced : list_any (λ (x : Entry). x.1.order == e.1.order) rows ≡ false
   pub in_range : IsInRange e
 
 -- A balance is an account with its units, in the order of units, and of numbers where these are the same.

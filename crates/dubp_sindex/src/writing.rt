@@ -1,6 +1,6 @@
 ghost use Rattle.std.specs.Prelude.{◌≡◌, ◌+◌, ◌≤◌, ◌++◌, ◌∷◌, [], OnOk, OnErr};
 ghost use Rattle.dubp_sindex.specs.Accounts.{accounts};
-ghost use Rattle.dubp_sindex.specs.Rows.{AreRows, IsNewRow, without};
+ghost use Rattle.dubp_sindex.specs.Rows.{AreRows, IsNewRow, IsFreeRow, with_row, without};
 ghost use Rattle.dubp_sindex.specs.States.{States, rows_of};
 
 use crate::SIndex;
@@ -12,7 +12,7 @@ use dubp_undo::Tables;
 use std::sync::ledger::Ledger as StepBook;
 
 impl SIndex {
-    /// The source is unspent, with this row, behind all others in the order of making. At most five sets.
+    /// The source is unspent, with this row, whose place in the order of making no other has. At most five sets.
     ///
     /// `NoMemory` where there is no memory for its keys, or where a balance would leave its range; then all is as it was.
     pub fn make<L: StepBook>(
@@ -22,6 +22,7 @@ impl SIndex {
         steps: &mut Steps<L>,
     ) -> Result<(), NoMemory>
         ensures at { OnOk result ((s t : States) → ⟦<SIndex as Tables<SourceRows>>⟧.at self.old s → AreRows (rows_of s) → IsNewRow (rows_of s) (id, row) → ⟦<SIndex as Tables<SourceRows>>⟧.at self.new ((rows_of s ++ (id, row) ∷ []) ∷ t)) }
+        ensures between { OnOk result ((s t : States) → ⟦<SIndex as Tables<SourceRows>>⟧.at self.old s → AreRows (rows_of s) → IsFreeRow (rows_of s) (id, row) → ⟦<SIndex as Tables<SourceRows>>⟧.at self.new (with_row (id, row) (rows_of s) ∷ t)) }
         ensures others { ⟦<SIndex as Tables<SourceRows>>⟧.others self.new ≡ ⟦<SIndex as Tables<SourceRows>>⟧.others self.old }
         ensures count { ⟦<SIndex as Tables<SourceRows>>⟧.count self.new + steps.old ≤ ⟦<SIndex as Tables<SourceRows>>⟧.count self.old + steps.new }
         ensures steps { OnOk result (steps.new ≤ steps.old + 5) }
@@ -41,6 +42,7 @@ impl SIndex {
         steps: &mut Steps<L>,
     ) -> Result<(), NoMemory>
         ensures at { OnOk result ((s t : States) → ⟦<SIndex as Tables<SourceRows>>⟧.at self.old s → AreRows (rows_of s) → IsNewRow (rows_of s) (id.now, row) → ⟦<SIndex as Tables<SourceRows>>⟧.at self.new ((rows_of s ++ (id.now, row) ∷ []) ∷ t)) }
+        ensures between { OnOk result ((s t : States) → ⟦<SIndex as Tables<SourceRows>>⟧.at self.old s → AreRows (rows_of s) → IsFreeRow (rows_of s) (id.now, row) → ⟦<SIndex as Tables<SourceRows>>⟧.at self.new (with_row (id.now, row) (rows_of s) ∷ t)) }
         ensures others { ⟦<SIndex as Tables<SourceRows>>⟧.others self.new ≡ ⟦<SIndex as Tables<SourceRows>>⟧.others self.old }
         ensures count { ⟦<SIndex as Tables<SourceRows>>⟧.count self.new + steps.old ≤ ⟦<SIndex as Tables<SourceRows>>⟧.count self.old + steps.new }
         ensures steps { OnOk result (steps.new ≤ steps.old + 5) }
