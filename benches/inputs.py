@@ -99,6 +99,23 @@ def rivals_fail(stored: int = STORED) -> Iterator[bytes]:
         yield rival.verdict.encode() + offered(rival.command())
 
 
+def stored(condition: str, count: int = 16) -> Iterator[bytes]:
+    """A first block, and so many rivals behind it that are offered, each a megabyte of payments to this condition that keeps all rules on a block by itself."""
+    chain, members = blocks.Chain(), [blocks.Member(number) for number in range(GENERATED_ISSUERS)]
+    first = blocks.next_block(chain, blocks.key(0), len(members), blocks.sections_of_members(members))
+    yield "".join([*blocks.verdicts_of(members), first.verdict, first.command()]).encode()
+    for nonce in range(count):
+        lines, verdicts, length = [], [], 0
+        while length < MEGABYTE - 20_000:
+            place = len(lines)
+            made, signed = blocks.payment(blocks.key(1), chain.stamp(), [f"90:0:D:{blocks.key(1)}:{place}"], [f"1:0:{condition}"] * 90, place)
+            lines.append(made)
+            verdicts.append(blocks.verdict(blocks.key(1), signed))
+            length += len(made)
+        rival = blocks.next_block(copy.deepcopy(chain), blocks.key(2), len(members), blocks.sections(Transactions="".join(lines)), nonce=nonce * 1_000)
+        yield "".join([*(verdicts if nonce == 0 else []), rival.verdict]).encode() + offered(rival.command())
+
+
 def first_blocks() -> Iterator[bytes]:
     given = (HERE.parent / "examples/first_block.in").read_bytes().removeprefix(b"HEAD\n").removesuffix(b"HEAD\n")
     verdict, block = given.split(b"\n", 1)
@@ -153,6 +170,12 @@ def lines_and_frames() -> list[Workload]:
 def choices() -> list[Workload]:
     """What the node chooses among by itself."""
     return [Workload("path_chosen", path_chosen), Workload("rivals_fail", rivals_fail)]
+
+
+def blocks_stored() -> list[Workload]:
+    """Offered blocks of a megabyte, of conditions that take much room, and of others."""
+    nested, key = "(" * 63 + "CSV(0)" + ")" * 63, blocks.key(1)
+    return [Workload(f"stored_{name}", lambda given=given: stored(given)) for name, given in [("nested", nested), ("short", "CSV(0)"), ("signed", f"SIG({key})")]]
 
 
 def chains() -> list[Workload]:
