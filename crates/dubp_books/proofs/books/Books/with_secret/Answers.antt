@@ -1,10 +1,10 @@
 use Rattle.std.proofs.Common.{[], sym, subst}
 use Rattle.dubp_people.specs.OfRegistry.registry_tables_block as people
 use Rattle.dubp_money_checks.specs.OfMoney.money_tables_block as money
-use Rattle.dubp_books.proofs.books.Books.new.Goals as goal
+use Rattle.dubp_books.proofs.books.Books.with_secret.Goals as goal
 
 pub returns-clause-at : goal.returns-clause-at
 returns-clause-at c = (
-  subst (λ t. (people.ghosts).at t []) (sym c.new-3.ensures.first) c.new.ensures.at,
-  subst (λ t. (money.ghosts).at t []) (sym c.new-3.ensures.second) c.new-2.ensures.at,
+  subst (λ t. (people.ghosts).at t []) (sym c.new-2.ensures.first) c.new.ensures.at,
+  subst (λ t. (money.ghosts).at t []) (sym c.new-2.ensures.second) c.with_secret.ensures.at,
 )
