@@ -15,7 +15,7 @@ with open(os.environ["CALLED"], "a") as log:
 print("fn low::one: proved")
 print("statements std: modules loaded=0")
 print("fn high::two: not proved" if os.environ.get("FAILS") else "only=1 proved=1")
-sys.exit(1 if os.environ.get("FAILS") else 0)
+sys.exit(int(os.environ.get("FAILS", "0")))
 """
 
 
@@ -63,6 +63,10 @@ def test_each_function_is_one_check(call):
 def test_what_is_not_proved_is_told(call):
     status, out, _, _ = call("high", "two", FAILS="1")
     assert (status, out) == (1, ["fn high::two: not proved"])
+
+
+def test_where_the_prover_checked_nothing_the_status_is_another(call):
+    assert call("high", "two", FAILS="2")[0] == 2
 
 
 def test_a_wrong_body_is_planted_in_a_copy(call, repository):
