@@ -24,10 +24,6 @@ false_and : (b : Bool) → (b && false) ≡ false
 false_and true = refl
 false_and false = refl
 
-true_and : (b : Bool) → (b && true) ≡ b
-true_and true = refl
-true_and false = refl
-
 -- the same sign behind two texts tells nothing
 same_behind : (e : ℕ) (x k : Text) → same_text (x ++ e ∷ []) (k ++ e ∷ []) ≡ same_text x k
 same_behind e [] [] = ap (λ b. b && true) (eq-eqb e e refl)

@@ -18,14 +18,8 @@ use Rattle.dubp_forge.proofs.Passing.{rest_at}
 pub extends_same : (ps qs : List ℕ) → qs ≡ ps → Extends ps qs
 extends_same ps qs is = record { more = []; is = is ∙ sym (append-nil ps) }
 
-pub extends_push : (ps qs : List ℕ) (p : ℕ) → qs ≡ ps ++ p ∷ [] → Extends ps qs
-extends_push ps qs p is = record { more = p ∷ []; is = is }
-
 pub extends_through : (ps qs rs : List ℕ) → Extends ps qs → Extends qs rs → Extends ps rs
 extends_through ps qs rs e h = record { more = e.more ++ h.more; is = h.is ∙ ap (λ l. l ++ h.more) e.is ∙ append_assoc ps e.more h.more }
-
-pub extends_more : (ps qs : List ℕ) (p : ℕ) → Extends (ps ++ p ∷ []) qs → length ps < length qs
-extends_more ps qs p e = omega (arith, ap length e.is, length-append (ps ++ p ∷ []) e.more, length-append ps (p ∷ []))
 
 -- the places before, as many as there were
 pub taken_back : (ps qs : List ℕ) (p : ℕ) → Extends (ps ++ p ∷ []) qs → take (length ps) qs ≡ ps

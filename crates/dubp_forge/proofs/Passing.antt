@@ -41,9 +41,6 @@ certifies_more f key place docs now next d is passed offers on new rest =
     by true e = subst (λ x. Certifies f key (drop (place + 1) f.pool) x new) e rest
     by false e = subst (λ x. Certifies f key (drop (place + 1) f.pool) x new) e rest
 
-pub certifies_all : (f : Forging) (key : Text) (place : ℕ) (docs now : List Doc) → length f.pool ≤ place → CertifiesOn f key place docs now → Certifies f key f.pool docs now
-certifies_all f key place docs now all on = on now (subst (λ l. Certifies f key l now now) (sym (at_drop_all (λ l. l) f.pool place all)) refl)
-
 -- ---- a pass
 
 abbrev pub PassesOn : Forging → ℕ → List Doc → List Doc → Type 0

@@ -35,9 +35,6 @@ take-take (suc m) zero xs le = absurd (omega (arith, le))
 take-take (suc m) (suc n) [] le = refl
 take-take (suc m) (suc n) (x ∷ xs) le = ap (λ l. x ∷ l) (take-take m n xs (omega (arith, le)))
 
-pub all_but_last-take : {A : Type 0} (n : ℕ) (xs : List A) → n ≤ length xs → all_but_last (take n xs) ≡ take (n - 1) xs
-all_but_last-take n xs short = ap (λ k. take (k - 1) (take n xs)) (length-take-le n xs short) ∙ take-take (n - 1) n xs (omega arith)
-
 -- ---- places
 
 pub docs_at-append : (pool : List Doc) (ps qs : List ℕ) → docs_at pool (ps ++ qs) ≡ docs_at pool ps ++ docs_at pool qs
@@ -65,10 +62,6 @@ all_push P (y ∷ xs) x all p = (all.0, all_push P xs x all.1 p)
 pub all_front : {A : Type 0} (P : A → Type 0) (xs : List A) (x : A) → AllByRecursion P (xs ++ x ∷ []) → AllByRecursion P xs
 all_front P [] x all = tt
 all_front P (y ∷ xs) x all = (all.0, all_front P xs x all.1)
-
-pub all_last : {A : Type 0} (P : A → Type 0) (xs : List A) (x : A) → AllByRecursion P (xs ++ x ∷ []) → P x
-all_last P [] x all = all.0
-all_last P (y ∷ xs) x all = all_last P xs x all.1
 
 -- each document of the pool passes, so those at places of it do
 pub all_docs_at : (P : Doc → Type 0) (pool : List Doc) (ps : List ℕ) → AllByRecursion P pool → AllByRecursion P (docs_at pool ps)

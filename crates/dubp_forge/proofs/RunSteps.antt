@@ -144,11 +144,6 @@ there_at [] n lt = absurd (omega arith)
 there_at (x ∷ xs) zero lt = (x, refl)
 there_at (x ∷ xs) (suc n) lt = there_at xs n (omega arith)
 
--- a document that is in the draft, or a transaction
-pub one_runs : (docs : List Doc) (d : Doc) (b : Bool) → is_in docs d ≡ b → (b ≡ false → IsTransaction d) → AllByRecursion IsTransaction (cond (not b) (d ∷ []) [])
-one_runs docs d true e is = tt
-one_runs docs d false e is = (is refl, tt)
-
 -- whether a document is in the draft is what its mark says
 pub marked_at : (docs pool : List Doc) (marks : List Bool) (n : ℕ) (d : Doc) (b : Bool) → marks ≡ map (is_in docs) pool → slice_get pool n ≡ Some d → b ≡ slice_index_or marks n b → is_in docs d ≡ b
 marked_at docs pool marks n d b same is e =

@@ -151,6 +151,3 @@ stands_taken f b ps p ms d stands pending is =
       marked = ap (λ l. set l p false) was ∙ unmark docs f.pool p d pending.apart is (apart_last docs d apart);
       counted = omega (arith, count_unset ms p in', stands.counted, length-append ps (p ∷ []));
     }
-
-pub last_there : (f : Forging) (b : Block) (ps : List ℕ) (p : ℕ) (ms : List Bool) → IsDrafted f b (ps ++ p ∷ []) ms → p < length f.pool
-last_there f b ps p ms stands = all_last (λ place. place < length f.pool) ps p stands.there

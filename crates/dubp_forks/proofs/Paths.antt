@@ -100,9 +100,6 @@ pub record IsOnPath (store : List Block) (stamp : Stamp) (keys : List Stamp) (ne
   pub stamps : keys ≡ map stamp_of path
   pub goes : (rest : List Block) (end : Option Stamp) → Ends store next rest end → IsPath store stamp (path ++ rest) end
 
-pub on_start : (store : List Block) (stamp : Stamp) → IsOnPath store stamp [] (Some stamp)
-on_start store stamp = record { path = []; stamps = refl; goes = λ rest end h. h }
-
 -- a stored block, and the stamp before it
 record IsStep (store : List Block) (at : Stamp) (earlier : Option Stamp) : Type 0 where
   block : Block

@@ -126,12 +126,6 @@ made_next (Ok u) x ledger v w c new s round joins more = λ start of. (
   },
 )
 
-pub ledger_next : {R : Type 0} (r : Result R GenRefusal) (x : ℕ) (ledger after : KeptChain) (v : Verdicts) (c new : Chain) (b : Block)
-    → OnOk r (after.chain ≡ b ∷ ledger.chain) → OnOk r (new.blocks.items ≡ c.blocks.items ++ b ∷ [])
-    → OnOk r ((start : ℕ) → IsOfMade start ledger v x c → after.chain ≡ (made_of new).chain)
-ledger_next (Err e) x ledger after v c new b joins more = tt
-ledger_next (Ok u) x ledger after v c new b joins more = λ start of. joins ∙ ap (λ (l : Blocks). b ∷ l) of.chain ∙ sym (turned c.blocks.items new.blocks.items b more)
-
 pub verdicts_next : {R : Type 0} (r : Result R GenRefusal) (x : ℕ) (ledger : KeptChain) (v w : Verdicts) (c new : Chain) (s : Sealed) → IsRound ledger.chain v w x c.verdicts.items new.verdicts.items s
     → OnOk r ((start : ℕ) → IsOfMade start ledger v x c → w ≡ with_given [] new.verdicts.items)
 verdicts_next (Err e) x ledger v w c new s round = tt

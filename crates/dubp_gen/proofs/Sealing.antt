@@ -16,10 +16,6 @@ use Rattle.dubp_gen.specs.declared.chain.GenRefusal.TheVariants.{Invalid, NoNonc
 use Rattle.dubp_gen.specs.Generated.{HasNoNonce, HasNoSeal, IsToSeal, IssuerMay}
 use Rattle.dubp_gen.specs.Making.{IsSealedBlock}
 
-pub sealed_first : (c : Chain) (draft : Block) (s : Sealed) → c ≡ [] → IsSealed draft 0 s → IsSealedBlock c draft s
-sealed_first [] draft s empty sealed = record { filled = draft; difficulty = 0; to_seal = (refl, refl); may = tt; sealed = sealed }
-sealed_first (a ∷ c) draft s empty sealed = absurd cc
-
 pub no_first : (c : Chain) (draft : Block) (n : ℕ) (refusal : GenRefusal) → c ≡ [] → n ≡ length c → refusal ≡ NoNonce n → HasNoNonce draft 0 → HasNoSeal c draft refusal
 no_first [] draft n refusal empty is same none = subst (HasNoSeal [] draft) (sym same) (is, (draft, 0, ((refl, refl), (tt, none))))
 no_first (a ∷ c) draft n refusal empty is same none = absurd cc

@@ -43,28 +43,3 @@ first_without (a ∷ d ∷ c) b e = absurd (some_first d c e)
 version_of : (p : Params) (n : ℕ) (hs : List Head) (b : Block) → (next_head p n hs b).version ≡ b.version
 version_of p n [] b = refl
 version_of p n (h ∷ hs) b = refl
-
-pub fits_as : (c : Chain) (hs : List Head) (b first : Block) (h : Head) → hs ≡ heads_of c → newest hs ≡ Some h → first_block c ≡ Some first → CurrencyAndVersionFit c b ↔ ((b.currency ≡ first.currency) × (h.version ≤ b.version))
-fits_as [] hs b first h is last begins = let none : None ≡ Some h = sym (ap newest is) ∙ last in absurd cc
-fits_as (a ∷ c) hs b first h is last begins =
-    let next = next_head (params (a ∷ c)) (length (members (a ∷ c))) (heads_of c) a in
-    let same : Some next ≡ Some h = sym (ap newest is) ∙ last in
-    let head_is : next ≡ h = cc in
-    let version : h.version ≡ a.version = sym (ap (λ x. x.version) head_is) ∙ version_of (params (a ∷ c)) (length (members (a ∷ c))) (heads_of c) a in
-    let money : currency (a ∷ c) ≡ first.currency = ap (λ o. option_map_or (λ x. x.currency) o []) begins in
-    (λ f. (f.0 ∙ money, subst (λ v. v ≤ b.version) (sym version) f.1), λ f. (f.0 ∙ sym money, subst (λ v. v ≤ b.version) version f.1))
-
-pub fits_empty : (c : Chain) (b : Block) → first_block c ≡ None → CurrencyAndVersionFit c b
-fits_empty [] b e = tt
-fits_empty (a ∷ c) b e = absurd (no_first a c e)
-  where
-    no_first : (x : Block) (xs : Chain) → first_block (x ∷ xs) ≡ None → ⊥
-    no_first x [] f = cc
-    no_first x (y ∷ ys) f = no_first y ys f
-
-pub fits_headless : (c : Chain) (hs : List Head) (b : Block) → hs ≡ heads_of c → newest hs ≡ None → CurrencyAndVersionFit c b
-fits_headless [] hs b is e = tt
-fits_headless (a ∷ c) hs b is e =
-    let next = next_head (params (a ∷ c)) (length (members (a ∷ c))) (heads_of c) a in
-    let some : Some next ≡ None = sym (ap newest is) ∙ e in
-    absurd cc

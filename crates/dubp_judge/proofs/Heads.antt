@@ -63,12 +63,6 @@ stated_with asked v (a ∷ c) b text all steered is = (with_more (stated_params 
     with_more None none = absurd cc
     with_more (Some p) is = is
 
--- so they are some
-pub some_stated : (asked : Asked) (v : Verdicts) (c : Chain) (b : Block) (heads : HeadsState) → IsBlock b → AllByRecursion (Asks asked v c b) opening_rules → IsKnown c heads → stated_params (b ∷ c) ≡ None → ⊥
-some_stated asked v c b heads text all known none =
-    let bad : AreParamsOf None (b ∷ c) = subst (λ o. AreParamsOf o (b ∷ c)) none (stated_with asked v c b text all known.steered known.stated).0 in
-    absurd cc
-
 begins_low : (asked : Asked) (v : Verdicts) (c : Chain) (b : Block) → IsBlock b → AllByRecursion (Asks asked v c b) opening_rules → BeginsLow (heads_of c) b
 begins_low asked v [] b text all =
     let first = first_params b text (number asked v [] b all) in

@@ -76,24 +76,6 @@ known_less c b h old new known popped span =
       stated = stated_by b c known.stated;
     }
 
--- the heads go back to those that were
-pub known_again : (c : Chain) (old middle new : HeadsState) (h g : Head) → IsKnown c old → middle.list ≡ h ∷ old.list → middle.list ≡ g ∷ new.list → new.span ≡ middle.span → AreOver middle (params c) → IsKnown c new
-known_again c old middle new h g known pushed popped span over =
-    let same : new.list ≡ old.list = ap (drop 1) (sym popped ∙ pushed) in
-    record {
-      sound = known.sound;
-      blocks = known.blocks;
-      are = same ∙ known.are;
-      follow = subst (AreHeads (params c)) (sym same) known.follow;
-      over = over_again over;
-      steered = known.steered;
-      stated = known.stated;
-    }
-  where
-    over_again : AreOver middle (params c) → AreOver new (params c)
-    over_again (inl none) = absurd (let bad : h ∷ old.list ≡ [] = sym pushed ∙ none in cc)
-    over_again (inr is) = inr (span ∙ is)
-
 -- the blocks, which stand oldest first, and one behind them
 pub turned : (blocks held more : List Block) (b : Block) → held ≡ blocks → more ≡ held ++ b ∷ [] → b ∷ reverse blocks ≡ reverse more
 turned blocks held more b same is = sym (ap reverse (is ∙ ap (λ l. l ++ b ∷ []) same) ∙ reverse-append blocks (b ∷ []))

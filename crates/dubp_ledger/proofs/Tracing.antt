@@ -44,11 +44,6 @@ joined t r u old new b left are short standing held room is joins pushed same ca
       short = (short, are.short);
     })
 
--- where only room was taken
-pub readied : (t u : TracesState) (old new : KeptChain) → AreTraces t old → u.standing ≡ t.standing → u.held ≡ t.held → t.room ≤ u.room → new ≡ old → AreTraces u new
-readied t u old new are standing held room same =
-    subst (AreTraces u) (sym same) (record { standing = standing ∙ are.standing; held = same_held t u old.out held room are.held; short = are.short })
-
 -- blocks less
 pub fewer : (t u : TracesState) (old new : KeptChain) (n : ℕ) → AreTraces t old → u.standing ≡ drop n t.standing → u.held ≡ t.held → u.room ≡ t.room → new.chain ≡ drop n old.chain → new.out ≡ old.out → AreTraces u new
 fewer t u old new n are standing held room chain out = record {
@@ -63,17 +58,6 @@ held_off t u old new n are standing held room chain out = record {
   standing = standing ∙ ap (drop n) are.standing ∙ drop_traces n old.chain ∙ ap traces_of (sym chain);
   held = subst (AreHeld u) (sym out) (held ∙ ap (take n) are.standing, omega (arith, room, ap length are.standing, length_traces old.chain), are.short);
   short = subst (AllByRecursion IsShort) (sym chain) (short_drop n old.chain are.short);
-}
-
-pub few_standing : (t : TracesState) (s : KeptChain) (n : ℕ) (new : KeptChain) → AreTraces t s → new.kept + n ≡ s.kept → n ≤ length s.chain → n ≤ length t.standing
-few_standing t s n new are kept few = omega (arith, few, ap length are.standing, length_traces s.chain)
-
--- held blocks that are given up
-pub given_up : (t u : TracesState) (old new : KeptChain) → AreTraces t old → u.standing ≡ t.standing → new.chain ≡ old.chain → new.out ≡ None → AreTraces u new
-given_up t u old new are standing chain out = record {
-  standing = standing ∙ are.standing ∙ ap traces_of (sym chain);
-  held = subst (AreHeld u) (sym out) tt;
-  short = subst (AllByRecursion IsShort) (sym chain) are.short;
 }
 
 -- held blocks that come back

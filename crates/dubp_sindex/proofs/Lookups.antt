@@ -1,6 +1,6 @@
 -- What the code finds in the tables: the account that has least, and the sources of an account one behind the other.
 use Rattle.std.proofs.Common.{◌≡◌, ℕ, ◌+◌, ◌<◌, ◌≤◌, nat_lt, true, false, cond, ◌&&◌, ◌==◌, List, [], ◌∷◌, ◌++◌, Option, Some, None, option_map, length, sum_by, refl, ap, sym, ◌∙◌, subst, true≢false, inl, inr, ◌⊎◌, arith, append_assoc, length-append, append-nil, min}
-use Rattle.std.specs.Prelude.{find, unwrap_or, ◌^◌, ⊤}
+use Rattle.std.specs.Prelude.{find, slice_get, unwrap_or, ◌^◌, ⊤}
 use Rattle.std.specs.Option.{IsSome, IfSome, option_map_or}
 use Rattle.std.specs.List.{list_any, AllByRecursion}
 use Rattle.std.specs.Ordering.{nat_cmp, ordering_then, is_gt, MatchOrdering}
@@ -269,6 +269,34 @@ module _ (p : List ((ℕ × ℕ) × SourceId)) (rows : List Entry) (order : AreR
       by : (ls : List Entry) → is.left ≡ ls → IsFound rows account next (turns + 1) now
       by [] none = absurd (omega (arith, more, ap length (is.split ∙ ap (λ l. so_far ++ l) none), length-append so_far [], is.counted))
       by (e ∷ ls) are = given e ls are (row_at id rows) refl put
+
+-- ---- the first source
+
+module _ (p : List ((ℕ × ℕ) × SourceId)) (rows : List Entry) (order : AreRows rows) (at : (k : ℕ × ℕ) → get pair_cmp p k ≡ id_at k rows) (account : ℕ) where
+  pub first_found : (k : ℕ × ℕ) (id : SourceId) → IsLeast pair_cmp p (IsLeBy pair_cmp (account, 0)) (k, id) → k.0 ≡ account → option_map (λ row. (id, row)) (row_at id rows) ≡ slice_get (of_account account rows) 0
+  unfolding found_none
+  first_found k id least own = sym (by (of_account account rows) refl (is_row rows k id (sym (at k) ∙ least.value)))
+    where
+      by : (xs : List Entry) → of_account account rows ≡ xs → (e : Entry) × IsIn e rows × (e.0 ≡ id) × (e.1.account ≡ k.0) × (e.1.order ≡ k.1)
+          → slice_get (of_account account rows) 0 ≡ option_map (λ row. (id, row)) (row_at id rows)
+      by [] none h = absurd (subst (IsIn h.0) none (kept_in (is_of account) rows h.0 h.1 ((Decides-eqb account h.0.1.account).1 (sym (h.3 ∙ own)))))
+      by (e ∷ ls) are h = given (row_at id rows) refl
+        where
+          given : (o : Option SourceRow) → row_at id rows ≡ o → slice_get (of_account account rows) 0 ≡ option_map (λ row. (id, row)) o
+          given (Some row) found =
+              let first = found_row p rows order order.in_range at account 0 0 [] k id least own (k.1 + 1) row ((id, row) ∷ []) (found_none rows account) e ls are (record { most = omega arith; just = λ within. refl }) found refl in
+              ap (λ l. slice_get l 0) first.split
+          given None found =
+              let named : list_any (is_named id) rows ≡ true = in_any (is_named id) rows h.0 h.1 (subst (λ n. same_source id n ≡ true) (sym h.2) (same_source_own id)) in
+              absurd (true≢false (sym (subst IsSome found (row_is_some id rows named))))
+
+  pub first_none : HasNone pair_cmp p (IsLeBy pair_cmp (account, 0)) → None ≡ slice_get (of_account account rows) 0
+  unfolding found_none
+  first_none none = ap (λ l. slice_get l 0) (sym (none_left p rows order at account 0 0 [] (found_none rows account) none))
+
+  pub first_other : (k : ℕ × ℕ) (id : SourceId) → IsLeast pair_cmp p (IsLeBy pair_cmp (account, 0)) (k, id) → (k.0 ≡ account → ⊥) → None ≡ slice_get (of_account account rows) 0
+  unfolding found_none
+  first_other k id least other = ap (λ l. slice_get l 0) (sym (other_left p rows order at account 0 0 [] (found_none rows account) k id least other))
 
 -- ---- the end
 

@@ -1,4 +1,4 @@
-ghost use Rattle.std.specs.Prelude.{◌≡◌, ◌<◌, ◌^◌, ◌++◌, ◌∷◌, [], OnOk, IfOk, IfSome, IfNone};
+ghost use Rattle.std.specs.Prelude.{◌≡◌, ◌<◌, ◌^◌, ◌++◌, ◌∷◌, [], slice_get, option_map, OnOk, IfOk, IfSome, IfNone};
 ghost use Rattle.std.specs.Option.{option_map_or};
 ghost use Rattle.std.specs.Ordering.{nat_cmp};
 ghost use Rattle.dubp_cond.specs.SourceOrder.{derived_cmp};
@@ -50,6 +50,24 @@ impl SIndex {
         match self.tables.third.get(account) {
             Some(balance) => balance.count,
             None => 0,
+        }
+    }
+
+    // The source of this name with its row, where it has one.
+    fn entry_of(&self, id: &SourceId) -> Option<(SourceId, SourceRow)>
+        ensures { result ≡ option_map (λ row. (id.now, row)) (get derived_cmp self.now.tables.first.table.now id.now) }
+    {
+        let row = self.tables.first.get(*id)?;
+        Some((*id, row))
+    }
+
+    /// The first unspent source of the account in the order of making, or `None` where it has none. It takes no memory, and two looks.
+    pub fn first_source(&self, account: usize) -> Option<(SourceId, SourceRow)>
+        ensures { (s : States) → ⟦<SIndex as Tables<SourceRows>>⟧.at self.now s → AreRows (rows_of s) → result ≡ slice_get (of_account account (rows_of s)) 0 }
+    {
+        match self.tables.second.next_from((account, 0)) {
+            Some(((owner, _), id)) if owner == account => self.entry_of(&id),
+            _ => None,
         }
     }
 

@@ -21,9 +21,6 @@ pub failed : (b : Branches) (fs : List Failure) (tip at : Stamp) (rule : Rule) (
 failed b fs tip at rule new (path, count, may, block, is, breaks, same) =
     (path, count, record { end = may.goes.end; is = may.goes.along.is; behind = may.goes.behind }, (block, is, breaks), refl)
 
-pub failed_same : (b : Branches) (tip at : Stamp) (rule : Rule) (new : Branches) → Switched b tip (Err (switch.Refused at rule)) new → new ≡ b
-failed_same b tip at rule new (path, count, may, block, is, breaks, same) = same
-
 -- nothing else comes, but for want of memory
 abbrev pub IsTry : SwitchRefusal → Type 0
 IsTry (switch.Refused at rule) = Unit {0}
