@@ -1,5 +1,5 @@
 -- The source that is spent next.
-use Rattle.std.proofs.Common.{◌≡◌, ℕ, List, [], ◌∷◌, ◌++◌, map, Some, ap, ◌∙◌}
+use Rattle.std.proofs.Common.{◌≡◌, ℕ, List, ◌++◌, Option, Some, None, refl, ap, ◌∙◌}
 use Rattle.std.specs.Prelude.{codes, option_map, slice_get}
 use Rattle.dubp_cond.specs.Conditions.{cond_text}
 use Rattle.dubp_cond.specs.declared.source.Input.{Input}
@@ -17,13 +17,18 @@ account_is text key i is k = is ∙ ap (λ (t : List ℕ). codes "SIG(" ++ (t ++
 abbrev spends : Source → Input
 spends s = record { amount = s.amount; base = s.base; source = s.id }
 
--- what is shown first is the first source
-first_shown : (ss : List Source) (view : SourceView) → Some view ≡ slice_get (map view_of ss) 0
-    → Some (input_of view) ≡ option_map spends (slice_get ss 0)
-first_shown [] view first = absurd cc
-first_shown (s ∷ ss) view first = ap (option_map input_of) first
+-- what is shown of the first source
+module _ (c : Chain) (i : ℕ) (text : List ℕ) (account : text ≡ cond_text (signed_by (key_text i))) where
+  pub first_is : (view : SourceView) → Some view ≡ option_map view_of (slice_get (sources_of c text) 0) → Some (input_of view) ≡ first_source c i
+  first_is view is = by (slice_get (sources_of c (cond_text (signed_by (key_text i)))) 0) (is ∙ ap (λ t. option_map view_of (slice_get (sources_of c t) 0)) account)
+    where
+      by : (o : Option Source) → Some view ≡ option_map view_of o → Some (input_of view) ≡ option_map spends o
+      by None shown = absurd cc
+      by (Some s) shown = ap (option_map input_of) shown
 
-pub first_is : (c : Chain) (i : ℕ) (text : List ℕ) (shown : List SourceView) (view : SourceView) → text ≡ cond_text (signed_by (key_text i))
-    → shown ≡ map view_of (sources_of c text) → Some view ≡ slice_get shown 0 → Some (input_of view) ≡ first_source c i
-first_is c i text shown view account is first =
-    first_shown (sources_of c (cond_text (signed_by (key_text i)))) view (first ∙ ap (λ l. slice_get l 0) (is ∙ ap (λ t. map view_of (sources_of c t)) account))
+  pub none_is : None ≡ option_map view_of (slice_get (sources_of c text) 0) → None ≡ first_source c i
+  none_is is = by (slice_get (sources_of c (cond_text (signed_by (key_text i)))) 0) (is ∙ ap (λ t. option_map view_of (slice_get (sources_of c t) 0)) account)
+    where
+      by : (o : Option Source) → None ≡ option_map view_of o → None ≡ option_map spends o
+      by None none = refl
+      by (Some s) none = absurd cc

@@ -12,29 +12,23 @@ use dubp_block::Block;
 use dubp_cond::{CondText, Input, SourceId};
 use dubp_drafts::{KEYS, key_of};
 use dubp_ledger::Money;
-use dubp_money_views::{SourceView, sources};
+use dubp_money_views::{SourceView, first_source as first_view};
 use dubp_undo::Tables;
-use std::alloc::Global;
 
 /// Numbers of texts are below this.
 const NUMBERS: u64 = 1 << 53;
 
 /// The first unspent source of the account of the key of this number, in the order of making, where it has one.
 ///
-/// `NoMemory` where there is no room for the sources of the account. It also stands for one that has no text, which no chain has.
-pub(crate) fn first_source(
-    alloc: Global,
-    money: &Money,
-    person: u32,
-) -> Result<Option<Input>, NoMemory>
+/// `NoMemory` stands for one that has no text, which no chain has.
+pub(crate) fn first_source(money: &Money, person: u32) -> Result<Option<Input>, NoMemory>
     requires { person < KEYS }
     ensures source { IfOk result (λ source. (c : Chain) → ⟦<Money as Tables<Block>>⟧.at money.now c → IsSound c → source ≡ first_source c person) }
     ensures valid { IfOk result IsSpendable }
 {
-    let found = sources(alloc, money, &account_of(&key_of(person)))?;
-    match found.first() {
+    match first_view(money, &account_of(&key_of(person))) {
         None => Ok(None),
-        Some(view) if can_be_spent(view) => Ok(Some(input_of(view))),
+        Some(view) if can_be_spent(&view) => Ok(Some(input_of(&view))),
         Some(_) => Err(NoMemory),
     }
 }

@@ -3,7 +3,8 @@ use dubp_block::Block;
 use std::marker::Model;
 
 /// Blocks that were taken off a chain, newest first. Contracts see their list.
-#[derive(Drop)]
+///
+/// It has no `Drop`: who has one must hand it to `settle` or `restore`.
 pub struct Held {
     pub(crate) blocks: Vec<Block>,
 }

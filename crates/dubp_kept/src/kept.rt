@@ -225,7 +225,7 @@ impl<T: Written> Kept<T> {
         trim(&mut self.tables, MOST_KEPT);
         self.behind.clear();
         self.out = None;
-        let mut blocks = held.blocks;
+        let Held { mut blocks } = held;
         blocks.reverse();
         blocks
     }
@@ -238,7 +238,7 @@ impl<T: Written> Kept<T> {
         ensures restored { IsAsBefore self.new self.old.out }
         ensures steps { steps.new ≤ steps.old + steps_of_out self.old.out }
     {
-        let mut blocks = held.blocks;
+        let Held { mut blocks } = held;
         put_back(
             &mut self.blocks,
             &mut self.heads,

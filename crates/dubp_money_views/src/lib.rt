@@ -12,4 +12,4 @@
 mod views;
 
 pub use dubp_money::Money;
-pub use views::{SourceView, balance, sources};
+pub use views::{SourceView, balance, first_source, sources};

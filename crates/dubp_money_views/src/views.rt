@@ -1,4 +1,4 @@
-ghost use Rattle.std.specs.Prelude.{◌≡◌, ◌∷◌, ◌++◌, [], map, IfOk, OnOk};
+ghost use Rattle.std.specs.Prelude.{◌≡◌, ◌∷◌, ◌++◌, [], map, slice_get, option_map, IfOk, OnOk};
 ghost use Rattle.dubp_chain.specs.Chains.{Chain};
 ghost use Rattle.dubp_chain.specs.Money.{balance as balance_of_chain, sources_of};
 ghost use Rattle.dubp_money.specs.OfValidity.{IsSound};
@@ -36,6 +36,33 @@ pub fn sources(alloc: Global, money: &Money, cond: &CondText) -> Result<Vec<Sour
     let rows = rows_of(alloc, money.sources(), cond.as_slice())?;
     let found = views_of(alloc, rows.as_slice())?;
     Ok(found)
+}
+
+/// The first unspent source of the condition of this text, in the order of making, or `None` where it has none. It takes no memory.
+pub fn first_source(money: &Money, cond: &CondText) -> Option<SourceView>
+    ensures { (c : Chain) → ⟦<Money as Tables<Block>>⟧.at money.now c → IsSound c → result ≡ option_map view_of (slice_get (sources_of c cond.now.items) 0) }
+{
+    first_of(money.sources(), cond.as_slice())
+}
+
+/// What is shown of the first source of the condition of this text.
+fn first_of(sources: &Sources, cond: &[u8]) -> Option<SourceView>
+    ensures { (c : Chain) → ⟦<Sources as Tables<Block>>⟧.at sources.now c → IsSound c → result ≡ option_map view_of (slice_get (sources_of c cond.now) 0) }
+{
+    match sources.index.find(cond) {
+        Some(account) => view_at(sources.index.first_source(account)),
+        None => None,
+    }
+}
+
+/// What is shown of a row, where there is one.
+fn view_at(row: Option<(SourceId, SourceRow)>) -> Option<SourceView>
+    ensures { result ≡ option_map row_view row }
+{
+    match row {
+        Some(row) => Some(view_of(&row)),
+        None => None,
+    }
 }
 
 /// What is shown of these rows.
