@@ -15,7 +15,7 @@ ghost use Rattle.dubp_judge.specs.OfKept.{KeptChain, AreStates};
 
 use dubp_block::Block;
 pub use dubp_judge::{Judgement, Judges, judge, trial};
-pub use dubp_money::{Money, Secret};
+pub use dubp_money::{Money, Secret, Totals};
 pub use dubp_registry::Registry as People;
 use dubp_undo::Tables;
 use std::alloc::Global;
