@@ -1,5 +1,5 @@
 -- Lists in which nothing stands twice, as a set of what stands before a place shows them.
-use Rattle.std.proofs.Common.{◌≡◌, ℕ, suc, ◌+◌, ◌<◌, Bool, true, false, not, ◌||◌, ◌&&◌, List, [], ◌∷◌, ◌++◌, take, drop, get_or, length, if◌then◌else◌, refl, ap, sym, ◌∙◌, subst, true≢false, arith}
+use Rattle.std.proofs.Common.{◌≡◌, ℕ, suc, ◌+◌, ◌<◌, Bool, true, false, not, ◌||◌, ◌&&◌, List, [], ◌∷◌, ◌++◌, take, drop, get_or, length, cond, refl, ap, sym, ◌∙◌, subst, true≢false, arith}
 use Rattle.std.specs.List.{list_any}
 use Rattle.std.specs.Cmp.{IsEquivalence}
 use Rattle.std.proofs.lemmas.List.{take_more, take_all}
@@ -41,29 +41,38 @@ module _ {T : Type 0} (eq : T → T → Bool) where
             ] refl once
       ] refl none
 
-  -- what a set has seen of the first values of a list
-  pub record Seen (values : List T) (i : ℕ) (keys : List T) : Type 0 where
-    pub are : keys ≡ take i values
-    pub once : each_once eq keys ≡ true
+  any_last : (k x : T) (xs : List T) → list_any (eq k) (xs ++ x ∷ []) ≡ cond (eq k x) true (list_any (eq k) xs)
+  any_last k x [] = elim (eq k x) as (λ b. (b || false) ≡ cond b true false) [ true ↦ refl | false ↦ refl ]
+  any_last k x (y ∷ xs) = ap (λ b. eq k y || b) (any_last k x xs) ∙ either (eq k y) (eq k x) (list_any (eq k) xs)
+    where
+      either : (a b c : Bool) → (a || cond b true c) ≡ cond b true (a || c)
+      either true true c = refl
+      either true false c = refl
+      either false b c = refl
 
-  pub seen_one_more : IsEquivalence eq → (values : List T) (i : ℕ) (keys new : List T) (x : T) (is_new : Bool) → i < length values → x ≡ get_or values i x
-      → Seen values i keys → is_new ≡ not (list_any (eq x) keys) → is_new ≡ true
-      → new ≡ (if list_any (eq x) keys then keys else keys ++ x ∷ []) → Seen values (i + 1) new
-  seen_one_more laws values i keys new x is_new lt at seen e holds put =
-      let none : list_any (eq x) keys ≡ false = elim (list_any (eq x) keys) as (λ b. is_new ≡ not b → b ≡ false) [ true ↦ λ h. absurd (true≢false (sym holds ∙ h)) | false ↦ λ _. refl ] e in
-      let grown : new ≡ keys ++ x ∷ [] = put ∙ ap (λ b. if b then keys else keys ++ x ∷ []) none in
+  -- what a set has of the first values of a list, which stand once
+  pub record Seen (values : List T) (i : ℕ) (has : T → Bool) : Type 0 where
+    pub are : (k : T) → has k ≡ list_any (eq k) (take i values)
+    pub once : each_once eq (take i values) ≡ true
+
+  pub seen_one_more : IsEquivalence eq → (values : List T) (i : ℕ) (has new : T → Bool) (x : T) (is_new : Bool) → i < length values → x ≡ get_or values i x
+      → Seen values i has → is_new ≡ not (has x) → is_new ≡ true
+      → ((k : T) → new k ≡ cond (eq k x) true (has k)) → Seen values (i + 1) new
+  seen_one_more laws values i has new x is_new lt at seen e holds put =
+      let none : has x ≡ false = elim (has x) as (λ b. is_new ≡ not b → b ≡ false) [ true ↦ λ h. absurd (true≢false (sym holds ∙ h)) | false ↦ λ _. refl ] e in
+      let grown : take (i + 1) values ≡ take i values ++ x ∷ [] = take_more values i x lt ∙ ap (λ z. take i values ++ z ∷ []) (sym at) in
       record {
-        are = grown ∙ ap (λ k. k ++ x ∷ []) seen.are ∙ ap (λ z. take i values ++ z ∷ []) at ∙ sym (take_more values i x lt);
-        once = subst (λ k. each_once eq k ≡ true) (sym grown) (once_more laws x keys none seen.once);
+        are = λ k. put k ∙ ap (λ b. cond (eq k x) true b) (seen.are k) ∙ sym (any_last k x (take i values)) ∙ ap (list_any (eq k)) (sym grown);
+        once = subst (λ l. each_once eq l ≡ true) (sym grown) (once_more laws x (take i values) (sym (seen.are x) ∙ none) seen.once);
       }
 
-  pub seen_twice : IsEquivalence eq → (values : List T) (i : ℕ) (keys : List T) (x : T) (is_new : Bool) → i < length values → x ≡ get_or values i x
-      → Seen values i keys → is_new ≡ not (list_any (eq x) keys) → is_new ≡ false → each_once eq values ≡ false
-  seen_twice laws values i keys x is_new lt at seen e fails =
-      let there : list_any (eq x) keys ≡ true = elim (list_any (eq x) keys) as (λ b. is_new ≡ not b → b ≡ true) [ true ↦ λ _. refl | false ↦ λ h. absurd (true≢false (sym h ∙ fails)) ] e in
-      let before : list_any (eq x) (take i values) ≡ true = subst (λ k. list_any (eq x) k ≡ true) seen.are there in
+  pub seen_twice : IsEquivalence eq → (values : List T) (i : ℕ) (has : T → Bool) (x : T) (is_new : Bool) → i < length values → x ≡ get_or values i x
+      → Seen values i has → is_new ≡ not (has x) → is_new ≡ false → each_once eq values ≡ false
+  seen_twice laws values i has x is_new lt at seen e fails =
+      let there : has x ≡ true = elim (has x) as (λ b. is_new ≡ not b → b ≡ true) [ true ↦ λ _. refl | false ↦ λ h. absurd (true≢false (sym h ∙ fails)) ] e in
+      let before : list_any (eq x) (take i values) ≡ true = sym (seen.are x) ∙ there in
       subst (λ l. each_once eq l ≡ false) (sym (split_at values i x lt))
       (subst (λ z. each_once eq (take i values ++ z ∷ drop (suc i) values) ≡ false) at (twice laws x (take i values) (drop (suc i) values) before))
 
-  pub seen_all : (values : List T) (i : ℕ) (keys : List T) → i ≡ length values → Seen values i keys → each_once eq values ≡ true
-  seen_all values i keys e seen = subst (λ k. each_once eq k ≡ true) (seen.are ∙ take_all i values (omega arith)) seen.once
+  pub seen_all : (values : List T) (i : ℕ) (has : T → Bool) → i ≡ length values → Seen values i has → each_once eq values ≡ true
+  seen_all values i has e seen = subst (λ k. each_once eq k ≡ true) (take_all i values (omega arith)) seen.once

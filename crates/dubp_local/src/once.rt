@@ -1,30 +1,29 @@
-ghost use Rattle.std.specs.Prelude.{◌≡◌, ◌↔◌, ◌++◌, true, IfOk, IsTrue, OnOk, cond, map, not};
+ghost use Rattle.std.specs.Prelude.{◌≡◌, ◌↔◌, ◌++◌, true, IfOk, IsTrue, OnErr, OnOk, cond, map, not};
+ghost use Rattle.std.specs.BTreeSet.{IsUnchanged, contains};
 ghost use Rattle.std.specs.List.{list_all, list_any};
-ghost use Rattle.indexmap.specs.IndexSet.{contains, insert_key};
 ghost use Rattle.dubp_validity.specs.OfChain.{membership_lines};
 ghost use Rattle.dubp_validity.specs.OfChain.{each_once};
 ghost use Rattle.dubp_validity.specs.LocalRules.{IdentitiesJoin, IdentitiesStandOnce, IssuersStandOnce, MovingKeysStandOnce, NobodyCertifiedParts, NobodyCertifiesThemselves, PairsStandOnce, RevokedStandOnce, UidsStandOnce, moving_keys, parting_keys, revoked_keys};
 
 use dubp_atoms::{Key, NoMemory, Stamp, Uid};
 use dubp_block::{Block, CertLine, IdentityLine, MemberLine, RevokedLine};
-use indexmap::IndexSet;
 use std::alloc::Global;
-use std::hash::Hash;
+use std::collections::BTreeSet;
 
-/// Puts the value into the set, and tells whether it was new.
-fn insert<T: Copy + Eq + Hash>(set: &mut IndexSet<T>, value: T) -> Result<bool, NoMemory>
-    ensures is_new { IfOk result (λ is_new. is_new ≡ not (contains T.eq set.old value)) }
-    ensures keys { OnOk result (set.new.keys ≡ insert_key T.eq set.old.keys value) }
-    ensures has { OnOk result ((k : T) → contains T.eq set.new k ≡ cond (T.eq value k) true (contains T.eq set.old k)) }
+/// Puts the value into the set, and tells whether it was new. The set is ordered, so that no values that strangers choose make it slow.
+fn insert<T: Copy + Ord>(set: &mut BTreeSet<T>, value: T) -> Result<bool, NoMemory>
+    ensures is_new { IfOk result (λ is_new. is_new ≡ not (contains T.cmp set.old value)) }
+    ensures has { OnOk result ((k : T) → contains T.cmp set.new k ≡ cond (T.eq k value) true (contains T.cmp set.old k)) }
+    ensures refused { OnErr result (IsUnchanged set.old set.new) }
 {
     set.insert(value).map_err(|_| NoMemory)
 }
 
 /// Whether none of the values stands twice.
-pub(crate) fn stand_once<T: Copy + Eq + Hash>(alloc: Global, values: &[T]) -> Result<bool, NoMemory>
+pub(crate) fn stand_once<T: Copy + Ord>(alloc: Global, values: &[T]) -> Result<bool, NoMemory>
     ensures { IfOk result (λ once. once ≡ each_once T.eq values.now) }
 {
-    let mut seen = IndexSet::new(alloc);
+    let mut seen = BTreeSet::new(alloc);
     for value in values {
         if !insert(&mut seen, *value)? {
             return Ok(false);
@@ -34,30 +33,30 @@ pub(crate) fn stand_once<T: Copy + Eq + Hash>(alloc: Global, values: &[T]) -> Re
 }
 
 /// The set of the values.
-fn set_of<T: Copy + Eq + Hash>(alloc: Global, values: &[T]) -> Result<IndexSet<T>, NoMemory>
-    ensures { IfOk result (λ set. (k : T) → contains T.eq set k ≡ list_any (T.eq k) values.now) }
+fn set_of<T: Copy + Ord>(alloc: Global, values: &[T]) -> Result<BTreeSet<T>, NoMemory>
+    ensures { IfOk result (λ set. (k : T) → contains T.cmp set k ≡ list_any (T.eq k) values.now) }
 {
-    let mut set = IndexSet::new(alloc);
+    let mut set = BTreeSet::new(alloc);
     for value in values {
         insert(&mut set, *value)?;
     }
     Ok(set)
 }
 
-fn has_all<T: Copy + Eq + Hash>(set: &IndexSet<T>, values: &[T]) -> bool
-    ensures { result ≡ list_all (contains T.eq set.now) values.now }
+fn has_all<T: Copy + Ord>(set: &BTreeSet<T>, values: &[T]) -> bool
+    ensures { result ≡ list_all (contains T.cmp set.now) values.now }
 {
     values.iter().all(|value| set.contains(value))
 }
 
-fn has_none<T: Copy + Eq + Hash>(set: &IndexSet<T>, values: &[T]) -> bool
-    ensures { result ≡ list_all (λ value. not (contains T.eq set.now value)) values.now }
+fn has_none<T: Copy + Ord>(set: &BTreeSet<T>, values: &[T]) -> bool
+    ensures { result ≡ list_all (λ value. not (contains T.cmp set.now value)) values.now }
 {
     values.iter().all(|value| !set.contains(value))
 }
 
 /// Whether each of the values is one of the others.
-fn are_among<T: Copy + Eq + Hash>(
+fn are_among<T: Copy + Ord>(
     alloc: Global,
     values: &[T],
     others: &[T],
@@ -69,7 +68,7 @@ fn are_among<T: Copy + Eq + Hash>(
 }
 
 /// Whether none of the values is one of the others.
-fn are_apart<T: Copy + Eq + Hash>(
+fn are_apart<T: Copy + Ord>(
     alloc: Global,
     values: &[T],
     others: &[T],

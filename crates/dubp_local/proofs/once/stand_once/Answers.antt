@@ -8,4 +8,4 @@ returns-then-not-branch g c =
 
 pub loop-value-preserved : goal.loop-value-preserved
 loop-value-preserved g c =
-    seen_one_more g.T.PartialEq.eq g.met.T.Eq.laws _ _ _ _ _ _ c.loop-value-test.true c.value-item.is c.loop-value.invariant c.in_ok-insert.ensures.is_new c.if-not-branch.false c.in_ok-insert.ensures.keys
+    seen_one_more g.T.PartialEq.eq g.met.T.Eq.laws _ _ _ _ _ _ c.loop-value-test.true c.value-item.is c.loop-value.invariant c.in_ok-insert.ensures.is_new c.if-not-branch.false c.in_ok-insert.ensures.has
