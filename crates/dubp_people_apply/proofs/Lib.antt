@@ -7,6 +7,7 @@ pub mod Joined
 pub mod Recorded
 pub mod EndedLines
 pub mod Appended
+pub mod Begins
 pub mod Counted
 pub mod Fitting
 pub mod OfSteps

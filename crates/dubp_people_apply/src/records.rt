@@ -1,4 +1,4 @@
-ghost use Rattle.std.specs.Prelude.{◌≡◌, [], ◌∷◌, ◌++◌, map, unwrap_or, OnOk};
+ghost use Rattle.std.specs.Prelude.{◌≡◌, [], ◌∷◌, ◌++◌, map, unwrap_or, take, length, OnOk};
 ghost use Rattle.std.specs.List.{flat_map};
 ghost use Rattle.dubp_chain.specs.Chains.{Chain};
 ghost use Rattle.dubp_steps.specs.AfterLines.{certification_time};
@@ -28,13 +28,16 @@ pub(crate) fn time_of_certification(facts: &Facts, block: &Block, line: &CertLin
 
 /// The record is the last.
 pub(crate) fn put(out: &mut Vec<Record>, last: Record) -> Result<(), NoMemory>
-    ensures { OnOk result (out.new.items ≡ out.old.items ++ last ∷ []) }
+    ensures appended { OnOk result (out.new.items ≡ out.old.items ++ last ∷ []) }
+    ensures begins { take (length out.old.items) out.new.items ≡ out.old.items }
 {
     out.push(last).map_err(|_| NoMemory)
 }
 
+#[tactic(auto, using(crate::proofs::Begins::begins_behind))]
 fn put_identities(lines: &[IdentityLine], out: &mut Vec<Record>) -> Result<(), NoMemory>
-    ensures { OnOk result (out.new.items ≡ out.old.items ++ map (λ line. Create line.key line.uid line.stamp) lines.now) }
+    ensures appended { OnOk result (out.new.items ≡ out.old.items ++ map (λ line. Create line.key line.uid line.stamp) lines.now) }
+    ensures begins { take (length out.old.items) out.new.items ≡ out.old.items }
 {
     for line in lines {
         let create = Record::Create {
@@ -48,14 +51,16 @@ fn put_identities(lines: &[IdentityLine], out: &mut Vec<Record>) -> Result<(), N
 }
 
 // The two records of a line of Joiners.
+#[tactic(auto, using(crate::proofs::Begins::begins_on))]
 fn put_joiner(
     facts: &Facts,
     block: &Block,
     line: &MemberLine,
     out: &mut Vec<Record>,
 ) -> Result<(), NoMemory>
-    ensures { OnOk result ((c : Chain) → ⟦<Facts as Tables<Block>>⟧.at facts.now c → IsSound c
+    ensures appended { OnOk result ((c : Chain) → ⟦<Facts as Tables<Block>>⟧.at facts.now c → IsSound c
         → out.new.items ≡ out.old.items ++ (Enter line.now.key ∷ Join line.now.key (membership_time c block.now line.now) ∷ [])) }
+    ensures begins { take (length out.old.items) out.new.items ≡ out.old.items }
 {
     put(out, Record::Enter { key: line.key })?;
     let made = time_of_membership(facts, block, line);
@@ -68,14 +73,16 @@ fn put_joiner(
     )
 }
 
+#[tactic(auto, using(crate::proofs::Begins::begins_on))]
 fn put_joiners(
     facts: &Facts,
     block: &Block,
     lines: &[MemberLine],
     out: &mut Vec<Record>,
 ) -> Result<(), NoMemory>
-    ensures { OnOk result ((c : Chain) → ⟦<Facts as Tables<Block>>⟧.at facts.now c → IsSound c
+    ensures appended { OnOk result ((c : Chain) → ⟦<Facts as Tables<Block>>⟧.at facts.now c → IsSound c
         → out.new.items ≡ out.old.items ++ flat_map (λ line. Enter line.key ∷ Join line.key (membership_time c block.now line) ∷ []) lines.now) }
+    ensures begins { take (length out.old.items) out.new.items ≡ out.old.items }
 {
     for line in lines {
         put_joiner(facts, block, line, out)?;
@@ -83,14 +90,16 @@ fn put_joiners(
     Ok(())
 }
 
+#[tactic(auto, using(crate::proofs::Begins::begins_on))]
 fn put_actives(
     facts: &Facts,
     block: &Block,
     lines: &[MemberLine],
     out: &mut Vec<Record>,
 ) -> Result<(), NoMemory>
-    ensures { OnOk result ((c : Chain) → ⟦<Facts as Tables<Block>>⟧.at facts.now c → IsSound c
+    ensures appended { OnOk result ((c : Chain) → ⟦<Facts as Tables<Block>>⟧.at facts.now c → IsSound c
         → out.new.items ≡ out.old.items ++ map (λ line. Active line.key (membership_time c block.now line)) lines.now) }
+    ensures begins { take (length out.old.items) out.new.items ≡ out.old.items }
 {
     for line in lines {
         let made = time_of_membership(facts, block, line);
@@ -105,14 +114,16 @@ fn put_actives(
     Ok(())
 }
 
+#[tactic(auto, using(crate::proofs::Begins::begins_on))]
 fn put_leavers(
     facts: &Facts,
     block: &Block,
     lines: &[MemberLine],
     out: &mut Vec<Record>,
 ) -> Result<(), NoMemory>
-    ensures { OnOk result ((c : Chain) → ⟦<Facts as Tables<Block>>⟧.at facts.now c → IsSound c
+    ensures appended { OnOk result ((c : Chain) → ⟦<Facts as Tables<Block>>⟧.at facts.now c → IsSound c
         → out.new.items ≡ out.old.items ++ map (λ line. Leave line.key (membership_time c block.now line)) lines.now) }
+    ensures begins { take (length out.old.items) out.new.items ≡ out.old.items }
 {
     for line in lines {
         let made = time_of_membership(facts, block, line);
@@ -127,8 +138,10 @@ fn put_leavers(
     Ok(())
 }
 
+#[tactic(auto, using(crate::proofs::Begins::begins_behind))]
 fn put_revoked(lines: &[RevokedLine], out: &mut Vec<Record>) -> Result<(), NoMemory>
-    ensures { OnOk result (out.new.items ≡ out.old.items ++ map (λ line. Revoke line.key) lines.now) }
+    ensures appended { OnOk result (out.new.items ≡ out.old.items ++ map (λ line. Revoke line.key) lines.now) }
+    ensures begins { take (length out.old.items) out.new.items ≡ out.old.items }
 {
     for line in lines {
         put(out, Record::Revoke { key: line.key })?;
@@ -136,8 +149,10 @@ fn put_revoked(lines: &[RevokedLine], out: &mut Vec<Record>) -> Result<(), NoMem
     Ok(())
 }
 
+#[tactic(auto, using(crate::proofs::Begins::begins_behind))]
 fn put_excluded(keys: &[Key], out: &mut Vec<Record>) -> Result<(), NoMemory>
-    ensures { OnOk result (out.new.items ≡ out.old.items ++ map Exit keys.now) }
+    ensures appended { OnOk result (out.new.items ≡ out.old.items ++ map Exit keys.now) }
+    ensures begins { take (length out.old.items) out.new.items ≡ out.old.items }
 {
     for key in keys {
         put(out, Record::Exit { key: *key })?;
@@ -145,14 +160,16 @@ fn put_excluded(keys: &[Key], out: &mut Vec<Record>) -> Result<(), NoMemory>
     Ok(())
 }
 
+#[tactic(auto, using(crate::proofs::Begins::begins_on))]
 fn put_certifications(
     facts: &Facts,
     block: &Block,
     lines: &[CertLine],
     out: &mut Vec<Record>,
 ) -> Result<(), NoMemory>
-    ensures { OnOk result ((c : Chain) → ⟦<Facts as Tables<Block>>⟧.at facts.now c
+    ensures appended { OnOk result ((c : Chain) → ⟦<Facts as Tables<Block>>⟧.at facts.now c
         → out.new.items ≡ out.old.items ++ map (λ line. Cert line.from line.to (certification_time c block.now line)) lines.now) }
+    ensures begins { take (length out.old.items) out.new.items ≡ out.old.items }
 {
     for line in lines {
         let made = time_of_certification(facts, block, line);
@@ -167,11 +184,13 @@ fn put_certifications(
 }
 
 // The records of the sections of memberships.
+#[tactic(auto, using(crate::proofs::Begins::begins_on))]
 fn put_memberships(facts: &Facts, block: &Block, out: &mut Vec<Record>) -> Result<(), NoMemory>
-    ensures { OnOk result ((c : Chain) → ⟦<Facts as Tables<Block>>⟧.at facts.now c → IsSound c
+    ensures appended { OnOk result ((c : Chain) → ⟦<Facts as Tables<Block>>⟧.at facts.now c → IsSound c
         → out.new.items ≡ ((out.old.items ++ flat_map (λ line. Enter line.key ∷ Join line.key (membership_time c block.now line) ∷ []) block.now.joiners)
         ++ map (λ line. Active line.key (membership_time c block.now line)) block.now.actives)
         ++ map (λ line. Leave line.key (membership_time c block.now line)) block.now.leavers) }
+    ensures begins { take (length out.old.items) out.new.items ≡ out.old.items }
 {
     put_joiners(facts, block, block.joiners.as_slice(), out)?;
     put_actives(facts, block, block.actives.as_slice(), out)?;
@@ -180,9 +199,11 @@ fn put_memberships(facts: &Facts, block: &Block, out: &mut Vec<Record>) -> Resul
 
 /// Appends the records of the lines of the block, section by section, where the facts are those of the chain below it.
 ///
-/// `NoMemory` where there is no room for them; some may have been appended then.
+/// `NoMemory` where there is no room for them; some may have been appended then, behind what was there.
+#[tactic(auto, using(crate::proofs::Begins::begins_on))]
 pub fn put_line_records(facts: &Facts, block: &Block, out: &mut Vec<Record>) -> Result<(), NoMemory>
-    ensures { OnOk result ((c : Chain) → ⟦<Facts as Tables<Block>>⟧.at facts.now c → IsSound c → out.new.items ≡ out.old.items ++ line_records c block.now) }
+    ensures appended { OnOk result ((c : Chain) → ⟦<Facts as Tables<Block>>⟧.at facts.now c → IsSound c → out.new.items ≡ out.old.items ++ line_records c block.now) }
+    ensures begins { take (length out.old.items) out.new.items ≡ out.old.items }
 {
     put_identities(block.identities.as_slice(), out)?;
     put_memberships(facts, block, out)?;

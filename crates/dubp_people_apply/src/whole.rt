@@ -1,4 +1,4 @@
-ghost use Rattle.std.specs.Prelude.{◌≡◌, ◌∷◌, ◌++◌, OnOk, ◌+◌, ◌≤◌};
+ghost use Rattle.std.specs.Prelude.{◌≡◌, ◌∷◌, ◌++◌, take, length, OnOk, ◌+◌, ◌≤◌};
 ghost use Rattle.dubp_chain.specs.Chains.{Chain};
 ghost use Rattle.dubp_validity.specs.Records.{line_records, expiry_records, revocation_records, ended_records};
 ghost use Rattle.dubp_left.specs.Next.{IsWritten};
@@ -64,7 +64,8 @@ fn write_tables<L: StepBook>(
 /// Writes the block into the memberships, the certifications and the queue, and appends the records of its lines and of all ends.
 ///
 /// `facts` are those of the chain below the block, and `since` is its time in seconds, where it has a block. What is kept stays so.
-/// `NoMemory` where there is no room; what was written until then stands in the tables, and some records may have been appended.
+/// `NoMemory` where there is no room; what was written until then stands in the tables, and some records may have been appended, behind those that were there.
+#[tactic(auto, using(crate::proofs::Begins::begins_on))]
 pub fn write_ends<L: StepBook>(
     alloc: Global,
     memberships: &mut MIndex,
@@ -82,6 +83,7 @@ pub fn write_ends<L: StepBook>(
         → AreLeftBy (block.now ∷ c) (⟦<MIndex as Tables<MemberRows>>⟧.at memberships.new) (⟦<CIndex as Tables<CertRows>>⟧.at certifications.new) (⟦<Queue as Tables<Entries>>⟧.at queue.new)) }
     ensures records { OnOk result ((c : Chain) → ⟦<Facts as Tables<Block>>⟧.at facts.now c → IsWritten c block.now next.now → IsSince c since
         → AreLeftBy c (⟦<MIndex as Tables<MemberRows>>⟧.at memberships.old) (⟦<CIndex as Tables<CertRows>>⟧.at certifications.old) (⟦<Queue as Tables<Entries>>⟧.at queue.old) → out.new.items ≡ out.old.items ++ (line_records c block.now ++ (expiry_records c block.now ++ (revocation_records c block.now ++ ended_records c block.now)))) }
+    ensures begins { take (length out.old.items) out.new.items ≡ out.old.items }
     ensures memberships_others { ⟦<MIndex as Tables<MemberRows>>⟧.others memberships.new ≡ ⟦<MIndex as Tables<MemberRows>>⟧.others memberships.old }
     ensures certifications_others { ⟦<CIndex as Tables<CertRows>>⟧.others certifications.new ≡ ⟦<CIndex as Tables<CertRows>>⟧.others certifications.old }
     ensures queue_others { ⟦<Queue as Tables<Entries>>⟧.others queue.new ≡ ⟦<Queue as Tables<Entries>>⟧.others queue.old }

@@ -1,4 +1,4 @@
-use Rattle.std.proofs.Common.{◌≡◌, ◌++◌, map, take}
+use Rattle.std.proofs.Common.{◌≡◌, ◌++◌, map, take, length}
 use Rattle.dubp_chain.specs.Chains.{Chain}
 use Rattle.dubp_validity.specs.Rules.{IsSound}
 use Rattle.dubp_validity.specs.Records.{membership_time}
@@ -7,4 +7,7 @@ use Rattle.dubp_left.specs.OfFacts.facts_tables_block as facts
 use Rattle.dubp_people_apply.proofs.records.put_leavers.Given as goal
 
 abbrev pub invariant-loop-line : goal.invariant-loop-line
-invariant-loop-line l = (c : Chain) → (facts.ghosts).at l.facts c → IsSound c → l.out.items ≡ l.initial.out.items ++ map (λ line. Leave line.key (membership_time c l.block line)) (take l.line-index l.lines)
+invariant-loop-line l = record {
+  put : (c : Chain) → (facts.ghosts).at l.facts c → IsSound c → l.out.items ≡ l.initial.out.items ++ map (λ line. Leave line.key (membership_time c l.block line)) (take l.line-index l.lines);
+  begins : take (length l.initial.out.items) l.out.items ≡ l.initial.out.items;
+}
