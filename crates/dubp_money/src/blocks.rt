@@ -1,4 +1,4 @@
-ghost use Rattle.std.specs.Prelude.{◌≡◌, ◌+◌, ◌*◌, ◌^◌, ◌≤◌, ◌++◌, List, ◌∷◌, length, map, OnOk, IfOk};
+ghost use Rattle.std.specs.Prelude.{◌≡◌, ◌+◌, ◌*◌, ◌^◌, ◌≤◌, ◌++◌, List, ◌∷◌, take, length, map, OnOk, IfOk};
 ghost use Rattle.std.specs.List.{flat_map};
 ghost use Rattle.dubp_block.specs.Text.{IsBlock};
 ghost use Rattle.dubp_block.specs.declared.block.Block.{Block as BlockValue};
@@ -46,6 +46,7 @@ pub fn pay<L: StepBook>(
     ensures has { OnOk result (HasTexts (accounts index.new) (paid payment members.now)) }
     ensures texts { Grows (accounts index.old) (accounts index.new) }
     ensures records { OnOk result (out.new.items ≡ out.old.items ++ map (λ s. Dividend (input_of s)) (paid payment members.now)) }
+    ensures begins { take (length out.old.items) out.new.items ≡ out.old.items }
     ensures steps { OnOk result (steps.new ≤ steps.old + 5 * length (paid payment members.now)) }
     ensures others { ⟦<SIndex as Tables<SourceRows>>⟧.others index.new ≡ ⟦<SIndex as Tables<SourceRows>>⟧.others index.old }
     ensures count { ⟦<SIndex as Tables<SourceRows>>⟧.count index.new + steps.old ≤ ⟦<SIndex as Tables<SourceRows>>⟧.count index.old + steps.new }
@@ -65,6 +66,7 @@ pub fn pay<L: StepBook>(
 /// block, in seconds, and `made` how many sources the chain made. At most five sets a record.
 ///
 /// On `NoMemory` some of it may be written; what is kept stays so.
+#[tactic(auto, using(crate::proofs::Begins::begins_on))]
 pub fn spend_and_make<L: StepBook>(
     index: &mut SIndex,
     alloc: Global,
@@ -84,6 +86,7 @@ pub fn spend_and_make<L: StepBook>(
     ensures fits { OnOk result ((c : Chain) → IsWritten c block.now time payment members.now made → Fits (accounts index.old) c → Fits (accounts index.new) (block.now ∷ c)) }
     ensures texts { Grows (accounts index.old) (accounts index.new) }
     ensures records { OnOk result (out.new.items ≡ out.old.items ++ (flat_map (records_of time block.now.currency) block.now.transactions ++ map (λ s. Dividend (input_of s)) (paid payment members.now))) }
+    ensures begins { take (length out.old.items) out.new.items ≡ out.old.items }
     ensures steps { OnOk result (steps.new ≤ steps.old + 5 * (length (flat_map (records_of time block.now.currency) block.now.transactions) + length (paid payment members.now))) }
     ensures others { ⟦<SIndex as Tables<SourceRows>>⟧.others index.new ≡ ⟦<SIndex as Tables<SourceRows>>⟧.others index.old }
     ensures count { ⟦<SIndex as Tables<SourceRows>>⟧.count index.new + steps.old ≤ ⟦<SIndex as Tables<SourceRows>>⟧.count index.old + steps.new }
@@ -97,6 +100,7 @@ pub fn spend_and_make<L: StepBook>(
 /// hands out what it took. Behind it the index stands for the chain with the block. At most five sets a record.
 ///
 /// On `NoMemory` some of it may be cleared; what is kept stays so.
+#[tactic(auto, using(crate::proofs::Begins::begins_on))]
 pub fn clear_block<L: StepBook>(
     index: &mut SIndex,
     alloc: Global,
@@ -106,6 +110,7 @@ pub fn clear_block<L: StepBook>(
 ) -> Result<Vec<(SourceId, SourceRow)>, NoMemory>
     ensures at { OnOk result ((c : Chain) (b : BlockValue) → IsCleared c b limit (accounts index.old) → HasRows index.old (sources_before_clearing (accounts index.old) c b) → ⟦<SIndex as Tables<SourceRows>>⟧.at index.new (states (sources_left (accounts index.new)) (b ∷ c))) }
     ensures records { OnOk result ((c : Chain) (b : BlockValue) → IsCleared c b limit (accounts index.old) → HasRows index.old (sources_before_clearing (accounts index.old) c b) → out.new.items ≡ out.old.items ++ clearing_records c b) }
+    ensures begins { take (length out.old.items) out.new.items ≡ out.old.items }
     ensures taken { IfOk result (λ taken. (c : Chain) (b : BlockValue) → IsCleared c b limit (accounts index.old) → HasRows index.old (sources_before_clearing (accounts index.old) c b) → map clear_record taken.items ≡ clearing_records c b) }
     ensures texts { accounts index.new ≡ accounts index.old }
     ensures steps { IfOk result (λ taken. steps.new ≤ steps.old + 5 * length taken.items) }

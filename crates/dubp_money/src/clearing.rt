@@ -1,4 +1,4 @@
-ghost use Rattle.std.specs.Prelude.{◌≡◌, ◌+◌, ◌*◌, ◌<◌, ◌≤◌, ◌++◌, ◌∷◌, List, [], filter, length, not, map, OnOk, IfOk, IfSome, IfNone};
+ghost use Rattle.std.specs.Prelude.{◌≡◌, ◌+◌, ◌*◌, ◌<◌, ◌≤◌, ◌++◌, ◌∷◌, List, [], filter, take, length, not, map, OnOk, IfOk, IfSome, IfNone};
 ghost use Rattle.dubp_sindex.specs.Accounts.{accounts as texts};
 ghost use Rattle.dubp_sindex.specs.Rows.{Entry, AreRows, is_of, of_account, units_in};
 ghost use Rattle.dubp_money_steps.specs.Clearing.{HasEnough, kept, taken as cleared, clear_record};
@@ -18,12 +18,14 @@ fn put_entry(
     taken: &mut Vec<(SourceId, SourceRow)>,
     entry: (SourceId, SourceRow),
 ) -> Result<(), NoMemory>
-    ensures { OnOk result (taken.new.items ≡ taken.old.items ++ entry ∷ []) }
+    ensures appended { OnOk result (taken.new.items ≡ taken.old.items ++ entry ∷ []) }
+    ensures begins { take (length taken.old.items) taken.new.items ≡ taken.old.items }
 {
     taken.push(entry).map_err(|_| NoMemory)
 }
 
 // Takes all sources of the account, and puts them behind what was taken.
+#[tactic(auto, using(crate::proofs::Begins::begins_behind))]
 fn take_account<L: StepBook>(
     index: &mut SIndex,
     alloc: Global,
@@ -33,6 +35,7 @@ fn take_account<L: StepBook>(
 ) -> Result<(), NoMemory>
     ensures left { OnOk result ((rows : List Entry) → AreRows rows → HasRows index.old rows → HasRows index.new (filter (λ e. not (is_of account e)) rows)) }
     ensures taken { OnOk result ((rows : List Entry) → AreRows rows → HasRows index.old rows → taken.new.items ≡ taken.old.items ++ of_account account rows) }
+    ensures begins { take (length taken.old.items) taken.new.items ≡ taken.old.items }
     ensures steps { OnOk result (steps.new + 5 * length taken.old.items ≤ steps.old + 5 * length taken.new.items) }
     ensures others { ⟦<SIndex as Tables<SourceRows>>⟧.others index.new ≡ ⟦<SIndex as Tables<SourceRows>>⟧.others index.old }
     ensures count { ⟦<SIndex as Tables<SourceRows>>⟧.count index.new + steps.old ≤ ⟦<SIndex as Tables<SourceRows>>⟧.count index.old + steps.new }
@@ -115,7 +118,8 @@ pub fn clear_accounts<L: StepBook>(
 }
 
 fn put_clear(entry: &(SourceId, SourceRow), out: &mut Vec<Record>) -> Result<(), NoMemory>
-    ensures { OnOk result (out.new.items ≡ out.old.items ++ clear_record entry.now ∷ []) }
+    ensures appended { OnOk result (out.new.items ≡ out.old.items ++ clear_record entry.now ∷ []) }
+    ensures begins { take (length out.old.items) out.new.items ≡ out.old.items }
 {
     let input = Input {
         amount: entry.1.amount,
@@ -126,8 +130,10 @@ fn put_clear(entry: &(SourceId, SourceRow), out: &mut Vec<Record>) -> Result<(),
 }
 
 /// Appends a record of clearing for each of the sources.
+#[tactic(auto, using(crate::proofs::Begins::begins_behind))]
 pub fn put_clears(taken: &[(SourceId, SourceRow)], out: &mut Vec<Record>) -> Result<(), NoMemory>
-    ensures { OnOk result (out.new.items ≡ out.old.items ++ map clear_record taken.now) }
+    ensures appended { OnOk result (out.new.items ≡ out.old.items ++ map clear_record taken.now) }
+    ensures begins { take (length out.old.items) out.new.items ≡ out.old.items }
 {
     for entry in taken {
         put_clear(entry, out)?;

@@ -1,4 +1,4 @@
-ghost use Rattle.std.specs.Prelude.{◌≡◌, ◌+◌, ◌*◌, ◌^◌, ◌≤◌, ◌++◌, List, ◌∷◌, [], IsTrue, length, map, ℕ, OnOk, IfOk};
+ghost use Rattle.std.specs.Prelude.{◌≡◌, ◌+◌, ◌*◌, ◌^◌, ◌≤◌, ◌++◌, List, ◌∷◌, [], IsTrue, take, length, map, ℕ, OnOk, IfOk};
 ghost use Rattle.std.specs.List.{list_any};
 ghost use Rattle.dubp_atoms.specs.Same.{same_text};
 ghost use Rattle.dubp_cond.specs.Conditions.{cond_text};
@@ -115,7 +115,8 @@ fn put_make(
     out: &mut Vec<Record>,
 ) -> Result<(), NoMemory>
     requires { length (cond_text output.now.cond) ≤ 1000 }
-    ensures { OnOk result (out.new.items ≡ out.old.items ++ Make (record { amount = output.now.amount; base = output.now.base; source = source }) (cond_text output.now.cond) ∷ []) }
+    ensures appended { OnOk result (out.new.items ≡ out.old.items ++ Make (record { amount = output.now.amount; base = output.now.base; source = source }) (cond_text output.now.cond) ∷ []) }
+    ensures begins { take (length out.old.items) out.new.items ≡ out.old.items }
 {
     let cond = text_of(alloc, &output.cond)?;
     let input = Input {
@@ -127,9 +128,11 @@ fn put_make(
 }
 
 /// Appends a record for each output of the transaction of this hash.
+#[tactic(auto, using(crate::proofs::Begins::begins_on))]
 pub fn put_makes(alloc: Global, tx: &Tx, hash: &Hash, out: &mut Vec<Record>) -> Result<(), NoMemory>
     requires { IsTx tx.now }
-    ensures { OnOk result ((time : ℕ) → out.new.items ≡ out.old.items ++ map make_record (outputs_at time hash.now tx.now)) }
+    ensures appended { OnOk result ((time : ℕ) → out.new.items ≡ out.old.items ++ map make_record (outputs_at time hash.now tx.now)) }
+    ensures begins { take (length out.old.items) out.new.items ≡ out.old.items }
 {
     let mut place = 0;
     for output in tx.outputs.as_slice() {

@@ -1,4 +1,4 @@
-ghost use Rattle.std.specs.Prelude.{◌≡◌, ◌+◌, ◌*◌, ◌^◌, ◌≤◌, ◌++◌, List, ◌∷◌, [], length, map, OnOk, IfOk};
+ghost use Rattle.std.specs.Prelude.{◌≡◌, ◌+◌, ◌*◌, ◌^◌, ◌≤◌, ◌++◌, List, ◌∷◌, [], take, length, map, OnOk, IfOk};
 ghost use Rattle.dubp_cond.specs.Conditions.{cond_text};
 ghost use Rattle.dubp_cond.specs.declared.source.SourceId.TheVariants.{D};
 ghost use Rattle.dubp_chain.specs.Money.{signed_by as sig_by};
@@ -88,7 +88,8 @@ pub fn pay_dividends<L: StepBook>(
 }
 
 fn put_dividend(payment: Payment, key: &Key, out: &mut Vec<Record>) -> Result<(), NoMemory>
-    ensures { OnOk result (out.new.items ≡ out.old.items ++ Dividend (record { amount = payment.amount; base = payment.base; source = D key.now payment.number }) ∷ []) }
+    ensures appended { OnOk result (out.new.items ≡ out.old.items ++ Dividend (record { amount = payment.amount; base = payment.base; source = D key.now payment.number }) ∷ []) }
+    ensures begins { take (length out.old.items) out.new.items ≡ out.old.items }
 {
     let source = SourceId::D {
         key: *key,
@@ -103,12 +104,14 @@ fn put_dividend(payment: Payment, key: &Key, out: &mut Vec<Record>) -> Result<()
 }
 
 /// Appends a record for the dividend of each of the members.
+#[tactic(auto, using(crate::proofs::Begins::begins_behind))]
 pub fn put_dividends(
     payment: Payment,
     members: &[Key],
     out: &mut Vec<Record>,
 ) -> Result<(), NoMemory>
-    ensures { OnOk result (out.new.items ≡ out.old.items ++ map (λ s. Dividend (input_of s)) (dividends_to payment members.now)) }
+    ensures appended { OnOk result (out.new.items ≡ out.old.items ++ map (λ s. Dividend (input_of s)) (dividends_to payment members.now)) }
+    ensures begins { take (length out.old.items) out.new.items ≡ out.old.items }
 {
     for key in members {
         put_dividend(payment, key, out)?;

@@ -1,4 +1,4 @@
-ghost use Rattle.std.specs.Prelude.{◌≡◌, ◌+◌, ◌*◌, ◌≤◌, ◌++◌, List, ◌∷◌, [], map, length, OnOk};
+ghost use Rattle.std.specs.Prelude.{◌≡◌, ◌+◌, ◌*◌, ◌≤◌, ◌++◌, List, ◌∷◌, [], map, take, length, OnOk};
 ghost use Rattle.dubp_sindex.specs.Accounts.{accounts};
 ghost use Rattle.dubp_sindex.specs.Rows.{Entry, AreRows, without};
 ghost use Rattle.dubp_validity.specs.declared.record.Record.TheVariants.{Spend};
@@ -49,15 +49,18 @@ pub fn spend_inputs<L: StepBook>(
 }
 
 fn put_spend(input: &Input, out: &mut Vec<Record>) -> Result<(), NoMemory>
-    ensures { OnOk result (out.new.items ≡ out.old.items ++ Spend input.now ∷ []) }
+    ensures appended { OnOk result (out.new.items ≡ out.old.items ++ Spend input.now ∷ []) }
+    ensures begins { take (length out.old.items) out.new.items ≡ out.old.items }
 {
     out.push(Record::Spend { input: *input })
         .map_err(|_| NoMemory)
 }
 
 /// Appends a record for each input of the transaction.
+#[tactic(auto, using(crate::proofs::Begins::begins_behind))]
 pub fn put_spends(tx: &Tx, out: &mut Vec<Record>) -> Result<(), NoMemory>
-    ensures { OnOk result (out.new.items ≡ out.old.items ++ map Spend tx.now.inputs) }
+    ensures appended { OnOk result (out.new.items ≡ out.old.items ++ map Spend tx.now.inputs) }
+    ensures begins { take (length out.old.items) out.new.items ≡ out.old.items }
 {
     for input in tx.inputs.as_slice() {
         put_spend(input, out)?;

@@ -1,4 +1,4 @@
-ghost use Rattle.std.specs.Prelude.{◌≡◌, ◌+◌, ◌*◌, ◌^◌, ◌≤◌, ◌++◌, List, map, length, OnOk, IfOk};
+ghost use Rattle.std.specs.Prelude.{◌≡◌, ◌+◌, ◌*◌, ◌^◌, ◌≤◌, ◌++◌, List, map, take, length, OnOk, IfOk};
 ghost use Rattle.std.specs.List.{flat_map};
 ghost use Rattle.dubp_block.specs.Text.{IsBlock};
 ghost use Rattle.dubp_cond.specs.Transactions.{IsTx};
@@ -29,6 +29,7 @@ use std::sync::ledger::Ledger as StepBook;
 /// place on in the order of making. At most five sets a record.
 ///
 /// On `NoMemory` some of it may be written; what is kept stays so.
+#[tactic(auto, using(crate::proofs::Begins::begins_on))]
 pub fn write_transaction<L: StepBook>(
     index: &mut SIndex,
     alloc: Global,
@@ -45,6 +46,7 @@ pub fn write_transaction<L: StepBook>(
     ensures has { OnOk result (HasTexts (accounts index.new) (outputs_at time hash.now tx.now)) }
     ensures texts { Grows (accounts index.old) (accounts index.new) }
     ensures records { OnOk result (out.new.items ≡ out.old.items ++ records_at time hash.now tx.now) }
+    ensures begins { take (length out.old.items) out.new.items ≡ out.old.items }
     ensures steps { OnOk result (steps.new ≤ steps.old + 5 * (length tx.now.inputs + length tx.now.outputs)) }
     ensures others { ⟦<SIndex as Tables<SourceRows>>⟧.others index.new ≡ ⟦<SIndex as Tables<SourceRows>>⟧.others index.old }
     ensures count { ⟦<SIndex as Tables<SourceRows>>⟧.count index.new + steps.old ≤ ⟦<SIndex as Tables<SourceRows>>⟧.count index.old + steps.new }
@@ -61,6 +63,7 @@ pub fn write_transaction<L: StepBook>(
 /// sets a record.
 ///
 /// On `NoMemory` some of it may be written; what is kept stays so.
+#[tactic(auto, using(crate::proofs::Begins::begins_behind))]
 pub fn write_transactions<L: StepBook>(
     index: &mut SIndex,
     alloc: Global,
@@ -79,6 +82,7 @@ pub fn write_transactions<L: StepBook>(
     ensures has { OnOk result (HasTexts (accounts index.new) (all_outputs time block.now.currency block.now.transactions)) }
     ensures texts { Grows (accounts index.old) (accounts index.new) }
     ensures records { OnOk result (out.new.items ≡ out.old.items ++ flat_map (records_of time block.now.currency) block.now.transactions) }
+    ensures begins { take (length out.old.items) out.new.items ≡ out.old.items }
     ensures steps { OnOk result (steps.new ≤ steps.old + 5 * length (flat_map (records_of time block.now.currency) block.now.transactions)) }
     ensures others { ⟦<SIndex as Tables<SourceRows>>⟧.others index.new ≡ ⟦<SIndex as Tables<SourceRows>>⟧.others index.old }
     ensures count { ⟦<SIndex as Tables<SourceRows>>⟧.count index.new + steps.old ≤ ⟦<SIndex as Tables<SourceRows>>⟧.count index.old + steps.new }

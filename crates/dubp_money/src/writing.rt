@@ -1,4 +1,4 @@
-ghost use Rattle.std.specs.Prelude.{◌≡◌, ◌+◌, ◌*◌, ◌≤◌, ◌∷◌, ◌++◌, List, Some, map, length, OnOk, IfOk};
+ghost use Rattle.std.specs.Prelude.{◌≡◌, ◌+◌, ◌*◌, ◌≤◌, ◌∷◌, ◌++◌, List, Some, map, take, length, OnOk, IfOk};
 ghost use Rattle.dubp_atoms.specs.Same.{Text};
 ghost use Rattle.dubp_block.specs.Text.{IsBlock};
 ghost use Rattle.dubp_docs.specs.declared.hashing.TxHashes.{TxHashes as TxHashesValue};
@@ -57,6 +57,7 @@ fn payment_of(block: &Block, head: &Head) -> Option<Payment>
 /// Writes the block, whose head this is, into the index of sources, and appends its records of money. At most five sets a record.
 ///
 /// `made` is how many sources the chain made.
+#[tactic(auto, using(crate::proofs::Begins::begins_on))]
 fn write_index<L: StepBook>(
     index: &mut SIndex,
     alloc: Global,
@@ -72,6 +73,7 @@ fn write_index<L: StepBook>(
     requires hashes { map (λ (h : TxHashesValue). h.whole) hashes.now ≡ hashes_in block.now }
     ensures at { OnOk result ((c : Chain) → Follows c block.now head.now members.now made → StandsFor index.old c → StandsFor index.new (block.now ∷ c)) }
     ensures records { OnOk result ((c : Chain) → Follows c block.now head.now members.now made → StandsFor index.old c → out.new.items ≡ out.old.items ++ money_records c block.now) }
+    ensures begins { take (length out.old.items) out.new.items ≡ out.old.items }
     ensures made { IfOk result (λ w. (c : Chain) → Follows c block.now head.now members.now made → w.made ≡ length (made_sources (block.now ∷ c))) }
     ensures cleared { IfOk result (λ w. (c : Chain) → Follows c block.now head.now members.now made → StandsFor index.old c → w.cleared ≡ cleared_units_by c block.now) }
     ensures steps { OnOk result ((c : Chain) → Follows c block.now head.now members.now made → StandsFor index.old c → steps.new ≤ steps.old + 5 * length (money_records c block.now)) }
@@ -118,6 +120,7 @@ fn write_sources<L: StepBook>(
     requires hashes { map (λ (h : TxHashesValue). h.whole) hashes.now ≡ hashes_in block.now }
     ensures at { OnOk result ((c : Chain) → Follows c block.now head.now members.now made → ⟦<Sources as Tables<Block>>⟧.at sources.old c → ⟦<Sources as Tables<Block>>⟧.at sources.new (block.now ∷ c)) }
     ensures records { OnOk result ((c : Chain) → Follows c block.now head.now members.now made → ⟦<Sources as Tables<Block>>⟧.at sources.old c → out.new.items ≡ out.old.items ++ money_records c block.now) }
+    ensures begins { take (length out.old.items) out.new.items ≡ out.old.items }
     ensures made { IfOk result (λ w. (c : Chain) → Follows c block.now head.now members.now made → w.made ≡ length (made_sources (block.now ∷ c))) }
     ensures cleared { IfOk result (λ w. (c : Chain) → Follows c block.now head.now members.now made → ⟦<Sources as Tables<Block>>⟧.at sources.old c → w.cleared ≡ cleared_units_by c block.now) }
     ensures others { ⟦<Sources as Tables<Block>>⟧.others sources.new ≡ ⟦<Sources as Tables<Block>>⟧.others sources.old }
@@ -197,6 +200,7 @@ pub(crate) fn write_all<L: StepBook>(
     requires hashes { map (λ (h : TxHashesValue). h.whole) hashes.now ≡ hashes_in block.now }
     ensures at { OnOk result ((c : Chain) → IsApplied c block.now head.now → ArePaid (block.now ∷ c) head.now members.now → before ≡ totals_of c → ⟦<Sources as Tables<Block>>⟧.at sources.old c → ⟦<HashesAndTotals as Tables<Block>>⟧.at beside.old c → ⟦<Facts as Tables<Block>>⟧.at facts.old c → ⟦<Sources as Tables<Block>>⟧.at sources.new (block.now ∷ c) × ⟦<HashesAndTotals as Tables<Block>>⟧.at beside.new (block.now ∷ c) × ⟦<Facts as Tables<Block>>⟧.at facts.new (block.now ∷ c)) }
     ensures records { OnOk result ((c : Chain) → IsApplied c block.now head.now → ArePaid (block.now ∷ c) head.now members.now → before ≡ totals_of c → ⟦<Sources as Tables<Block>>⟧.at sources.old c → out.new.items ≡ out.old.items ++ money_records c block.now) }
+    ensures begins { take (length out.old.items) out.new.items ≡ out.old.items }
     ensures sources_others { ⟦<Sources as Tables<Block>>⟧.others sources.new ≡ ⟦<Sources as Tables<Block>>⟧.others sources.old }
     ensures beside_others { ⟦<HashesAndTotals as Tables<Block>>⟧.others beside.new ≡ ⟦<HashesAndTotals as Tables<Block>>⟧.others beside.old }
     ensures facts_others { ⟦<Facts as Tables<Block>>⟧.others facts.new ≡ ⟦<Facts as Tables<Block>>⟧.others facts.old }

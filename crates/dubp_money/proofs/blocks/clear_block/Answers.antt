@@ -18,7 +18,7 @@ pub returns-clause-records : goal.returns-clause-records
 returns-clause-records g c = λ chain b w has.
     let texts = accounts c.args.index.now in
     let took = c.in_ok-taken.ensures.taken (sources_before_clearing texts chain b) (cleared_are_rows texts chain b c.args.limit w) has in
-    c.in_ok-put_clears.ensures
+    c.in_ok-put_clears.ensures.appended
     ∙ ap (λ l. c.args.out.now.items ++ map clear_record l) (c.as_slice.ensures.value ∙ took)
     ∙ ap (λ l. c.args.out.now.items ++ l) (taken_is texts chain b c.args.limit w)
 

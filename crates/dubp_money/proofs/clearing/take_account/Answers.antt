@@ -23,8 +23,8 @@ loop-entry-preserved g c = record {
       (c.in_ok-spend_source.ensures.at (spent_from rows (take c.loop-entry.entry-index c.deref-entry-items.result.now)) (rows-filter _ rows are) (c.loop-entry.invariant.left rows are has));
   taken =
       gathered_next c.args.taken.now.items c.deref-entry-items.result.now c.loop-entry.taken.items c.put_entry.new.taken.items c.loop-entry.entry-index c.entry-item.result (omega arith) c.entry-item.is
-      c.loop-entry.invariant.taken c.in_ok-put_entry.ensures;
-  counted = omega (arith, ap length c.in_ok-put_entry.ensures, length-append c.loop-entry.taken.items (c.entry-item.result ∷ []), c.loop-entry.invariant.counted);
+      c.loop-entry.invariant.taken c.in_ok-put_entry.ensures.appended;
+  counted = omega (arith, ap length c.in_ok-put_entry.ensures.appended, length-append c.loop-entry.taken.items (c.entry-item.result ∷ []), c.loop-entry.invariant.counted);
   steps = omega (arith, c.in_ok-spend_source.ensures.steps, c.loop-entry.invariant.steps);
   texts = c.in_ok-spend_source.ensures.accounts ∙ c.loop-entry.invariant.texts;
   others = c.in_ok-spend_source.ensures.others ∙ c.loop-entry.invariant.others;
