@@ -1,5 +1,5 @@
 //! Records that are copied.
-ghost use Rattle.std.specs.Prelude.{◌≡◌, ◌++◌, IfOk, OnOk};
+ghost use Rattle.std.specs.Prelude.{◌≡◌, ◌++◌, take, length, IfOk, OnOk};
 ghost use Rattle.dubp_validity.specs.declared.record.Record.TheVariants.{Make};
 
 use dubp_atoms::{Items, NoMemory};
@@ -9,13 +9,15 @@ use std::alloc::Global;
 
 /// Appends copies of the records.
 ///
-/// `NoMemory` where there is no room for them, or none for the text of a condition; some may have been appended then.
+/// `NoMemory` where there is no room for them, or none for the text of a condition; some may have been appended then, behind what was there.
+#[tactic(auto, using(dubp_money::proofs::Begins::begins_behind))]
 pub(crate) fn put_copies(
     alloc: Global,
     items: &[Record],
     out: &mut Vec<Record>,
 ) -> Result<(), NoMemory>
-    ensures { OnOk result (out.new.items ≡ out.old.items ++ items.now) }
+    ensures appended { OnOk result (out.new.items ≡ out.old.items ++ items.now) }
+    ensures begins { take (length out.old.items) out.new.items ≡ out.old.items }
 {
     for item in items {
         let copy = copy_of(alloc, item)?;

@@ -1,5 +1,5 @@
 //! The records of transactions and of dividends.
-ghost use Rattle.std.specs.Prelude.{◌≡◌, ◌++◌, Some, map, OnOk};
+ghost use Rattle.std.specs.Prelude.{◌≡◌, ◌++◌, Some, map, take, length, OnOk};
 ghost use Rattle.std.specs.List.{flat_map};
 ghost use Rattle.dubp_block.specs.Text.{IsBlock};
 ghost use Rattle.dubp_cond.specs.Transactions.{IsTx};
@@ -18,6 +18,7 @@ use dubp_validity::Record;
 use std::alloc::Global;
 
 // What a transaction of the block spends, and then what it makes.
+#[tactic(auto, using(dubp_money::proofs::Begins::begins_on))]
 fn put_transaction(
     alloc: Global,
     block: &Block,
@@ -25,7 +26,8 @@ fn put_transaction(
     out: &mut Vec<Record>,
 ) -> Result<(), NoMemory>
     requires { IsTx tx.now }
-    ensures { OnOk result ((c : Chain) → out.new.items ≡ out.old.items ++ transaction_records c block.now tx.now) }
+    ensures appended { OnOk result ((c : Chain) → out.new.items ≡ out.old.items ++ transaction_records c block.now tx.now) }
+    ensures begins { take (length out.old.items) out.new.items ≡ out.old.items }
 {
     let hash = tx_hashes(&block.currency, tx).whole;
     put_spends(tx, out)?;
@@ -34,14 +36,16 @@ fn put_transaction(
 
 /// Appends the records of the transactions of the block, one after the other.
 ///
-/// `NoMemory` where there is no room for them; some may have been appended then.
+/// `NoMemory` where there is no room for them; some may have been appended then, behind what was there.
+#[tactic(auto, using(dubp_money::proofs::Begins::begins_on))]
 pub(crate) fn put_transactions(
     alloc: Global,
     block: &Block,
     out: &mut Vec<Record>,
 ) -> Result<(), NoMemory>
     requires { IsBlock block.now }
-    ensures { OnOk result ((c : Chain) → out.new.items ≡ out.old.items ++ flat_map (transaction_records c block.now) block.now.transactions) }
+    ensures appended { OnOk result ((c : Chain) → out.new.items ≡ out.old.items ++ flat_map (transaction_records c block.now) block.now.transactions) }
+    ensures begins { take (length out.old.items) out.new.items ≡ out.old.items }
 {
     for tx in block.transactions.as_slice() {
         put_transaction(alloc, block, tx, out)?;
@@ -51,14 +55,15 @@ pub(crate) fn put_transactions(
 
 /// Appends the records of what the block, whose head this is, pays to these members; none where it pays nothing.
 ///
-/// `NoMemory` where there is no room for them; some may have been appended then.
+/// `NoMemory` where there is no room for them; some may have been appended then, behind what was there.
 pub(crate) fn put_payments(
     block: &Block,
     head: &Head,
     members: &[Key],
     out: &mut Vec<Record>,
 ) -> Result<(), NoMemory>
-    ensures { OnOk result (out.new.items ≡ out.old.items ++ map (λ s. Dividend (input_of s)) (dividends_at block.now.number (Some head.now) members.now)) }
+    ensures appended { OnOk result (out.new.items ≡ out.old.items ++ map (λ s. Dividend (input_of s)) (dividends_at block.now.number (Some head.now) members.now)) }
+    ensures begins { take (length out.old.items) out.new.items ≡ out.old.items }
 {
     let Some(amount) = head.ud else {
         return Ok(());

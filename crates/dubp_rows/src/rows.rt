@@ -1,5 +1,5 @@
 //! The records of a block.
-ghost use Rattle.std.specs.Prelude.{◌≡◌, ◌∷◌, ◌++◌, Some, OnOk};
+ghost use Rattle.std.specs.Prelude.{◌≡◌, ◌∷◌, ◌++◌, Some, take, length, OnOk};
 ghost use Rattle.std.specs.List.{AllByRecursion};
 ghost use Rattle.dubp_block.specs.Text.{IsBlock};
 ghost use Rattle.dubp_chain.specs.Chains.{Chain};
@@ -23,7 +23,8 @@ use std::alloc::Global;
 /// Appends the records of the block, in the order of the protocol, from its lines, its head, the facts of a chain that it is a block of,
 /// and what it left behind. The block is in range.
 ///
-/// `NoMemory` where there is no room for them; some may have been appended then.
+/// `NoMemory` where there is no room for them; some may have been appended then, behind what was there.
+#[tactic(auto, using(dubp_money::proofs::Begins::begins_on))]
 pub fn put_records(
     alloc: Global,
     block: &Block,
@@ -33,8 +34,9 @@ pub fn put_records(
     out: &mut Vec<Record>,
 ) -> Result<(), NoMemory>
     requires text { IsBlock block.now }
-    ensures { OnOk result ((d c : Chain) → ⟦<Facts as Tables<Block>>⟧.at facts.now (d ++ block.now ∷ c) → IsSound (d ++ block.now ∷ c) → AllByRecursion IsBlock (d ++ block.now ∷ c)
+    ensures appended { OnOk result ((d c : Chain) → ⟦<Facts as Tables<Block>>⟧.at facts.now (d ++ block.now ∷ c) → IsSound (d ++ block.now ∷ c) → AllByRecursion IsBlock (d ++ block.now ∷ c)
         → head_of (block.now ∷ c) ≡ Some head.now → left.now ≡ left_behind c block.now → out.new.items ≡ out.old.items ++ records c block.now) }
+    ensures begins { take (length out.old.items) out.new.items ≡ out.old.items }
 {
     put_lines(alloc, block, facts, out)?;
     put_copies(alloc, left.ended.as_slice(), out)?;

@@ -20,5 +20,5 @@ returns g c =
     let w = c.in-Some.ensures in
     let b = written.block.now in
     let here = c.facts.ensures chain c.people.ensures.at in
-    let put = c.in_ok-put_records.ensures w.above w.below (subst (λ x. (facts.ghosts).at c.facts.result.now x) w.is here) (subst IsSound w.is c.laws.ensures.sound) (subst (AllByRecursion IsBlock) w.is c.laws.ensures.blocks) w.head w.left in
+    let put = c.in_ok-put_records.ensures.appended w.above w.below (subst (λ x. (facts.ghosts).at c.facts.result.now x) w.is here) (subst IsSound w.is c.laws.ensures.sound) (subst (AllByRecursion IsBlock) w.is c.laws.ensures.blocks) w.head w.left in
     ap Some (put ∙ ap (λ l. l ++ records w.below b) c.new-rows.ensures.items) ∙ sym (rows_written chain c.args.number b written.head.now written.left.now w)
