@@ -1,5 +1,6 @@
 pub mod Chains
 pub mod Sizes
+pub mod Members
 pub mod Orders
 pub mod Asking
 pub mod Early

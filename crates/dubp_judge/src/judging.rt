@@ -212,9 +212,6 @@ fn first_of_links(heads: &Heads, blocks: &[Block], block: &Block) -> Option<Rule
     )
 }
 
-/// How many members there are at most.
-const MOST_MEMBERS: u64 = 2_097_151;
-
 // What the limits and the rules behind them say, where the place is right.
 fn judge_placed<T: Judges>(
     alloc: Global,
@@ -239,9 +236,6 @@ fn judge_placed<T: Judges>(
 {
     let frame = Frame::of(alloc, heads)?;
     let members = tables.members_with(alloc, block)?;
-    if members > MOST_MEMBERS {
-        return Err(NoMemory);
-    }
     match augment_over(heads, &frame, params, block, members) {
         Err(passed) => Ok(Judgement::Breaks(passed.rule)),
         Ok(head) => judge_headed(

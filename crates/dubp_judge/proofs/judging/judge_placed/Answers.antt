@@ -1,9 +1,10 @@
-use Rattle.std.proofs.Common.{◌≡◌, ◌∙◌, Some, refl, reverse, arith}
+use Rattle.std.proofs.Common.{◌≡◌, ◌∙◌, ◌<◌, ◌^◌, Some, refl, sym, subst, reverse}
 use Rattle.dubp_head.specs.Laws.{members_with}
 use Rattle.dubp_head.specs.Following.{limit_rules}
 use Rattle.dubp_judge.specs.Asking.{Asks}
 use Rattle.dubp_judge.proofs.Orders.{limit_breaks}
 use Rattle.dubp_judge.proofs.Asking.{others_asked}
+use Rattle.dubp_judge.proofs.Members.{members_are_few}
 use Rattle.dubp_judge.proofs.Heads.{range_with, over_with, are_heads_with, may_follow_with, limit_found, limits_hold, members_by}
 use Rattle.dubp_judge.proofs.judging.judge_placed.Goals as goal
 
@@ -26,7 +27,8 @@ pub augment_over-requires-clause-block : goal.augment_over-requires-clause-block
 augment_over-requires-clause-block g c =
     let r = c.requires in
     may_follow_with c.args.asked c.args.verdicts.now (reverse c.args.blocks.now) c.args.block.now c.args.heads.now c.args.params.now r.known r.text r.opening r.params
-    c.in_ok-members.members r.short (omega (arith, c.if-members-gt-MOST_MEMBERS.false))
+    c.in_ok-members.members r.short
+    (subst (λ n. n < 2 ^ 21) (sym (c.in_ok-members.ensures (reverse c.args.blocks.now) r.at r.known.sound)) (members_are_few (reverse c.args.blocks.now) c.args.block.now r.known.sound r.short))
 
 pub returns-in-Err : goal.returns-in-Err
 returns-in-Err g c =
@@ -60,4 +62,5 @@ judge_headed-requires-clause-follows g c =
     let r = c.requires in
     let same = members_by c.args.params.now c.in_ok-members.members c.args.heads.now.list c.args.block.now c.in-Ok.head c.in-Ok.ensures.head.0 in
     may_follow_with c.args.asked c.args.verdicts.now (reverse c.args.blocks.now) c.args.block.now c.args.heads.now c.args.params.now r.known r.text r.opening r.params
-    c.in-Ok.head.members r.short (omega (arith, c.if-members-gt-MOST_MEMBERS.false, same))
+    c.in-Ok.head.members r.short
+    (subst (λ n. n < 2 ^ 21) (sym (same ∙ c.in_ok-members.ensures (reverse c.args.blocks.now) r.at r.known.sound)) (members_are_few (reverse c.args.blocks.now) c.args.block.now r.known.sound r.short))
