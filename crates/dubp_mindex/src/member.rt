@@ -2,8 +2,8 @@ ghost use Rattle.std.specs.Prelude.{◌≡◌, ℕ, ◌+◌, ◌≤◌, ◌∷�
 ghost use Rattle.std.specs.FinMap.{insert};
 ghost use Rattle.dubp_mindex.specs.Members.{Members, member_at, members};
 
-use dubp_atoms::{Key, NoMemory, Steps};
-use dubp_undo::{Definition, Leaf, Tables};
+use dubp_atoms::{Key, NoMemory, Secret, Steps};
+use dubp_undo::{ByHash, Definition, Found, NoSummary, Tables};
 use std::alloc::Global;
 use std::marker::Model;
 use std::sync::ledger::Ledger as StepBook;
@@ -50,7 +50,7 @@ impl Definition<MemberRows, Key, MemberRow> for Rows {
 }
 
 /// The table of rows.
-type RowTable = Leaf<MemberRows, Key, MemberRow, Rows>;
+type RowTable = Found<MemberRows, Key, MemberRow, Rows, ByHash<Key, Secret>, NoSummary>;
 
 /// The index of memberships: the row of each key.
 #[derive(Drop)]
@@ -123,15 +123,25 @@ impl Tables<MemberRows> for MIndex {
 }
 
 impl MIndex {
-    /// The index in which no key has a row. It takes no memory.
+    /// The index in which no key has a row, hashed by the secret that everybody knows. It takes no memory.
     pub fn new(alloc: Global) -> MIndex
         ensures at { ⟦<MIndex as Tables<MemberRows>>⟧.at result [] }
         ensures count { ⟦<MIndex as Tables<MemberRows>>⟧.count result ≡ 0 }
         ensures kept { (⟦<MIndex as Tables<MemberRows>>⟧.others result).kept ≡ [] }
         ensures ahead { (⟦<MIndex as Tables<MemberRows>>⟧.others result).ahead ≡ [] }
     {
+        MIndex::with_secret(alloc, Secret::known())
+    }
+
+    /// The same index, whose keys are hashed by this secret.
+    pub fn with_secret(alloc: Global, secret: Secret) -> MIndex
+        ensures at { ⟦<MIndex as Tables<MemberRows>>⟧.at result [] }
+        ensures count { ⟦<MIndex as Tables<MemberRows>>⟧.count result ≡ 0 }
+        ensures kept { (⟦<MIndex as Tables<MemberRows>>⟧.others result).kept ≡ [] }
+        ensures ahead { (⟦<MIndex as Tables<MemberRows>>⟧.others result).ahead ≡ [] }
+    {
         MIndex {
-            tables: Leaf::new(alloc),
+            tables: Found::over(ByHash::new(alloc, secret), NoSummary, alloc),
         }
     }
 

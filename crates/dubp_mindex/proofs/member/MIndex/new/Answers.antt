@@ -1,5 +1,0 @@
-use Rattle.dubp_mindex.proofs.Rows.{empty_at}
-use Rattle.dubp_mindex.proofs.member.MIndex.new.Goals as goal
-
-pub returns-clause-at : goal.returns-clause-at
-returns-clause-at c = rw c.new.ensures.now empty_at
