@@ -7,9 +7,9 @@ ghost use Rattle.dubp_iindex.specs.Writing.{sets, writes_of, CanSet, IsReady, Is
 
 use crate::row::{IdentityRow, IdentityRows};
 use crate::tables::AllTables;
-use crate::writing::{Writes, ready_for, set_for, writes_for};
-use dubp_atoms::{Key, NoMemory, Steps, Uid};
-use dubp_undo::{Both, Leaf, Tables, Three};
+use crate::writing::{Writes, ready_for, ready_found, set_for, set_found, writes_for};
+use dubp_atoms::{Key, NoMemory, Secret, Steps, Uid};
+use dubp_undo::{Both, ByHash, Found, Leaf, NoSummary, Tables, Three};
 use std::alloc::Global;
 use std::sync::ledger::Ledger as StepBook;
 
@@ -82,19 +82,30 @@ impl Tables<IdentityRows> for IIndex {
 }
 
 impl IIndex {
-    /// The index without identities, which keeps no earlier state. It takes no memory.
+    /// The index without identities, which keeps no earlier state, hashed by the secret that everybody knows. It takes no memory.
     pub fn new(alloc: Global) -> IIndex
         ensures at { ⟦<IIndex as Tables<IdentityRows>>⟧.at result [] }
         ensures count { ⟦<IIndex as Tables<IdentityRows>>⟧.count result ≡ 0 }
         ensures kept { (⟦<IIndex as Tables<IdentityRows>>⟧.others result).kept ≡ [] }
         ensures ahead { (⟦<IIndex as Tables<IdentityRows>>⟧.others result).ahead ≡ [] }
     {
-        IIndex {
-            tables: Both::new(
-                Leaf::new(alloc),
-                Three::new(Leaf::new(alloc), Leaf::new(alloc), Leaf::new(alloc)),
-            ),
-        }
+        IIndex::with_secret(alloc, Secret::known())
+    }
+
+    /// The same index, whose uids are hashed by this secret.
+    pub fn with_secret(alloc: Global, secret: Secret) -> IIndex
+        ensures at { ⟦<IIndex as Tables<IdentityRows>>⟧.at result [] }
+        ensures count { ⟦<IIndex as Tables<IdentityRows>>⟧.count result ≡ 0 }
+        ensures kept { (⟦<IIndex as Tables<IdentityRows>>⟧.others result).kept ≡ [] }
+        ensures ahead { (⟦<IIndex as Tables<IdentityRows>>⟧.others result).ahead ≡ [] }
+    {
+        let rows = Leaf::new(alloc);
+        let uids = Found::over(ByHash::new(alloc, secret), NoSummary, alloc);
+        let members = Leaf::new(alloc);
+        let counts = Leaf::new(alloc);
+        let derived = Three::new(uids, members, counts);
+        let tables = Both::new(rows, derived);
+        IIndex { tables }
     }
 
     /// The row of the key, or `None` where it has no identity.
@@ -190,7 +201,7 @@ impl IIndex {
     {
         let derived = &mut self.tables.second;
         self.tables.first.ready(key, 1)?;
-        ready_for(&mut derived.first, row.uid, &writes.uid)?;
+        ready_found(&mut derived.first, row.uid, &writes.uid)?;
         ready_for(&mut derived.second, key, &writes.member)?;
         ready_for(&mut derived.third, (), &writes.counts)?;
         Ok(())
@@ -215,7 +226,7 @@ impl IIndex {
     {
         let derived = &mut self.tables.second;
         set_for(&mut self.tables.first, key, Some(Some(*row)), steps)?;
-        set_for(&mut derived.first, row.uid, writes.uid, steps)?;
+        set_found(&mut derived.first, row.uid, writes.uid, steps)?;
         set_for(&mut derived.second, key, writes.member, steps)?;
         set_for(&mut derived.third, (), writes.counts, steps)?;
         Ok(())

@@ -1,8 +1,8 @@
 ghost use Rattle.dubp_iindex.specs.Rows.{row_at, key_at, member_at, counts_at};
 
 use crate::row::{Counts, IdentityRow, IdentityRows};
-use dubp_atoms::{Key, Uid};
-use dubp_undo::{Both, Definition, Leaf, Three};
+use dubp_atoms::{Key, Secret, Uid};
+use dubp_undo::{Both, ByHash, Definition, Found, Leaf, NoSummary, Three};
 
 /// The row of each key.
 pub struct RowsOf;
@@ -34,7 +34,7 @@ impl Definition<IdentityRows, (), Counts> for CountsOf {
 
 type RowTable = Leaf<IdentityRows, Key, IdentityRow, RowsOf>;
 
-type UidTable = Leaf<IdentityRows, Uid, Key, UidsOf>;
+type UidTable = Found<IdentityRows, Uid, Key, UidsOf, ByHash<Uid, Secret>, NoSummary>;
 
 type MemberTable = Leaf<IdentityRows, Key, (), MembersOf>;
 

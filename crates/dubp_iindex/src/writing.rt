@@ -4,7 +4,7 @@ ghost use Rattle.dubp_iindex.specs.Writing.{bit, sets, IsReady, IsWritten, AreWr
 
 use crate::row::{Counts, IdentityRow, IdentityRows};
 use dubp_atoms::{Key, NoMemory, Steps};
-use dubp_undo::{Definition, Leaf, Tables};
+use dubp_undo::{Definition, Finder, Found, Leaf, NoSummary, Tables};
 use std::sync::ledger::Ledger as StepBook;
 
 /// What a key of a table gets: `None` where it is not set, else its new value, or `None` in it where it loses its value.
@@ -38,6 +38,26 @@ pub fn ready_for<K: Ord + Copy, V: Copy + Eq, D: Definition<IdentityRows, K, V>>
     }
 }
 
+/// The same of a table whose slots are found by F.
+pub fn ready_found<K: Copy, V: Copy + Eq, D: Definition<IdentityRows, K, V>, F: Finder<K>>(
+    table: &mut Found<IdentityRows, K, V, D, F, NoSummary>,
+    key: K,
+    write: &Write<V>,
+) -> Result<(), NoMemory>
+    ensures now { ⟦<Found<IdentityRows, K, V, D, F, NoSummary> as Tables<IdentityRows>>⟧.now table.new ≡ ⟦<Found<IdentityRows, K, V, D, F, NoSummary> as Tables<IdentityRows>>⟧.now table.old }
+    ensures count { ⟦<Found<IdentityRows, K, V, D, F, NoSummary> as Tables<IdentityRows>>⟧.count table.new ≡ ⟦<Found<IdentityRows, K, V, D, F, NoSummary> as Tables<IdentityRows>>⟧.count table.old }
+    ensures others { ⟦<Found<IdentityRows, K, V, D, F, NoSummary> as Tables<IdentityRows>>⟧.others table.new ≡ ⟦<Found<IdentityRows, K, V, D, F, NoSummary> as Tables<IdentityRows>>⟧.others table.old }
+    ensures ready { OnOk result (IsReady F.cmp key write.now table.new.table) }
+{
+    match write {
+        Some(_) => {
+            table.ready(key, 1)?;
+            Ok(())
+        }
+        None => Ok(()),
+    }
+}
+
 /// Sets the key, where it is to be: one step then.
 ///
 /// `NoMemory` comes only where the key is not ready.
@@ -52,6 +72,34 @@ pub fn set_for<K: Ord + Copy, V: Copy + Eq, D: Definition<IdentityRows, K, V>, L
     ensures count { ⟦<Leaf<IdentityRows, K, V, D> as Tables<IdentityRows>>⟧.count table.new + steps.old ≤ ⟦<Leaf<IdentityRows, K, V, D> as Tables<IdentityRows>>⟧.count table.old + steps.new }
     ensures step { OnOk result (steps.new ≡ steps.old + sets write) }
     ensures succeeds { IsReady K.cmp key write table.old.table → IsOk result }
+{
+    match write {
+        Some(value) => {
+            table.set(key, value, steps)?;
+            Ok(())
+        }
+        None => Ok(()),
+    }
+}
+
+/// The same of a table whose slots are found by F.
+pub fn set_found<
+    K: Copy,
+    V: Copy + Eq,
+    D: Definition<IdentityRows, K, V>,
+    F: Finder<K>,
+    L: StepBook,
+>(
+    table: &mut Found<IdentityRows, K, V, D, F, NoSummary>,
+    key: K,
+    write: Write<V>,
+    steps: &mut Steps<L>,
+) -> Result<(), NoMemory>
+    ensures now { OnOk result (IsWritten F.cmp key write (⟦<Found<IdentityRows, K, V, D, F, NoSummary> as Tables<IdentityRows>>⟧.now table.old) (⟦<Found<IdentityRows, K, V, D, F, NoSummary> as Tables<IdentityRows>>⟧.now table.new)) }
+    ensures others { ⟦<Found<IdentityRows, K, V, D, F, NoSummary> as Tables<IdentityRows>>⟧.others table.new ≡ ⟦<Found<IdentityRows, K, V, D, F, NoSummary> as Tables<IdentityRows>>⟧.others table.old }
+    ensures count { ⟦<Found<IdentityRows, K, V, D, F, NoSummary> as Tables<IdentityRows>>⟧.count table.new + steps.old ≤ ⟦<Found<IdentityRows, K, V, D, F, NoSummary> as Tables<IdentityRows>>⟧.count table.old + steps.new }
+    ensures step { OnOk result (steps.new ≡ steps.old + sets write) }
+    ensures succeeds { IsReady F.cmp key write table.old.table → IsOk result }
 {
     match write {
         Some(value) => {
