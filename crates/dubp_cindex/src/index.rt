@@ -9,7 +9,7 @@ use crate::row::{CertRow, CertRows, IssuerRow};
 use crate::sides::{no_issued, no_received};
 use crate::tables::CertTables;
 use crate::walking::next_of;
-use dubp_atoms::{Key, NoMemory, Steps};
+use dubp_atoms::{Key, NoMemory, Secret, Steps};
 use dubp_undo::{Leaf, Tables, Three};
 use std::alloc::Global;
 use std::sync::ledger::Ledger as StepBook;
@@ -23,15 +23,29 @@ pub struct CIndex {
 }
 
 impl CIndex {
-    /// The index in which nothing is written. It takes no memory.
+    /// The index in which nothing is written, hashed by the secret that everybody knows. It takes no memory.
     pub fn new(alloc: Global) -> CIndex
         ensures at { ⟦<CIndex as Tables<CertRows>>⟧.at result [] }
         ensures count { ⟦<CIndex as Tables<CertRows>>⟧.count result ≡ 0 }
         ensures kept { (⟦<CIndex as Tables<CertRows>>⟧.others result).kept ≡ [] }
         ensures ahead { (⟦<CIndex as Tables<CertRows>>⟧.others result).ahead ≡ [] }
     {
+        CIndex::with_secret(alloc, Secret::known())
+    }
+
+    /// The same index, in which what is counted for a key is found by this secret.
+    pub fn with_secret(alloc: Global, secret: Secret) -> CIndex
+        ensures at { ⟦<CIndex as Tables<CertRows>>⟧.at result [] }
+        ensures count { ⟦<CIndex as Tables<CertRows>>⟧.count result ≡ 0 }
+        ensures kept { (⟦<CIndex as Tables<CertRows>>⟧.others result).kept ≡ [] }
+        ensures ahead { (⟦<CIndex as Tables<CertRows>>⟧.others result).ahead ≡ [] }
+    {
         CIndex {
-            tables: Three::new(Leaf::new(alloc), no_received(alloc), no_issued(alloc)),
+            tables: Three::new(
+                Leaf::new(alloc),
+                no_received(alloc, secret),
+                no_issued(alloc, secret),
+            ),
         }
     }
 

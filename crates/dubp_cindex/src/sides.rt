@@ -3,8 +3,8 @@ ghost use Rattle.dubp_cindex.specs.Rows.{Rows};
 
 use crate::row::{CertRows, IssuerRow};
 use crate::tables::{IssuedBy, Issuers, Received, ReceivedBy, Side};
-use dubp_atoms::{NoMemory, Steps};
-use dubp_undo::{Both, Leaf, Tables};
+use dubp_atoms::{NoMemory, Secret, Steps};
+use dubp_undo::{Both, ByHash, Found, Leaf, NoSummary, Tables};
 use std::alloc::Global;
 use std::sync::ledger::Ledger as StepBook;
 
@@ -148,26 +148,28 @@ impl Tables<CertRows> for IssuedTables {
     ghost at_is = { λ t c is. is };
 }
 
-/// Nothing is received.
-pub fn no_received(alloc: Global) -> ReceivedTables
+/// Nothing is received. The secret is what the receivers are hashed by.
+pub fn no_received(alloc: Global, secret: Secret) -> ReceivedTables
     ensures at { ⟦<ReceivedTables as Tables<CertRows>>⟧.at result [] }
     ensures count { ⟦<ReceivedTables as Tables<CertRows>>⟧.count result ≡ 0 }
     ensures kept { (⟦<ReceivedTables as Tables<CertRows>>⟧.others result).kept ≡ [] }
     ensures ahead { (⟦<ReceivedTables as Tables<CertRows>>⟧.others result).ahead ≡ [] }
 {
-    ReceivedTables {
-        tables: Both::new(Leaf::new(alloc), Leaf::new(alloc)),
-    }
+    let pairs = Leaf::new(alloc);
+    let counted = Found::over(ByHash::new(alloc, secret), NoSummary, alloc);
+    let tables = Both::new(pairs, counted);
+    ReceivedTables { tables }
 }
 
-/// Nothing is issued.
-pub fn no_issued(alloc: Global) -> IssuedTables
+/// Nothing is issued. The secret is what the issuers are hashed by.
+pub fn no_issued(alloc: Global, secret: Secret) -> IssuedTables
     ensures at { ⟦<IssuedTables as Tables<CertRows>>⟧.at result [] }
     ensures count { ⟦<IssuedTables as Tables<CertRows>>⟧.count result ≡ 0 }
     ensures kept { (⟦<IssuedTables as Tables<CertRows>>⟧.others result).kept ≡ [] }
     ensures ahead { (⟦<IssuedTables as Tables<CertRows>>⟧.others result).ahead ≡ [] }
 {
-    IssuedTables {
-        tables: Both::new(Leaf::new(alloc), Leaf::new(alloc)),
-    }
+    let pairs = Leaf::new(alloc);
+    let counted = Found::over(ByHash::new(alloc, secret), NoSummary, alloc);
+    let tables = Both::new(pairs, counted);
+    IssuedTables { tables }
 }

@@ -3,12 +3,12 @@ ghost use Rattle.dubp_cindex.specs.Changes.{Makes, IsReady, sets_of};
 ghost use Rattle.dubp_cindex.specs.Orders.{text_cmp, place_cmp};
 ghost use Rattle.dubp_cindex.specs.Rows.{rows_along, received_by_along, received_along, issued_by_along, issuers_along};
 
-use crate::changing::{Change, make, ready_for};
+use crate::changing::{Change, make, make_found, ready_for, ready_found};
 use crate::row::{CertRow, CertRows, IssuerRow};
 use crate::sides::{IssuedTables, ReceivedTables};
 use crate::walking::Place;
-use dubp_atoms::{Key, NoMemory, Steps};
-use dubp_undo::{Both, Definition, Leaf, Tables, Three};
+use dubp_atoms::{Key, NoMemory, Secret, Steps};
+use dubp_undo::{Both, ByHash, Definition, Found, Leaf, NoSummary, Tables, Three};
 use std::sync::ledger::Ledger as StepBook;
 
 /// The rows, under the issuer and the receiver.
@@ -46,8 +46,11 @@ impl Definition<CertRows, Key, IssuerRow> for Issuers {
     ghost at = { issuers_along };
 }
 
+/// What is counted for each key.
+pub type Counted<V, E> = Found<CertRows, Key, V, E, ByHash<Key, Secret>, NoSummary>;
+
 /// Pairs that live, and what is counted for their first key.
-pub type Side<V, D, E> = Both<CertRows, Leaf<CertRows, Place, (), D>, Leaf<CertRows, Key, V, E>>;
+pub type Side<V, D, E> = Both<CertRows, Leaf<CertRows, Place, (), D>, Counted<V, E>>;
 
 /// All tables of the index.
 pub type CertTables = Three<
@@ -76,7 +79,7 @@ pub fn ready_side<
     ensures ready_second { OnOk result (IsReady text_cmp side.new.second.table key.now value.now) }
 {
     ready_for(&mut side.first, *place, pair)?;
-    ready_for(&mut side.second, *key, value)?;
+    ready_found(&mut side.second, *key, value)?;
     Ok(())
 }
 
@@ -103,6 +106,6 @@ pub fn make_side<
     ensures succeeds { IsReady place_cmp side.old.first.table place.now pair.now → IsReady text_cmp side.old.second.table key.now value.now → IsOk result }
 {
     make(&mut side.first, *place, pair, steps)?;
-    make(&mut side.second, *key, value, steps)?;
+    make_found(&mut side.second, *key, value, steps)?;
     Ok(())
 }

@@ -5,6 +5,6 @@ use Rattle.dubp_cindex.proofs.sides.no_issued.Goals as goal
 
 pub returns-clause-at : goal.returns-clause-at
 returns-clause-at c = (
-  rw c.new-3.ensures.first (at_nothing place_cmp issued_by_along _ c.new.ensures.now issued_by_nothing),
-  rw c.new-3.ensures.second (at_nothing text_cmp issuers_along _ c.new-2.ensures.now issuers_nothing),
+  rw c.new-tables.ensures.first (at_nothing place_cmp issued_by_along _ c.new-pairs.ensures.now issued_by_nothing),
+  rw c.new-tables.ensures.second (at_nothing text_cmp issuers_along _ c.over-counted.ensures.now issuers_nothing),
 )

@@ -1,7 +1,7 @@
 use Rattle.dubp_cindex.specs.Orders.{place_cmp}
 use Rattle.dubp_cindex.specs.Rows.{rows_along}
 use Rattle.dubp_cindex.proofs.Nothing.{rows_nothing, at_nothing}
-use Rattle.dubp_cindex.proofs.index.CIndex.new.Goals as goal
+use Rattle.dubp_cindex.proofs.index.CIndex.with_secret.Goals as goal
 
 pub returns-clause-at : goal.returns-clause-at
 returns-clause-at c = (
