@@ -9,7 +9,7 @@ ghost use Rattle.dubp_facts.specs.declared.facts.BlockTime.{BlockTime as BlockTi
 ghost use Rattle.dubp_atoms.specs.Same.{empty_stamp};
 
 use dubp_atoms::{Currency, Hash, NoMemory, Stamp, Steps};
-use dubp_undo::{Both, Definition, Leaf, Tables};
+use dubp_undo::{Both, ByNumber, Definition, Found, Leaf, NoSummary, Tables};
 use dubp_validity::{Block, CertLine, Head, Params};
 use std::alloc::Global;
 use std::sync::ledger::Ledger as StepBook;
@@ -38,13 +38,15 @@ impl Definition<Block, (), First> for FirstOf {
 /// The hashes and times of the blocks of each chain, by number.
 pub struct TimesOf;
 
-impl Definition<Block, u64, BlockTime> for TimesOf {
+impl Definition<Block, usize, BlockTime> for TimesOf {
     ghost at = { time_at };
 }
 
 type FirstTable = Leaf<Block, (), First, FirstOf>;
 
-type FirstAndTimes = Both<Block, FirstTable, Leaf<Block, u64, BlockTime, TimesOf>>;
+type TimeTable = Found<Block, usize, BlockTime, TimesOf, ByNumber, NoSummary>;
+
+type FirstAndTimes = Both<Block, FirstTable, TimeTable>;
 
 /// The parameters and the currency of a chain, and the hashes and median times of its blocks by number.
 #[derive(Drop)]
@@ -123,7 +125,10 @@ impl Facts {
         ensures ahead { (⟦<Facts as Tables<Block>>⟧.others result).ahead ≡ [] }
     {
         Facts {
-            tables: Both::new(Leaf::new(alloc), Leaf::new(alloc)),
+            tables: Both::new(
+                Leaf::new(alloc),
+                Found::over(ByNumber::new(alloc), NoSummary, alloc),
+            ),
         }
     }
 
@@ -138,7 +143,7 @@ impl Facts {
     pub fn time_of(&self, number: u64) -> Option<BlockTime>
         ensures { (c : Chain) → ⟦<Facts as Tables<Block>>⟧.at self.now c → result ≡ time_at c number }
     {
-        self.tables.second.get(number)
+        self.tables.second.get(number as usize)
     }
 
     /// When what the stamp dates was made, in seconds: the median time of the block that it names. On the empty chain that is the
@@ -180,13 +185,15 @@ impl Facts {
         ensures no_step { OnErr result (steps.new ≡ steps.old) }
     {
         self.tables.first.ready((), 1)?;
-        self.tables.second.ready(head.number, 1)?;
+        self.tables.second.ready(head.number as usize, 1)?;
         write_first(&mut self.tables.first, block, steps)?;
         let time = BlockTime {
             hash: head.hash,
             time: head.median_time,
         };
-        self.tables.second.set(head.number, Some(time), steps)?;
+        self.tables
+            .second
+            .set(head.number as usize, Some(time), steps)?;
         Ok(())
     }
 }
