@@ -2,7 +2,7 @@ ghost use Rattle.std.specs.Prelude.{◌≡◌, List, [], ℕ};
 ghost use Rattle.dubp_left.specs.OfChain.{Chain};
 ghost use Rattle.dubp_left.specs.Left.{identities_left, memberships_left, certifications_left};
 
-use dubp_atoms::{NoMemory, Steps};
+use dubp_atoms::{NoMemory, Secret, Steps};
 use dubp_cindex::{CIndex, CertRows};
 use dubp_iindex::{IIndex, IdentityRows};
 use dubp_left::Block;
@@ -108,8 +108,8 @@ impl Tables<Block> for Indexes {
 }
 
 impl Indexes {
-    /// Those of the empty chain. It takes no memory.
-    pub fn new(alloc: Global) -> Indexes
+    /// Those of the empty chain. The secret is what keys and uids are hashed by. It takes no memory.
+    pub fn new(alloc: Global, secret: Secret) -> Indexes
         ensures at { ⟦<Indexes as Tables<Block>>⟧.at result [] }
         ensures count { ⟦<Indexes as Tables<Block>>⟧.count result ≡ 0 }
         ensures kept { (⟦<Indexes as Tables<Block>>⟧.others result).kept ≡ [] }
@@ -117,9 +117,9 @@ impl Indexes {
     {
         Indexes {
             tables: Three::new(
-                Along::new(IIndex::new(alloc)),
-                Along::new(MIndex::new(alloc)),
-                Along::new(CIndex::new(alloc)),
+                Along::new(IIndex::with_secret(alloc, secret)),
+                Along::new(MIndex::with_secret(alloc, secret)),
+                Along::new(CIndex::with_secret(alloc, secret)),
             ),
         }
     }

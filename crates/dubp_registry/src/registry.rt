@@ -5,7 +5,7 @@ ghost use Rattle.dubp_left.specs.Left.{identities_left, memberships_left, certif
 
 use crate::indexes::Indexes;
 use crate::others::Others;
-use dubp_atoms::{NoMemory, Steps};
+use dubp_atoms::{NoMemory, Secret, Steps};
 use dubp_cindex::{CIndex, CertRows};
 use dubp_expiry::{Entries, Queue};
 use dubp_iindex::{IIndex, IdentityRows};
@@ -93,8 +93,18 @@ impl Registry {
         ensures kept { (⟦<Registry as Tables<Block>>⟧.others result).kept ≡ [] }
         ensures ahead { (⟦<Registry as Tables<Block>>⟧.others result).ahead ≡ [] }
     {
+        Registry::with_secret(alloc, Secret::known())
+    }
+
+    /// That of the empty chain, whose keys and uids strangers choose: they are hashed by the secret. It takes no memory.
+    pub fn with_secret(alloc: Global, secret: Secret) -> Registry
+        ensures at { ⟦<Registry as Tables<Block>>⟧.at result [] }
+        ensures count { ⟦<Registry as Tables<Block>>⟧.count result ≡ 0 }
+        ensures kept { (⟦<Registry as Tables<Block>>⟧.others result).kept ≡ [] }
+        ensures ahead { (⟦<Registry as Tables<Block>>⟧.others result).ahead ≡ [] }
+    {
         Registry {
-            tables: Both::new(Indexes::new(alloc), Others::new(alloc)),
+            tables: Both::new(Indexes::new(alloc, secret), Others::new(alloc)),
         }
     }
 

@@ -6,7 +6,7 @@ use Rattle.dubp_registry.proofs.indexes.Indexes.new.Goals as goal
 
 pub returns-clause-at : goal.returns-clause-at
 returns-clause-at c = (
-  subst (λ t. (identities.ghosts).at t []) (sym (ap (λ t. t.tables) c.new-7.ensures.first ∙ c.new-2.ensures.tables)) c.new.ensures.at,
-  subst (λ t. (memberships.ghosts).at t []) (sym (ap (λ t. t.tables) c.new-7.ensures.second ∙ c.new-4.ensures.tables)) c.new-3.ensures.at,
-  subst (λ t. (certifications.ghosts).at t []) (sym (ap (λ t. t.tables) c.new-7.ensures.third ∙ c.new-6.ensures.tables)) c.new-5.ensures.at,
+  subst (λ t. (identities.ghosts).at t []) (sym (ap (λ t. t.tables) c.new-4.ensures.first ∙ c.new.ensures.tables)) c.with_secret.ensures.at,
+  subst (λ t. (memberships.ghosts).at t []) (sym (ap (λ t. t.tables) c.new-4.ensures.second ∙ c.new-2.ensures.tables)) c.with_secret-2.ensures.at,
+  subst (λ t. (certifications.ghosts).at t []) (sym (ap (λ t. t.tables) c.new-4.ensures.third ∙ c.new-3.ensures.tables)) c.with_secret-3.ensures.at,
 )

@@ -1,7 +1,7 @@
 use Rattle.std.proofs.Common.{[], sym, subst}
 use Rattle.dubp_registry.specs.contracts.indexes.IndexesTablesBlock.TheImpl as indexes
 use Rattle.dubp_registry.specs.contracts.others.OthersTablesBlock.TheImpl as others
-use Rattle.dubp_registry.proofs.registry.Registry.new.Goals as goal
+use Rattle.dubp_registry.proofs.registry.Registry.with_secret.Goals as goal
 
 pub returns-clause-at : goal.returns-clause-at
 returns-clause-at c = (
