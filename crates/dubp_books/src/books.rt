@@ -100,7 +100,10 @@ impl Books {
         ensures ahead { (⟦<Books as Tables<Block>>⟧.others result).ahead ≡ [] }
     {
         Books {
-            tables: Both::new(People::new(alloc), Money::with_secret(alloc, secret)),
+            tables: Both::new(
+                People::with_secret(alloc, secret),
+                Money::with_secret(alloc, secret),
+            ),
         }
     }
 

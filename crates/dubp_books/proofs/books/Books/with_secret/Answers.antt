@@ -5,6 +5,6 @@ use Rattle.dubp_books.proofs.books.Books.with_secret.Goals as goal
 
 pub returns-clause-at : goal.returns-clause-at
 returns-clause-at c = (
-  subst (λ t. (people.ghosts).at t []) (sym c.new-2.ensures.first) c.new.ensures.at,
-  subst (λ t. (money.ghosts).at t []) (sym c.new-2.ensures.second) c.with_secret.ensures.at,
+  subst (λ t. (people.ghosts).at t []) (sym c.new.ensures.first) c.with_secret.ensures.at,
+  subst (λ t. (money.ghosts).at t []) (sym c.new.ensures.second) c.with_secret-2.ensures.at,
 )
