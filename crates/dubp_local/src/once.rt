@@ -56,11 +56,7 @@ fn has_none<T: Copy + Ord>(set: &BTreeSet<T>, values: &[T]) -> bool
 }
 
 /// Whether each of the values is one of the others.
-fn are_among<T: Copy + Ord>(
-    alloc: Global,
-    values: &[T],
-    others: &[T],
-) -> Result<bool, NoMemory>
+fn are_among<T: Copy + Ord>(alloc: Global, values: &[T], others: &[T]) -> Result<bool, NoMemory>
     ensures { IfOk result (λ among. among ≡ list_all (λ value. list_any (T.eq value) others.now) values.now) }
 {
     let set = set_of(alloc, others)?;
@@ -68,11 +64,7 @@ fn are_among<T: Copy + Ord>(
 }
 
 /// Whether none of the values is one of the others.
-fn are_apart<T: Copy + Ord>(
-    alloc: Global,
-    values: &[T],
-    others: &[T],
-) -> Result<bool, NoMemory>
+fn are_apart<T: Copy + Ord>(alloc: Global, values: &[T], others: &[T]) -> Result<bool, NoMemory>
     ensures { IfOk result (λ apart. apart ≡ list_all (λ value. not (list_any (T.eq value) others.now)) values.now) }
 {
     let set = set_of(alloc, others)?;
