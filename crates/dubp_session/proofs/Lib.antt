@@ -1,6 +1,7 @@
 pub mod Buffers
 pub mod Cuts
 pub mod Exists
+pub mod Gatherings
 pub mod Givens
 pub mod Items
 pub mod Lines

@@ -12,6 +12,7 @@
 
 mod buffer;
 mod form;
+mod gathered;
 mod generating;
 mod item;
 mod laws;
