@@ -5,6 +5,7 @@ pub mod Gatherings
 pub mod Givens
 pub mod Items
 pub mod Lines
+pub mod Questions
 pub mod RunSteps
 pub mod Serves
 pub mod Sessions

@@ -3,6 +3,7 @@ pub mod Cut
 pub mod Turns
 pub mod Session
 pub mod Serving
+pub mod Asking
 pub mod Gathering
 pub mod Run
 pub mod Ends

@@ -10,6 +10,7 @@
 //! ```
 #![tactic(auto)]
 
+mod asking;
 mod buffer;
 mod form;
 mod gathered;
