@@ -12,52 +12,44 @@ use Rattle.dubp_session.specs.Turns.{EntryTurn}
 use Rattle.dubp_replay.specs.Turns.{State}
 use Rattle.dubp_session.specs.Session.{Broke}
 use Rattle.dubp_session.specs.Reading.{Stands, Takes, InLongLine}
-use Rattle.dubp_session.specs.Serving.{TurnWritten, TurnBroke, ServedTo, ServedAll, Finished}
+use Rattle.dubp_session.specs.Serving.{Finished}
+use Rattle.dubp_session.specs.Gathering.{Owed, OwedTo, TurnOwed, TurnOwedBroke}
 use Rattle.dubp_session.specs.declared.item.Item.{Item}
 use Rattle.dubp_session.specs.declared.serving.InputEnd.TheVariants.{OnBoundary, InsideFrame}
 use Rattle.dubp_session.specs.declared.reading.Phase.{Phase}
 use Rattle.dubp_session.specs.declared.reading.Phase.TheVariants.{Start}
-use Rattle.dubp_session.specs.declared.reading.Found.TheVariants.{Got, Pass, Wait}
+use Rattle.dubp_session.specs.declared.reading.Found.TheVariants.{Got}
 use Rattle.dubp_session.proofs.Cuts.{text_begins_none, part_begins_none, line_shape}
-use Rattle.dubp_session.proofs.Sessions.{served_nothing, served_then, served_one, broke_one, broke_then}
+use Rattle.dubp_session.proofs.Gatherings.{owed_served}
+use Rattle.dubp_session.proofs.Sessions.{served_nothing, served_one, broke_one}
 use Rattle.dubp_session.proofs.Taking.{is_text-append, long_no_head}
 
 pub on_err : {T E : Type 0} (r : Result T E) (P : Type 0) → P → OnErr r P
 on_err (Ok x) P p = tt
 on_err (Err e) P p = p
 
-pub served_pass : (old mid : State) (before between : Option (List ℕ)) (bytes rest after : List ℕ) (phase next : Phase) (used : ℕ) → ServedTo old mid before between bytes phase rest → Takes phase rest (Pass used next) → after ≡ drop used rest → ServedTo old mid before between bytes next after
-served_pass old mid before between bytes rest after phase next used s t e = record {
-  rest = s.rest;
-  served = s.served;
-  stands = subst (λ h. Stands next h s.rest) (sym e) (t.2 s.rest s.stands);
+pub owed_nothing : (state : State) (held : Option (List ℕ)) (bytes hand gathered : List ℕ) (phase : Phase) → gathered ≡ [] → Stands phase hand bytes → OwedTo state state held held bytes phase hand gathered
+owed_nothing state held bytes hand gathered phase none s = record {
+  rest = bytes;
+  owed = subst (Owed state state held held bytes bytes) (sym none) (owed_served state state held held bytes bytes (served_nothing state held bytes));
+  stands = s;
 }
 
-pub served_got : (old mid new : State) (before between after : Option (List ℕ)) (bytes rest left : List ℕ) (phase : Phase) (item : Item) (used : ℕ) → ServedTo old mid before between bytes phase rest → Takes phase rest (Got used item) → TurnWritten mid new between after item → left ≡ drop used rest → ServedTo old new before after bytes Start left
-served_got old mid new before between after bytes rest left phase item used s t w e =
-    let one = t.2 s.rest s.stands in
-    let turn = w one.command one.whole one.shows in
+pub owed_got : (old middle new : State) (before between after : Option (List ℕ)) (bytes rest more gathered left : List ℕ) (phase : Phase) (item : Item) (used : ℕ) → OwedTo old middle before between bytes phase rest gathered → Takes phase rest (Got used item) → TurnOwed middle new between after gathered left item → more ≡ drop used rest → OwedTo old new before after bytes Start more left
+owed_got old middle new before between after bytes rest more gathered left phase item used o t w e =
+    let one = t.2 o.rest o.stands in
     record {
-      rest = left;
-      served = served_then old mid new before between after bytes s.rest left s.served
-          (served_one mid new between after s.rest left turn.0 one.command (one.bytes_are ∙ ap (λ u. text_of one.command ++ u) (sym e)) one.whole turn.1 turn.2);
+      rest = more;
+      owed = w one.command one.whole one.shows old before bytes more
+          (subst (λ u. Owed old middle before between bytes u gathered) (one.bytes_are ∙ ap (λ u. text_of one.command ++ u) (sym e)) o.owed);
       stands = refl;
     }
 
-pub broke_got : (old mid new : State) (before between after : Option (List ℕ)) (bytes rest : List ℕ) (phase : Phase) (item : Item) (used : ℕ) → ServedTo old mid before between bytes phase rest → Takes phase rest (Got used item) → TurnBroke mid new between after item → Broke old new before after bytes
-broke_got old mid new before between after bytes rest phase item used s t w =
-    let one = t.2 s.rest s.stands in
-    let turn = w one.command one.whole one.shows in
-    broke_then old mid new before between after bytes s.rest s.served
-    (broke_one mid new between after s.rest (drop used rest) turn.0 one.command one.bytes_are one.whole turn.1 turn.2)
-
-pub served_wait : (old new : State) (before after : Option (List ℕ)) (bytes rest hand : List ℕ) (phase : Phase) → ServedTo old new before after bytes phase rest → Takes phase rest Wait → hand ≡ rest → ServedAll old new before after bytes phase hand
-served_wait old new before after bytes rest hand phase s t e = record {
-  rest = s.rest;
-  served = s.served;
-  stands = subst (λ h. Stands phase h s.rest) (sym e) s.stands;
-  no_more = t.1 s.rest s.stands;
-}
+pub owed_broke : (old middle new : State) (before between after : Option (List ℕ)) (bytes rest gathered : List ℕ) (phase : Phase) (item : Item) (used : ℕ) → OwedTo old middle before between bytes phase rest gathered → Takes phase rest (Got used item) → TurnOwedBroke middle new between after gathered item → Broke old new before after bytes
+owed_broke old middle new before between after bytes rest gathered phase item used o t w =
+    let one = t.2 o.rest o.stands in
+    w one.command one.whole one.shows old before bytes (drop used rest)
+    (subst (λ u. Owed old middle before between bytes u gathered) one.bytes_are o.owed)
 
 -- a list has a first LF or none
 pub text_or_line : (xs : List ℕ) → IsText xs ⊎ ((front : List ℕ) × (back : List ℕ) × IsText front × (xs ≡ front ++ LF ∷ back))

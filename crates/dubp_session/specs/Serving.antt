@@ -23,13 +23,7 @@ abbrev pub TurnBroke : State → State → Option (List ℕ) → Option (List �
 TurnBroke old new before after item =
     (entry : Entry) → IsWhole entry → Shows item entry → (answer : List ℕ) × EntryTurn old entry answer new × AppendsPart before after answer
 
--- The commands that begin these bytes were answered as far as the bytes at hand go on from there.
-pub record ServedTo (old new : State) (before after : Option (List ℕ)) (bytes : List ℕ) (phase : Phase) (hand : List ℕ) : Type 0 where
-  pub rest : List ℕ
-  pub served : Served old new before after bytes rest
-  pub stands : Stands phase hand rest
-
--- All of them were, and few bytes are left at hand.
+-- The commands that begin these bytes were answered as far as whole ones stand there, and few bytes are left at hand.
 pub record ServedAll (old new : State) (before after : Option (List ℕ)) (bytes : List ℕ) (phase : Phase) (hand : List ℕ) : Type 0 where
   pub rest : List ℕ
   pub served : Served old new before after bytes rest

@@ -10,8 +10,12 @@ ghost use Rattle.dubp_turns.specs.OfQuery.{answer_bytes};
 ghost use Rattle.dubp_replay.specs.Turns.{State};
 ghost use Rattle.dubp_session.specs.Session.{Broke};
 ghost use Rattle.dubp_session.specs.Reading.{Shows, Stands, most_at_hand};
+ghost use Rattle.dubp_session.specs.Asking.{ShowsQuestion};
+ghost use Rattle.dubp_session.specs.Gathering.{TurnOwed, TurnOwedBroke};
 ghost use Rattle.dubp_session.specs.Serving.{TurnWritten, TurnBroke, ServedAll, Finished};
 
+use crate::asking::is_question;
+use crate::gathered::{Gathered, flush, keep};
 use crate::item::Item;
 use crate::reading::{Found, LONGEST_LINE, Phase, frame_head, line_end, take_one};
 use crate::texts::bad;
@@ -23,8 +27,48 @@ use dubp_script::{Framed, read_command};
 use dubp_turns::{Answer, Node, refused};
 use std::sync::ledger::Ledger as StepBook;
 
-/// The node takes its turn, and the answer is written.
+// An entry takes its turn. The answer of one that is sure to change nothing is gathered; before any other, what was gathered is written, and
+// its own answer behind its turn.
 fn take_turn<T: PeopleAndMoney, K: Sink, L: StepBook>(
+    node: &mut Node<T>,
+    sink: &mut K,
+    gathered: &mut Gathered,
+    item: Item<'_>,
+    steps: &mut Steps<L>,
+) -> Result<(), Failed>
+    ensures owed { OnOk result (TurnOwed node.old node.new (K.held sink.old) (K.held sink.new) gathered.old gathered.new item.entry) }
+    ensures broke { OnErr result (TurnOwedBroke node.old node.new (K.held sink.old) (K.held sink.new) gathered.old item.entry) }
+    ensures cause { HasCause (K.faults sink.old) (K.faults sink.new) result }
+{
+    if is_question(&item) {
+        return gather_turn(node, sink, gathered, item, steps);
+    }
+    if let Err(failed) = flush(sink, gathered) {
+        return Err(failed);
+    }
+    write_turn(node, sink, item, steps)
+}
+
+// An entry that is sure to change nothing takes its turn, and its answer is gathered.
+fn gather_turn<T: PeopleAndMoney, K: Sink, L: StepBook>(
+    node: &mut Node<T>,
+    sink: &mut K,
+    gathered: &mut Gathered,
+    item: Item<'_>,
+    steps: &mut Steps<L>,
+) -> Result<(), Failed>
+    requires { ShowsQuestion item }
+    ensures owed { OnOk result (TurnOwed node.old node.new (K.held sink.old) (K.held sink.new) gathered.old gathered.new item.entry) }
+    ensures broke { OnErr result (TurnOwedBroke node.old node.new (K.held sink.old) (K.held sink.new) gathered.old item.entry) }
+    ensures cause { HasCause (K.faults sink.old) (K.faults sink.new) result }
+{
+    node.laws();
+    let answer = answer_item(node, item, steps);
+    keep(sink, gathered, answer.as_bytes())
+}
+
+/// The node takes its turn, and the answer is written.
+fn write_turn<T: PeopleAndMoney, K: Sink, L: StepBook>(
     node: &mut Node<T>,
     sink: &mut K,
     item: Item<'_>,
@@ -118,7 +162,7 @@ fn skip(bytes: &[u8], count: usize) -> &[u8]
     &bytes[count..]
 }
 
-/// Answers each whole command at hand. Gives how the bytes go on, and how many are left at hand.
+/// Answers each whole command at hand, and writes all the answers. Gives how the bytes go on, and how many are left at hand.
 pub fn serve<T: PeopleAndMoney, K: Sink, L: StepBook>(
     node: &mut Node<T>,
     sink: &mut K,
@@ -133,17 +177,23 @@ pub fn serve<T: PeopleAndMoney, K: Sink, L: StepBook>(
         Broke node.old node.new (K.held sink.old) (K.held sink.new) bytes) }
     ensures cause { HasCause (K.faults sink.old) (K.faults sink.new) result }
 {
+    let mut gathered = Gathered::new();
     let mut phase = phase;
     let mut rest = hand;
     'commands: loop {
         match take_one(phase, rest) {
-            Found::Wait => return Ok((phase, rest.len())),
+            Found::Wait => {
+                if let Err(failed) = flush(sink, &mut gathered) {
+                    return Err(failed);
+                }
+                return Ok((phase, rest.len()));
+            }
             Found::Pass(used, next) => {
                 phase = next;
                 rest = skip(rest, used);
             }
             Found::Got(used, item) => {
-                if let Err(failed) = take_turn(node, sink, item, steps) {
+                if let Err(failed) = take_turn(node, sink, &mut gathered, item, steps) {
                     return Err(failed);
                 }
                 phase = Phase::Start;
@@ -179,7 +229,7 @@ pub fn finish<T: PeopleAndMoney, K: Sink, L: StepBook>(
     match phase {
         Phase::LongFrame(_) => Ok(InputEnd::InsideFrame),
         Phase::LongLine => {
-            if let Err(failed) = take_turn(node, sink, Item::LongLine, steps) {
+            if let Err(failed) = write_turn(node, sink, Item::LongLine, steps) {
                 return Err(failed);
             }
             Ok(InputEnd::OnBoundary)
@@ -235,7 +285,7 @@ fn finish_item<T: PeopleAndMoney, K: Sink, L: StepBook>(
     ensures broke { OnErr result (Broke node.old node.new (K.held sink.old) (K.held sink.new) (hand.now ++ lacking hand.now)) }
     ensures cause { HasCause (K.faults sink.old) (K.faults sink.new) result }
 {
-    match take_turn(node, sink, item, steps) {
+    match write_turn(node, sink, item, steps) {
         Ok(()) => Ok(InputEnd::OnBoundary),
         Err(failed) => Err(failed),
     }

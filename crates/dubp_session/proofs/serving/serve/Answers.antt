@@ -1,6 +1,5 @@
 use Rattle.std.proofs.Common.{sym, ◌∙◌, refl, ◌≡◌, ap, length, drop, length-drop, ◌-◌, arith}
-use Rattle.dubp_session.proofs.Sessions.{served_nothing}
-use Rattle.dubp_session.proofs.Serves.{served_got, broke_got, rest_more}
+use Rattle.dubp_session.proofs.Serves.{owed_nothing, owed_got, owed_broke, rest_more}
 use Rattle.dubp_session.proofs.serving.serve.Goals as goal
 
 pub commands-init : goal.commands-init
@@ -10,17 +9,17 @@ commands-init g c =
       same = refl;
       is_rest = ap (λ n. drop n c.args.hand.now) none;
       shorter = omega arith;
-      so_far = λ bytes s. record { rest = bytes; served = served_nothing _ _ _; stands = s };
+      so_far = λ bytes s. owed_nothing _ _ bytes _ _ _ c.new-gathered.ensures s;
     }
 
-pub returns-in-Err-clause-broke : goal.returns-in-Err-clause-broke
-returns-in-Err-clause-broke g c = λ bytes s.
-    broke_got _ _ _ _ _ _ bytes _ _ _ _ (c.commands.invariant.so_far bytes s) c.in-Got.ensures c.in-Err.ensures.broke
+pub returns-in-Err-take_turn-clause-broke : goal.returns-in-Err-take_turn-clause-broke
+returns-in-Err-take_turn-clause-broke g c = λ bytes s.
+    owed_broke _ _ _ _ _ _ bytes _ _ _ _ _ (c.commands.invariant.so_far bytes s) c.in-Got.ensures c.in-Err-take_turn.ensures.broke
 
 pub commands-preserved : goal.commands-preserved
 commands-preserved g c = record {
-  same = c.commands.invariant.same ∙ sym c.in_default.ensures.cause.same;
+  same = c.commands.invariant.same ∙ sym c.in_default-take_turn.ensures.cause.same;
   is_rest = rest_more _ _ _ c.in-Got.used c.commands.invariant.is_rest c.commands.invariant.shorter c.in-Got.ensures.1 c.skip-rest-in-Got.ensures;
   shorter = omega (arith, ap length c.skip-rest-in-Got.ensures, length-drop c.in-Got.used c.commands.rest.now);
-  so_far = λ bytes s. served_got _ _ _ _ _ _ bytes _ _ _ _ _ (c.commands.invariant.so_far bytes s) c.in-Got.ensures c.in_default.ensures.written c.skip-rest-in-Got.ensures;
+  so_far = λ bytes s. owed_got _ _ _ _ _ _ bytes _ _ _ _ _ _ _ (c.commands.invariant.so_far bytes s) c.in-Got.ensures c.in_default-take_turn.ensures.owed c.skip-rest-in-Got.ensures;
 }

@@ -1,6 +1,6 @@
 use Rattle.std.proofs.Common.{◌≡◌, ◌-◌, ◌≤◌, ℕ, List, length, drop}
+use Rattle.dubp_session.specs.Gathering.{OwedTo}
 use Rattle.dubp_session.specs.Reading.{Stands}
-use Rattle.dubp_session.specs.Serving.{ServedTo}
 use Rattle.dubp_session.proofs.serving.serve.Given as goal
 
 abbrev pub invariant-commands : goal.invariant-commands
@@ -8,7 +8,7 @@ invariant-commands g l = record {
   same : g.K.Sink.faults l.initial.sink ≡ g.K.Sink.faults l.sink;
   is_rest : l.rest ≡ drop (length l.hand - length l.rest) l.hand;
   shorter : length l.rest ≤ length l.hand;
-  so_far : (bytes : List ℕ) → Stands l.initial.phase l.hand bytes → ServedTo l.initial.node l.node (g.K.Sink.held l.initial.sink) (g.K.Sink.held l.sink) bytes l.phase l.rest;
+  so_far : (bytes : List ℕ) → Stands l.initial.phase l.hand bytes → OwedTo l.initial.node l.node (g.K.Sink.held l.initial.sink) (g.K.Sink.held l.sink) bytes l.phase l.rest l.gathered;
 }
 
 abbrev pub decreases-commands : goal.decreases-commands
