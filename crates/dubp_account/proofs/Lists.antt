@@ -1,8 +1,9 @@
 -- Lists in turn: one element more.
-use Rattle.std.proofs.Common.{◌≡◌, ◌+◌, ◌<◌, ℕ, zero, suc, List, [], ◌∷◌, ◌++◌, length, map, take, fold, get_or, refl, ap, sym, ◌∙◌, subst, arith}
+use Rattle.std.proofs.Common.{◌≡◌, ◌+◌, ◌<◌, ℕ, zero, suc, List, [], ◌∷◌, ◌++◌, length, map, take, drop, fold, get_or, refl, ap, sym, ◌∙◌, subst, append_assoc, take-append-drop, arith}
 use Rattle.std.specs.List.{enumerate_from}
 use Rattle.std.proofs.lemmas.List.{take_more, length-take-le, map-append, take_all}
 use Rattle.std.proofs.lemmas.List.Sums.{fold-append}
+use Rattle.std.proofs.Math.Seq.{take-append_seam}
 
 -- a fold over one element more
 pub fold_next : {X Y : Type 0} (f : Y → X → Y) (a : Y) (xs : List X) (i : ℕ) (x : X) → i < length xs → x ≡ get_or xs i x → fold f a (take (i + 1) xs) ≡ f (fold f a (take i xs)) x
@@ -53,3 +54,13 @@ mapped_more f g a xs i x within is =
     ap (λ l. fold f a (map g l)) (take_more xs i x within ∙ ap (λ y. take i xs ++ y ∷ []) (sym is))
     ∙ ap (fold f a) (map-append g (take i xs) (x ∷ []))
     ∙ fold-append f a (map g (take i xs)) (g x ∷ [])
+
+-- what a list begins with that is appended to more than once
+module _ {A : Type 0} where
+  front_of : (xs ys : List A) → take (length xs) ys ≡ xs → ys ≡ xs ++ drop (length xs) ys
+  front_of xs ys begins = sym (take-append-drop (length xs) ys) ∙ ap (λ l. l ++ drop (length xs) ys) begins
+
+  pub begins_on : (xs ys zs : List A) → take (length xs) ys ≡ xs → take (length ys) zs ≡ ys → take (length xs) zs ≡ xs
+  begins_on xs ys zs first next =
+      ap (take (length xs)) (front_of ys zs next ∙ ap (λ l. l ++ drop (length ys) zs) (front_of xs ys first) ∙ append_assoc xs (drop (length xs) ys) (drop (length ys) zs))
+      ∙ take-append_seam xs (drop (length xs) ys ++ drop (length ys) zs)

@@ -1,9 +1,9 @@
 -- What the code keeps of a condition's account. Protocol: statements.
-use Rattle.std.specs.Prelude.{◌≡◌, ℕ, [], ◌∷◌, ◌++◌}
+use Rattle.std.specs.Prelude.{◌≡◌, ℕ, List, [], ◌∷◌, ◌++◌}
 use Rattle.std.specs.List.{list_any}
 use Rattle.dubp_chain.specs.OfCond.{Input, SourceId}
 use Rattle.dubp_chain.specs.Money.{same_source}
-use Rattle.dubp_replay.specs.OfMoves.{Account, Kind, Made, last_balance, moved}
+use Rattle.dubp_replay.specs.OfMoves.{Account, Kind, Made, Move, last_balance, moved}
 use Rattle.dubp_account.specs.declared.tally.Tally.{Tally}
 
 -- one move more of the account
@@ -13,6 +13,10 @@ with_move kind number a input = record a { moves = moved number (record { kind =
 -- one source more of the account, which is made
 abbrev pub with_source : ℕ → Account → Input → Account
 with_source number a input = with_move Made number (record a { names = a.names ++ input.source ∷ [] }) input
+
+-- the moves of a tally, whatever account it is of
+abbrev pub moves_of : Tally → List Move
+moves_of t = t.moves.items
 
 -- the tally knows the same names as the account, and has its moves and the units behind the last
 pub record IsTallyOf (a : Account) (t : Tally) : Type 0 where

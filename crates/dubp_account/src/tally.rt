@@ -1,11 +1,11 @@
 //! What is known of a condition's account, block by block.
-ghost use Rattle.std.specs.Prelude.{◌≡◌, ◌+◌, ◌||◌, ◌++◌, ◌∷◌, [], OnOk, IfOk};
+ghost use Rattle.std.specs.Prelude.{◌≡◌, ◌+◌, ◌||◌, ◌++◌, ◌∷◌, [], take, length, OnOk, IfOk};
 ghost use Rattle.std.specs.List.{list_any};
 ghost use Rattle.dubp_chain.specs.Heads.{units as units_of};
 ghost use Rattle.dubp_chain.specs.Money.{same_source};
 ghost use Rattle.dubp_chain.specs.OfCond.{SourceId as SourceIdValue};
 ghost use Rattle.dubp_replay.specs.OfMoves.{Account, balance_behind, no_account, with_gone};
-ghost use Rattle.dubp_account.specs.Tallies.{IsTallyOf, with_move, with_source};
+ghost use Rattle.dubp_account.specs.Tallies.{IsTallyOf, moves_of, with_move, with_source};
 
 use dubp_atoms::NoMemory;
 use dubp_cond::{Input, SourceId};
@@ -35,7 +35,8 @@ impl Tally {
 
     /// The moves, in order.
     pub fn into_moves(self) -> Vec<Move>
-        ensures { (a : Account) → IsTallyOf a self → result.items ≡ a.moves }
+        ensures account { (a : Account) → IsTallyOf a self → result.items ≡ a.moves }
+        ensures moves { result.items ≡ moves_of self }
     {
         self.moves
     }
@@ -44,7 +45,8 @@ impl Tally {
     ///
     /// `NoMemory` where there is no room, or the units are no number of 128 bits.
     pub(crate) fn make(&mut self, number: u64, input: &Input) -> Result<(), NoMemory>
-        ensures { OnOk result ((a : Account) → IsTallyOf a self.old → IsTallyOf (with_source number a input.now) self.new) }
+        ensures account { OnOk result ((a : Account) → IsTallyOf a self.old → IsTallyOf (with_source number a input.now) self.new) }
+        ensures begins { take (length (moves_of self.old)) (moves_of self.new) ≡ moves_of self.old }
     {
         insert(&mut self.names, input.source)?;
         self.note(number, Kind::Made, input)
@@ -54,7 +56,8 @@ impl Tally {
     ///
     /// `NoMemory` where there is no room, or the units are no number of 128 bits.
     pub(crate) fn take(&mut self, number: u64, kind: Kind, input: &Input) -> Result<(), NoMemory>
-        ensures { OnOk result ((a : Account) → IsTallyOf a self.old → IsTallyOf (with_gone kind number a input.now) self.new) }
+        ensures account { OnOk result ((a : Account) → IsTallyOf a self.old → IsTallyOf (with_gone kind number a input.now) self.new) }
+        ensures begins { take (length (moves_of self.old)) (moves_of self.new) ≡ moves_of self.old }
     {
         if !has(&self.names, &input.source) {
             return Ok(());
@@ -64,7 +67,8 @@ impl Tally {
 
     // One move more.
     fn note(&mut self, number: u64, kind: Kind, input: &Input) -> Result<(), NoMemory>
-        ensures { OnOk result ((a : Account) → IsTallyOf a self.old → IsTallyOf (with_move kind number a input.now) self.new) }
+        ensures account { OnOk result ((a : Account) → IsTallyOf a self.old → IsTallyOf (with_move kind number a input.now) self.new) }
+        ensures begins { take (length (moves_of self.old)) (moves_of self.new) ≡ moves_of self.old }
     {
         let balance = balance_after(self.balance, kind, input)?;
         let next = Move {
@@ -83,7 +87,8 @@ impl Tally {
 
 // Appends the value.
 fn push<T: Drop>(list: &mut Vec<T>, value: T) -> Result<(), NoMemory>
-    ensures { OnOk result (list.new.items ≡ list.old.items ++ value ∷ []) }
+    ensures appended { OnOk result (list.new.items ≡ list.old.items ++ value ∷ []) }
+    ensures begins { take (length list.old.items) list.new.items ≡ list.old.items }
 {
     list.push(value).map_err(|_| NoMemory)
 }

@@ -5,8 +5,8 @@ use Rattle.dubp_account.specs.Tallies.{IsTallyOf}
 use Rattle.dubp_account.proofs.Folds.{none_made}
 use Rattle.dubp_account.proofs.blocks.add_outputs.Goals as goal
 
-pub returns-then-not-has_output : goal.returns-then-not-has_output
-returns-then-not-has_output c = λ time a is.
+pub returns-then-not-has_output-clause-account : goal.returns-then-not-has_output-clause-account
+returns-then-not-has_output-clause-account c = λ time a is.
     let b = c.args.block.now in
     subst (λ (x : Account). IsTallyOf x c.args.tally.now)
     (sym (none_made c.args.cond.now b.number time (tx_hash b.currency c.args.tx.now) 0 a c.args.tx.now.outputs (sym c.has_output.ensures ∙ c.if-not-has_output.true))) is

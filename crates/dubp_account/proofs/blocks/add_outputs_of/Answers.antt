@@ -4,8 +4,8 @@ use Rattle.dubp_chain.specs.OfCond.{T}
 use Rattle.dubp_chain.specs.Money.{output_source}
 use Rattle.dubp_validity.specs.Records.{input_of}
 use Rattle.dubp_replay.specs.OfMoves.{Account, with_made}
-use Rattle.dubp_account.specs.Tallies.{IsTallyOf}
-use Rattle.dubp_account.proofs.Lists.{numbered_more}
+use Rattle.dubp_account.specs.Tallies.{IsTallyOf, moves_of}
+use Rattle.dubp_account.proofs.Lists.{begins_on, numbered_more}
 use Rattle.dubp_account.proofs.blocks.add_outputs_of.Goals as goal
 
 pub loop-output-preserved : goal.loop-output-preserved
@@ -23,5 +23,6 @@ loop-output-preserved c =
           ap (λ (k : ℕ). record { amount = o.amount; base = o.base; source = T hash k }) (sym c.loop-output.invariant.place) in
           subst (λ (x : Account). IsTallyOf x c.add_output.new.tally)
           (sym (numbered_more step made a outputs i o c.loop-output-test.true c.output-item.is))
-          (c.in_ok-add_output.ensures (made (i, o)) (fold step a (map made (enumerate_from 0 (take i outputs)))) refl input (c.loop-output.invariant.made time a is));
+          (c.in_ok-add_output.ensures.account (made (i, o)) (fold step a (map made (enumerate_from 0 (take i outputs)))) refl input (c.loop-output.invariant.made time a is));
+      begins = begins_on (moves_of c.args.tally.now) (moves_of c.loop-output.tally) (moves_of c.add_output.new.tally) c.loop-output.invariant.begins c.add_output.ensures.begins;
     }

@@ -27,4 +27,4 @@ returns g c =
     let before = subst (λ (x : Chain). IsTallyOf (account_of cond x) c.args.tally.now) (first_below chain number b h l w) is in
     subst (λ (x : Chain). IsTallyOf (account_of cond x) c.add_block.new.tally) (sym (first_with chain number b h l w))
     (added w.below (account_of cond w.below) w.head w.left before))
-    c.add_block.ensures
+    c.add_block.ensures.account

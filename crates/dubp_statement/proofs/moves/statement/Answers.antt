@@ -9,5 +9,5 @@ returns g c =
     let cond = c.args.cond.now.items in
     let sound = c.laws.ensures.sound in
     let tally = subst (λ (t : List ℕ). IsTallyOf (account_of t chain) c.in_ok-tally.tally) c.as_slice.ensures.value c.in_ok-tally.ensures in
-    subst (IsStatement chain cond) (sym (c.into_moves.ensures (account_of cond chain) tally ∙ c.accounts_have_the_moves.ensures chain cond sound))
+    subst (IsStatement chain cond) (sym (c.into_moves.ensures.account (account_of cond chain) tally ∙ c.accounts_have_the_moves.ensures chain cond sound))
     (c.moves_are_statements.ensures chain cond sound)

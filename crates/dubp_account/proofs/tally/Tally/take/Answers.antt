@@ -3,11 +3,11 @@ use Rattle.std.proofs.lemmas.Result.{on_ok_weaker}
 use Rattle.dubp_account.proofs.Tallies.{gone, not_gone}
 use Rattle.dubp_account.proofs.tally.Tally.take.Goals as goal
 
-pub returns-then-not-has : goal.returns-then-not-has
-returns-then-not-has c = λ a is. not_gone c.args.self.now a c.args.kind c.args.number c.args.input.now is (sym c.has.ensures ∙ c.if-not-has.true)
+pub returns-then-not-has-clause-account : goal.returns-then-not-has-clause-account
+returns-then-not-has-clause-account c = λ a is. not_gone c.args.self.now a c.args.kind c.args.number c.args.input.now is (sym c.has.ensures ∙ c.if-not-has.true)
 
-pub returns : goal.returns
-returns c =
+pub returns-clause-account : goal.returns-clause-account
+returns-clause-account c =
     on_ok_weaker c.note.result
     (λ noted a is. gone c.args.self.now c.note.new.self a c.args.kind c.args.number c.args.input.now is (sym c.has.ensures ∙ c.if-not-has.false) (noted a is))
-    c.note.ensures
+    c.note.ensures.account
