@@ -2,3 +2,4 @@ pub mod Identities
 pub mod Certs
 pub mod Distances
 pub mod Views
+pub mod RecordNumbers

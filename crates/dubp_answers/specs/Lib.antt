@@ -1,4 +1,6 @@
 pub mod SourceLines
 pub mod CertificationLines
 pub mod RecordLines
+pub mod RecordNumbers
 pub mod MoveLines
+pub mod OfValidity

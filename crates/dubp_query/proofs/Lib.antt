@@ -1,3 +1,4 @@
 pub mod Heads
 pub mod Queries
 pub mod ForgeAnswers
+pub mod Records

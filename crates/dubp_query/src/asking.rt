@@ -65,6 +65,7 @@ fn records_of<T: PeopleAndMoney>(
 ) -> Result<Vec<u8>, NoMemory>
     ensures { IfOk result (λ text. text.items ≡ records_answer ledger.now.chain number) }
 {
+    ledger.laws();
     let rows = ledger.rows_at(number)?;
     let text = records_text(alloc, rows.as_deref())?;
     Ok(text)
