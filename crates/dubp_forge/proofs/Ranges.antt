@@ -205,3 +205,6 @@ is_small c issuer time docs b all few keeps =
       few_transactions docs all,
       few,
     )
+
+pub few_joiners : (c : Chain) (issuer : Text) (time : ℕ) (docs : List Doc) (b : Block) → length docs ≤ 1024 → KeepsDraft (with_lines c issuer time docs) b → length b.joiners ≤ 65536
+few_joiners c issuer time docs b few keeps = omega (arith, ap length keeps.joiners, few_lines (joiners_of c) (one_joiner c) docs, few)

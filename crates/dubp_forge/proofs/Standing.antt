@@ -15,7 +15,7 @@ use Rattle.dubp_forge.specs.Steps.{IsBlank, IsDrafted, IsGiven, count_marked, do
 use Rattle.dubp_forge.proofs.Places.{all_docs_at, all_front, all_last, all_push, docs_at-push, length-docs_at}
 use Rattle.dubp_forge.proofs.Marks.{apart_front, apart_last, apart_push, count_few, count_set, count_unset, is_in-own, mark, mark_at, unmark}
 use Rattle.dubp_forge.proofs.Sections.{keeps_less, keeps_more}
-use Rattle.dubp_forge.proofs.Ranges.{is_draft, is_small}
+use Rattle.dubp_forge.proofs.Ranges.{few_joiners, is_draft, is_small}
 
 -- ---- at the start
 
@@ -82,6 +82,9 @@ module _ (f : Forging) (b : Block) (ps : List ℕ) (ms : List Bool) (stands : Is
 
     pub in_size : size_of b < 2 ^ 53
     in_size = is_small f.chain f.issuer f.time (docs_at f.pool ps) b (all_docs_at IsDoc f.pool ps pending.each) (omega (arith, as_many_docs, few_places, pending.few)) stands.keeps
+
+    pub joiners_few : length b.joiners ≤ 65536
+    joiners_few = few_joiners f.chain f.issuer f.time (docs_at f.pool ps) b (omega (arith, as_many_docs, few_places, pending.few)) stands.keeps
 
   keeps_through : (a d e : Block) → KeepsDraft a d → KeepsDraft d e → KeepsDraft a e
   keeps_through a d e k l = record {

@@ -105,3 +105,6 @@ small_draft n x s source =
     (few_mapped (identity_line s) (newcomers n) 8 (few_newcomers n)) (few_mapped (member_line s s) (newcomers n) 8 (few_newcomers n)) (few_mapped (member_line s empty_stamp) (renewed n) 1 (few_renewed n))
     no_leavers no_revoked
     (few_mapped (certification_line n s) (certified n) 56 (few_certified n)) (few_lines x s source)
+
+pub few_joiners : (n x : ℕ) (s : Stamp) (source : Option Input) → length (draft_of n x s source).joiners ≤ 65536
+few_joiners n x s source = omega (arith, few_mapped (member_line s s) (newcomers n) 8 (few_newcomers n))

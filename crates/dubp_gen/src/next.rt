@@ -73,6 +73,7 @@ fn draft_next<T: PeopleAndMoney>(
     ensures given { IfOk result (λ d. (start : ℕ) → x ≡ number_at start (length ledger.now.chain) → d.verdicts.items ≡ next_given start ledger.now.chain) }
     ensures valid { IfOk result (λ d. IsBlock (with_parameters d.block)) }
     ensures size { IfOk result (λ d. size_of d.block < 2 ^ 53) }
+    ensures joiners { IfOk result (λ d. length d.block.joiners ≤ 65536) }
     ensures first { IfOk result (λ d. ledger.now.chain ≡ [] → IsBlock d.block) }
 {
     ledger.laws();
@@ -93,6 +94,7 @@ fn draft_next<T: PeopleAndMoney>(
 fn seal_next<T: PeopleAndMoney>(ledger: &Ledger<T>, draft: Block) -> Result<Sealed, GenRefusal>
     requires valid { IsBlock (with_parameters draft) }
     requires size { size_of draft < 2 ^ 53 }
+    requires joiners { length draft.joiners ≤ 65536 }
     requires first { ledger.now.chain ≡ [] → IsBlock draft }
     ensures sealed { IfOk result (IsSealedBlock ledger.now.chain draft) }
     ensures block { IfOk result (λ s. IsBlock s.block) }
@@ -121,6 +123,7 @@ fn seal_later<T: PeopleAndMoney>(ledger: &Ledger<T>, draft: Block) -> Result<Sea
     requires some { 1 ≤ length ledger.now.chain }
     requires valid { IsBlock (with_parameters draft) }
     requires size { size_of draft < 2 ^ 53 }
+    requires joiners { length draft.joiners ≤ 65536 }
     ensures sealed { IfOk result (IsSealedBlock ledger.now.chain draft) }
     ensures block { IfOk result (λ s. IsBlock s.block) }
     ensures ended { IfErr result (HasNoSeal ledger.now.chain draft) }

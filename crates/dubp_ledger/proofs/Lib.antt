@@ -8,3 +8,4 @@ pub mod Filled
 pub mod Headers
 pub mod Stated
 pub mod Excluded
+pub mod Members

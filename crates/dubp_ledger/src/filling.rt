@@ -17,9 +17,6 @@ use dubp_params::Params;
 use dubp_people_and_money::PeopleAndMoney;
 use dubp_people_views::{kicked, members_with};
 
-/// How many members there are at most.
-const MOST_MEMBERS: u64 = 2_097_151;
-
 /// Numbers of blocks are below this.
 const NUMBERS: u64 = 1 << 40;
 
@@ -28,12 +25,13 @@ impl<T: PeopleAndMoney> Ledger<T> {
     /// Excluded, and gets who has to be excluded, and its header, with the values of the head of the chain with it. Where `X03`, `X04` or
     /// `X08` fails it has no dividend, and the base of the chain. InnerHash is right, Nonce is 0, and the signature is 86 `A` and `==`.
     ///
-    /// The time and the lines of the draft are in range, and its size is below 2^53; nothing else of it is read. The draft is dropped where
-    /// there is no memory, which also stands for the 2^40th block and for more than 2,097,151 members.
+    /// The time and the lines of the draft are in range, its size is below 2^53, and it has at most 65,536 lines of Joiners; nothing else of it is
+    /// read. The draft is dropped where there is no memory, which also stands for the 2^40th block.
     pub fn fill(&self, draft: Block) -> Result<Block, NoMemory>
         requires some { 1 ≤ length self.now.chain }
         requires draft { IsDraft draft }
         requires size { size_of draft < 2 ^ 53 }
+        requires joiners { length draft.joiners ≤ 65536 }
         ensures filled { IfOk result (IsFilled self.now.chain draft) }
         ensures valid { IfOk result IsBlock }
     {
@@ -56,13 +54,11 @@ impl<T: PeopleAndMoney> Ledger<T> {
         requires some { 1 ≤ length self.now.chain }
         requires params { params.now ≡ params_of self.now.chain }
         requires may { MayFollow 0 (heads_of self.now.chain) block.now }
+        requires joiners { length block.now.joiners ≤ 65536 }
         ensures stated { IfOk result (IsStated self.now.chain block.now) }
         ensures range { IfOk result CanBeStated }
     {
         let members = members_with(self.alloc(), self.people(), block)?;
-        if members > MOST_MEMBERS {
-            return Err(NoMemory);
-        }
         match augment(self.alloc(), self.heads(), params, block, members) {
             Ok(head) => Ok(head),
             Err(HeadRefusal::Refused { head, .. }) => Ok(head),

@@ -1,8 +1,8 @@
-use Rattle.std.proofs.Common.{◌^◌, ◌<◌, ap, sym, subst, ◌∙◌}
+use Rattle.std.proofs.Common.{◌^◌, ◌<◌, ◌≤◌, length, ap, sym, subst, ◌∙◌}
 use Rattle.dubp_block.specs.Text.{size_of}
 use Rattle.dubp_gen.specs.Generated.{first_source}
 use Rattle.dubp_gen.proofs.Drafted.{drafted, drafted_given}
-use Rattle.dubp_gen.proofs.Sizes.{small_draft}
+use Rattle.dubp_gen.proofs.Sizes.{few_joiners, small_draft}
 use Rattle.dubp_gen.proofs.next.draft_next.Goals as goal
 
 pub returns-in_ok-drafted-in-Some-clause-block : goal.returns-in_ok-drafted-in-Some-clause-block
@@ -22,3 +22,7 @@ returns-in_ok-drafted-in-Some-clause-given g c = λ start number.
 pub returns-in_ok-drafted-in-Some-clause-size : goal.returns-in_ok-drafted-in-Some-clause-size
 returns-in_ok-drafted-in-Some-clause-size g c =
     subst (λ b. size_of b < 2 ^ 53) (sym c.in_ok-drafted-in-Some.ensures.block) (small_draft c.len.result c.args.x c.in-Some.stamp c.in_ok-source-in-Some.source)
+
+pub returns-in_ok-drafted-in-Some-clause-joiners : goal.returns-in_ok-drafted-in-Some-clause-joiners
+returns-in_ok-drafted-in-Some-clause-joiners g c =
+    subst (λ b. length b.joiners ≤ 65536) (sym c.in_ok-drafted-in-Some.ensures.block) (few_joiners c.len.result c.args.x c.in-Some.stamp c.in_ok-source-in-Some.source)

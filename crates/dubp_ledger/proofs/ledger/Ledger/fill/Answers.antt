@@ -1,4 +1,4 @@
-use Rattle.std.proofs.Common.{◌≡◌, ◌∙◌, true, arith, refl, sym, subst}
+use Rattle.std.proofs.Common.{◌≡◌, ◌≤◌, ◌∙◌, true, length, arith, refl, sym, subst}
 use Rattle.std.specs.Prelude.{All}
 use Rattle.dubp_atoms.specs.Letters.{is_key}
 use Rattle.dubp_block.specs.Text.{IsBlock}
@@ -35,6 +35,9 @@ stated_head-requires-clause-may g c =
     let is = c.place-block.ensures.block in
     subst (MayFollow 0 (heads_of chain)) (sym is)
     (may_follow chain _ 0 c.requires.some (subst IsBlock is c.place-block.ensures.valid) c.requires.size c.len-number.ensures (omega (arith, c.if-number-ge-NUMBERS.false)) refl refl (omega arith))
+
+pub stated_head-requires-clause-joiners : goal.stated_head-requires-clause-joiners
+stated_head-requires-clause-joiners g c = subst (λ b. length b.joiners ≤ 65536) (sym c.place-block.ensures.block) c.requires.joiners
 
 pub returns-clause-filled : goal.returns-clause-filled
 returns-clause-filled g c =
