@@ -4,3 +4,4 @@ pub mod Rounds
 pub mod Sealing
 pub mod Shown
 pub mod Sizes
+pub mod Spendable

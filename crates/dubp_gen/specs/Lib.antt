@@ -1,3 +1,4 @@
 pub mod Generated
 pub mod Making
 pub mod OfLedger
+pub mod Spendable

@@ -1,35 +1,34 @@
-ghost use Rattle.std.specs.Prelude.{◌≡◌, ◌<◌, ◌≤◌, ◌++◌, codes, IfOk, IsTrue};
+ghost use Rattle.std.specs.Prelude.{◌≡◌, ◌<◌, ◌++◌, codes, Some};
+ghost use Rattle.std.specs.List.{AllByRecursion};
+ghost use Rattle.dubp_atoms.specs.Spelling.{IsNumber};
+ghost use Rattle.dubp_block.specs.Text.{IsBlock};
 ghost use Rattle.dubp_chain.specs.Chains.{Chain};
 ghost use Rattle.dubp_validity.specs.Rules.{IsSound};
 ghost use Rattle.dubp_drafts.specs.Drafting.{IsSpendable};
-ghost use Rattle.dubp_cond.specs.Sources.{IsInput, IsSource};
+ghost use Rattle.dubp_cond.specs.Sources.{IsSource};
 ghost use Rattle.dubp_gen.specs.Generated.{first_source};
 ghost use Rattle.dubp_gen.specs.Making.{input_of};
+ghost use Rattle.dubp_gen.specs.Spendable.{IsWorth, place_in};
 
 use arrayvec::ArrayVec;
-use dubp_atoms::{Key, NoMemory};
+use dubp_atoms::Key;
 use dubp_block::Block;
 use dubp_cond::{CondText, Input, SourceId};
 use dubp_drafts::{KEYS, key_of};
 use dubp_ledger::Money;
-use dubp_money_views::{SourceView, first_source as first_view};
+use dubp_money_views::SourceView;
 use dubp_undo::Tables;
 
-/// Numbers of texts are below this.
-const NUMBERS: u64 = 1 << 53;
-
-/// The first unspent source of the account of the key of this number, in the order of making, where it has one.
-///
-/// `NoMemory` stands for one that has no text, which no chain has.
-pub(crate) fn first_source(money: &Money, person: u32) -> Result<Option<Input>, NoMemory>
-    requires { person < KEYS }
-    ensures source { IfOk result (λ source. (c : Chain) → ⟦<Money as Tables<Block>>⟧.at money.now c → IsSound c → source ≡ first_source c person) }
-    ensures valid { IfOk result IsSpendable }
+/// The first unspent source of the account of the key of this number, in the order of making, where it has one. It takes no memory.
+pub(crate) fn first_source(money: &Money, person: u32) -> Option<Input>
+    requires key { person < KEYS }
+    requires chain { (c : Chain) × (⟦<Money as Tables<Block>>⟧.at money.now c × IsSound c × AllByRecursion IsBlock c) }
+    ensures source { (c : Chain) → ⟦<Money as Tables<Block>>⟧.at money.now c → IsSound c → result ≡ first_source c person }
+    ensures valid { IsSpendable result }
 {
-    match first_view(money, &account_of(&key_of(person))) {
-        None => Ok(None),
-        Some(view) if can_be_spent(&view) => Ok(Some(input_of(&view))),
-        Some(_) => Err(NoMemory),
+    match dubp_money_views::first_source(money, &account_of(&key_of(person))) {
+        None => None,
+        Some(view) => Some(input_of(&view)),
     }
 }
 
@@ -44,35 +43,31 @@ fn account_of(key: &Key) -> CondText
     text
 }
 
-/// Whether a source with these values has a text, and is worth at least 1.
-fn can_be_spent(view: &SourceView) -> bool
-    ensures { IsTrue result → IsInput (input_of view.now) × (1 ≤ view.now.amount) }
-{
-    view.amount >= 1 && view.amount < NUMBERS && view.base <= 15 && is_named(&view.source)
-}
-
-fn is_named(source: &SourceId) -> bool
-    ensures { IsTrue result → IsSource source.now }
-{
-    // the key and the hash are in range by their types
-    match source {
-        SourceId::D { key, block } => {
-            key.as_bytes();
-            *block < NUMBERS
-        }
-        SourceId::T { tx, index } => {
-            tx.as_bytes();
-            *index < NUMBERS
-        }
-    }
-}
-
+/// A source that is shown, as an input that can be spent.
 fn input_of(view: &SourceView) -> Input
-    ensures { result ≡ input_of view.now }
+    requires { IsWorth (input_of view.now) }
+    ensures value { result ≡ input_of view.now }
+    ensures valid { IsSpendable (Some result) }
 {
+    look_at_name(&view.source);
     Input {
         amount: view.amount,
         base: view.base,
         source: view.source,
+    }
+}
+
+/// Does nothing but look at the key or the hash, which is in range by its type.
+fn look_at_name(source: &SourceId)
+    requires { IsNumber (place_in source.now) }
+    ensures { IsSource source.now }
+{
+    match source {
+        SourceId::D { key, .. } => {
+            key.as_bytes();
+        }
+        SourceId::T { tx, .. } => {
+            tx.as_bytes();
+        }
     }
 }

@@ -5,6 +5,9 @@ use Rattle.dubp_gen.proofs.Drafted.{drafted, drafted_given}
 use Rattle.dubp_gen.proofs.Sizes.{few_joiners, small_draft}
 use Rattle.dubp_gen.proofs.next.draft_next.Goals as goal
 
+pub first_source-requires-clause-chain : goal.first_source-requires-clause-chain
+first_source-requires-clause-chain g c = (c.args.ledger.now.chain, (c.money.ensures.at, c.laws.ensures.sound, c.laws.ensures.blocks))
+
 pub returns-in_ok-drafted-in-Some-clause-block : goal.returns-in_ok-drafted-in-Some-clause-block
 returns-in_ok-drafted-in-Some-clause-block g c = λ start number.
     let chain = c.args.ledger.now.chain in

@@ -1,6 +1,5 @@
-use Rattle.std.proofs.Common.{◌≤◌, ap, sym, subst, ◌∙◌}
-use Rattle.dubp_cond.specs.Sources.{IsInput}
-use Rattle.dubp_gen.proofs.Shown.{account_is, first_is, none_is}
+use Rattle.std.proofs.Common.{Some, ap, sym, ◌∙◌}
+use Rattle.dubp_gen.proofs.Shown.{account_is, first_is, first_is_worth, none_is}
 use Rattle.dubp_gen.proofs.spending.first_source.Goals as goal
 
 pub returns-in-None-clause-source : goal.returns-in-None-clause-source
@@ -8,11 +7,12 @@ returns-in-None-clause-source c = λ chain at sound.
     let account = account_is c.account_of.result.items c.key_of.result c.args.person c.account_of.ensures c.key_of.ensures in
     none_is chain c.args.person c.account_of.result.items account (sym c.in-None.is ∙ c.first_source.ensures chain at sound)
 
+pub input_of-requires : goal.input_of-requires
+input_of-requires c =
+    let given = c.requires.chain in
+    first_is_worth given.0 c.account_of.result.items c.in-Some.view given.1.1 given.1.2 (sym c.in-Some.is ∙ c.first_source.ensures given.0 given.1.0 given.1.1)
+
 pub returns-in-Some-clause-source : goal.returns-in-Some-clause-source
 returns-in-Some-clause-source c = λ chain at sound.
     let account = account_is c.account_of.result.items c.key_of.result c.args.person c.account_of.ensures c.key_of.ensures in
-    ap Some c.input_of.ensures ∙ first_is chain c.args.person c.account_of.result.items account c.in-Some.view (sym c.in-Some.is ∙ c.first_source.ensures chain at sound)
-
-pub returns-in-Some-clause-valid : goal.returns-in-Some-clause-valid
-returns-in-Some-clause-valid c =
-    subst (λ i. IsInput i × (1 ≤ i.amount)) (sym c.input_of.ensures) (c.can_be_spent.ensures c.if-can_be_spent.true)
+    ap Some c.input_of.ensures.value ∙ first_is chain c.args.person c.account_of.result.items account c.in-Some.view (sym c.in-Some.is ∙ c.first_source.ensures chain at sound)
