@@ -12,7 +12,7 @@ use Rattle.dubp_forging.specs.Filled.{IsDraft, IsFilled, KeepsDraft}
 use Rattle.dubp_forging.specs.Drafts.{IsDraftOf, with_lines}
 use Rattle.dubp_forging.specs.Forged.{Forging, is_in}
 use Rattle.dubp_forge.specs.Steps.{IsBlank, IsDrafted, IsGiven, count_marked, docs_at, with_line, without_line}
-use Rattle.dubp_forge.proofs.Places.{all_docs_at, all_front, all_last, all_push, docs_at-push, length-docs_at}
+use Rattle.dubp_forge.proofs.Places.{all_docs_at, all_front, all_push, docs_at-push, length-docs_at}
 use Rattle.dubp_forge.proofs.Marks.{apart_front, apart_last, apart_push, count_few, count_set, count_unset, is_in-own, mark, mark_at, unmark}
 use Rattle.dubp_forge.proofs.Sections.{keeps_less, keeps_more}
 use Rattle.dubp_forge.proofs.Ranges.{few_joiners, is_draft, is_small}
