@@ -1,6 +1,9 @@
 """The helpers of tools/hostile: the answers that are allowed, and the blocks that are made."""
 
+import importlib.machinery
+import importlib.util
 import pathlib
+import random
 import re
 import sys
 
@@ -94,3 +97,14 @@ def test_answers_are_told_apart(tmp_path):
         assert asked.ask([b"TWO\n", b"x\n", b"x\n", b"TWO\n"]) == [b"A\nEND\n", b"BAD\n", b"BAD\n", b"A\nEND\n"]
         assert asked.ask([b"TWO\n"]) == [b"A\nEND\n"]
         assert asked.end() == 0
+
+
+@pytest.mark.parametrize("text", [b"a:\n\nb:\n\n\n", b"Version: 10\nType: Block\nNumber: 3\n\n\n"])
+def test_every_change_takes_a_text_without_what_it_looks_for(text):
+    loader = importlib.machinery.SourceFileLoader("mutated_input", str(TOOLS / "hostile/mutated_input"))
+    spec = importlib.util.spec_from_loader("mutated_input", loader)
+    tool = importlib.util.module_from_spec(spec)
+    loader.exec_module(tool)
+    for change in [*tool.CHANGES, *tool.NEAR]:
+        for seed in range(20):
+            assert isinstance(change(text, [text], random.Random(seed)), bytes)
