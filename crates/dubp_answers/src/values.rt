@@ -1,5 +1,5 @@
 //! The parts of a line.
-ghost use Rattle.std.specs.Prelude.{◌≡◌, ◌+◌, ◌≤◌, ◌++◌, decimal, OnOk};
+ghost use Rattle.std.specs.Prelude.{◌≡◌, ◌+◌, ◌≤◌, ◌++◌, decimal, OnOk, OnErr};
 ghost use Rattle.arrayvec.specs.ArrayVec.{array_vec_len};
 ghost use Rattle.dubp_replay.specs.Answers.{none_answer, spaced};
 
@@ -27,7 +27,8 @@ pub(crate) fn none_line() -> Line
 
 /// Adds bytes to a text.
 pub(crate) fn add(text: &mut Vec<u8>, bytes: &[u8]) -> Result<(), NoMemory>
-    ensures { OnOk result (text.new.items ≡ text.old.items ++ bytes.now) }
+    ensures added { OnOk result (text.new.items ≡ text.old.items ++ bytes.now) }
+    ensures refused { OnErr result (text.new.items ≡ text.old.items) }
 {
     text.extend_from_slice(bytes).map_err(|_| NoMemory)
 }

@@ -1,4 +1,4 @@
-ghost use Rattle.std.specs.Prelude.{◌≡◌, ◌++◌, ◌∷◌, [], ℕ, List, Option, IfOk, OnOk};
+ghost use Rattle.std.specs.Prelude.{◌≡◌, ◌++◌, ◌∷◌, [], ℕ, List, Option, IfOk, OnOk, OnErr};
 ghost use Rattle.dubp_atoms.specs.Letters.{is_key, is_sig};
 ghost use Rattle.dubp_atoms.specs.Reading.{text_if, stamp_of};
 ghost use Rattle.dubp_cond.specs.ReadingLines.{input_of, unlock_line_of, output_of};
@@ -213,7 +213,8 @@ pub fn take_rows<R: ReadRow>(
 
 /// Appends a value to a list. `NoMemory` where there is no room for it.
 pub fn push<T: Drop>(list: &mut Vec<T>, value: T) -> Result<(), NoMemory>
-    ensures { OnOk result (list.new.items ≡ list.old.items ++ value ∷ []) }
+    ensures appended { OnOk result (list.new.items ≡ list.old.items ++ value ∷ []) }
+    ensures refused { OnErr result (list.new.items ≡ list.old.items) }
 {
     list.push(value).map_err(|_| NoMemory)
 }

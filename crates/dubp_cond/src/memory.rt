@@ -1,11 +1,12 @@
-ghost use Rattle.std.specs.Prelude.{◌≡◌, ◌++◌, ◌∷◌, [], IfOk, OnOk};
+ghost use Rattle.std.specs.Prelude.{◌≡◌, ◌++◌, ◌∷◌, [], IfOk, OnOk, OnErr};
 
 use dubp_atoms::NoMemory;
 use std::alloc::Global;
 
 /// Appends a value to a list, of which most have one: the first gets the room of one. `NoMemory` where there is no room for it.
 pub fn push<T: Drop>(list: &mut Vec<T>, value: T) -> Result<(), NoMemory>
-    ensures { OnOk result (list.new.items ≡ list.old.items ++ value ∷ []) }
+    ensures appended { OnOk result (list.new.items ≡ list.old.items ++ value ∷ []) }
+    ensures refused { OnErr result (list.new.items ≡ list.old.items) }
 {
     if list.is_empty() {
         list.reserve_exact(1).map_err(|_| NoMemory)?;

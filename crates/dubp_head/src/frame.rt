@@ -6,9 +6,10 @@ ghost use Rattle.dubp_head.specs.Frames.{frame_issuers, frame_of, place_behind, 
 
 use crate::counts::Counts;
 use crate::heads::Heads;
-use dubp_atoms::{Key, NoMemory, Noted};
+use dubp_atoms::{Key, NoMemory};
 use std::alloc::Global;
 use std::marker::Model;
+use std::snapshot::Snapshot;
 
 /// How many blocks each issuer has in the last frame of a chain.
 ///
@@ -16,7 +17,7 @@ use std::marker::Model;
 #[derive(Drop)]
 pub struct Frame {
     counts: Counts,
-    heads: Noted<Heads>,
+    heads: Snapshot<Heads>,
 }
 
 impl Model for Frame {
@@ -39,7 +40,7 @@ impl Frame {
     {
         Ok(Frame {
             counts: count(alloc, heads)?,
-            heads: Noted::of(heads),
+            heads: Snapshot::of(heads),
         })
     }
 

@@ -10,7 +10,7 @@ use Rattle.dubp_block.specs.Text.{IsBlock}
 use Rattle.dubp_chain.specs.declared.head.Head.{Head}
 use Rattle.dubp_chain.specs.Chains.{Chain, first_block, params}
 use Rattle.dubp_chain.specs.Heads.{head_of, heads_of}
-use Rattle.dubp_head.specs.OfValidity.{IsSound, KeepsUnsigned}
+use Rattle.dubp_head.specs.OfValidity.{IsSound, IsShort, KeepsUnsigned}
 use Rattle.dubp_head.specs.OfValidity.{records}
 use Rattle.dubp_local.specs.Local.{AreParamsOf}
 use Rattle.dubp_head.specs.HeadsStates.{HeadsState, AreOver}
@@ -106,6 +106,7 @@ pub record AreKept (stands : Chain → Type 0) (waits : Chain → ℕ → Type 0
 -- the block, whose head this is, breaks no rule on the chain but such as read verdicts, and these are the parameters of both
 pub record MayJoin (c : Chain) (b : Block) (h : Head) (p : Params) : Type 0 where
   pub text : IsBlock b
+  pub short : IsShort b
   pub keeps : KeepsUnsigned c b
   pub head : head_of (b ∷ c) ≡ Some h
   pub same : p ≡ params (b ∷ c)

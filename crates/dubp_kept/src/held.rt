@@ -1,6 +1,6 @@
-use dubp_atoms::Noted;
 use dubp_block::Block;
 use std::marker::Model;
+use std::snapshot::Snapshot;
 
 /// Blocks that were taken off a chain, newest first. Contracts see their list.
 ///
@@ -26,7 +26,7 @@ impl Model for Held {
 #[derive(Drop)]
 pub(crate) struct Before {
     // Oldest first.
-    pub(crate) blocks: Noted<Vec<Block>>,
+    pub(crate) blocks: Snapshot<Vec<Block>>,
     pub(crate) kept: usize,
     pub(crate) taken: usize,
 }

@@ -8,7 +8,7 @@ use crate::left_behind::LeftBehind;
 use crate::moves::{enter, trim, trim_unless};
 use crate::switch::{make_ready, move_off, put_back};
 use crate::written::Written;
-use dubp_atoms::{NoMemory, Noted, Steps};
+use dubp_atoms::{NoMemory, Steps};
 use dubp_block::Block;
 use dubp_chain::Head;
 use dubp_docs::TxHashes;
@@ -17,6 +17,7 @@ use dubp_params::Params;
 use dubp_undo::Tables;
 use std::alloc::Global;
 use std::marker::Model;
+use std::snapshot::Snapshot;
 use std::sync::ledger::Ledger as StepBook;
 
 /// How many blocks can be taken off at most, where none is held.
@@ -194,7 +195,7 @@ impl<T: Written> Kept<T> {
         behind.reserve(count).map_err(|_| NoMemory)?;
         make_ready(&mut self.tables, count)?;
         let before = Before {
-            blocks: Noted::of(&self.blocks),
+            blocks: Snapshot::of(&self.blocks),
             kept: self.tables.depth(),
             taken: count,
         };

@@ -2,4 +2,4 @@
 pub use Rattle.dubp_validity.specs.declared.record.Record.{Record}
 pub use Rattle.dubp_validity.specs.declared.record.Record.TheVariants.{Clear}
 pub use Rattle.dubp_validity.specs.Records.{clearing_records, input_of}
-pub use Rattle.dubp_validity.specs.Rules.{IsSound}
+pub use Rattle.dubp_validity.specs.Rules.{IsSound, IsShort}

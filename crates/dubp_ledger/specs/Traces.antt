@@ -2,8 +2,7 @@
 use Rattle.std.specs.Prelude.{◌≡◌, ◌≤◌, ℕ, List, [], ◌∷◌, length, take, Option, Some, None, ⊤}
 use Rattle.std.specs.List.{AllByRecursion}
 use Rattle.dubp_block.specs.declared.block.Block.{Block}
-use Rattle.dubp_block.specs.Text.{block_text}
-use Rattle.dubp_validity.specs.Rules.{longest_block}
+pub use Rattle.dubp_validity.specs.Rules.{IsShort}
 use Rattle.dubp_chain.specs.Chains.{Chain}
 use Rattle.dubp_rows.specs.OfKept.{KeptChain, Out}
 use Rattle.dubp_rows.specs.OfKept.{left_behind}
@@ -21,10 +20,6 @@ pub record TracesState : Type 0 where
 abbrev pub traces_of : Chain → List LeftBehind
 traces_of [] = []
 traces_of (b ∷ c) = left_behind c b ∷ traces_of c
-
--- the text of the block is no longer than blocks are read
-abbrev pub IsShort : Block → Type 0
-IsShort b = length (block_text b) ≤ longest_block
 
 -- while blocks are held: what they left behind, with room for all blocks of the chain before, each of which is short
 abbrev pub AreHeld : TracesState → Option Out → Type 0

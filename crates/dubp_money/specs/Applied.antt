@@ -9,7 +9,7 @@ use Rattle.dubp_chain.specs.Chains.{Chain}
 use Rattle.dubp_chain.specs.Heads.{head_of}
 use Rattle.dubp_chain.specs.Members.{members}
 use Rattle.dubp_chain.specs.Money.{made_sources}
-use Rattle.dubp_validity.specs.Rules.{IsSound}
+use Rattle.dubp_validity.specs.Rules.{IsSound, IsShort}
 use Rattle.dubp_validity.specs.declared.record.Record.{Record}
 use Rattle.dubp_validity.specs.Records.{transaction_records, dividend_records, clearing_records}
 
@@ -17,6 +17,7 @@ use Rattle.dubp_validity.specs.Records.{transaction_records, dividend_records, c
 pub record IsApplied (c : Chain) (b : Block) (h : Head) : Type 0 where
   pub sound : IsSound (b ∷ c)
   pub block : IsBlock b
+  pub short : IsShort b
   pub head : head_of (b ∷ c) ≡ Some h
 
 -- where the head pays a dividend, these are the members of its chain

@@ -1,18 +1,18 @@
 -- The laws on the money of a chain with one block more. Protocol: money.
-use Rattle.std.specs.Prelude.{◌≡◌, ℕ, ◌==◌, false, List, ◌∷◌, ◌++◌}
+use Rattle.std.specs.Prelude.{◌≡◌, ℕ, ◌+◌, ◌*◌, ◌^◌, ◌<◌, ◌≤◌, ◌==◌, false, List, ◌∷◌, ◌++◌, length, sum_by}
 use Rattle.std.specs.List.{list_any, AllByRecursion}
 use Rattle.dubp_atoms.specs.Same.{Text}
 use Rattle.dubp_block.specs.declared.block.Block.{Block}
 use Rattle.dubp_block.specs.Text.{IsBlock}
 use Rattle.dubp_chain.specs.Chains.{Chain}
-use Rattle.dubp_chain.specs.Money.{made_by, made_sources, unspent}
-use Rattle.dubp_laws.specs.OfValidity.{IsSound}
+use Rattle.dubp_chain.specs.Money.{made_by, made_sources, unspent, unspent_units, units_of}
+use Rattle.dubp_laws.specs.OfValidity.{IsSound, IsShort}
 use Rattle.dubp_undo.specs.States.{states}
 use Rattle.dubp_sindex.specs.Rows.{Entry, AreRows, of_account}
 use Rattle.dubp_money_steps.specs.Steps as steps
 use Rattle.dubp_money_steps.specs.Steps.{rest}
 use Rattle.dubp_money_steps.specs.Left as left
-use Rattle.dubp_money_steps.specs.Left.{HasTexts, IsSmall, AreSmall, sources_left, sources_before_clearing}
+use Rattle.dubp_money_steps.specs.Left.{HasTexts, IsSmall, AreSmall, most_made, sources_left, sources_before_clearing}
 use Rattle.dubp_money_steps.specs.Clearing as clearing
 use Rattle.dubp_money_steps.specs.Clearing.{kept, HasEnough, OthersHave}
 
@@ -45,6 +45,22 @@ SourcesAreRowsBeforeClearing = (texts : List Text) (c : Chain) (b : Block) → I
 -- what a block makes is in its bounds
 abbrev pub MadeAreSmall : Type 0
 MadeAreSmall = (c : Chain) (b : Block) → IsSound (b ∷ c) → IsBlock b → AllByRecursion IsSmall (made_by c b)
+
+-- ---- how many and how much
+
+-- with a block more, whose text is no longer than that of a block may be, the chain made at most so many sources a block
+abbrev pub MadeStayFew : Type 0
+MadeStayFew = (c : Chain) (b : Block) → IsSound (b ∷ c) → IsShort b → length (made_sources c) ≤ most_made * length c → length (made_sources (b ∷ c)) ≤ most_made * length (b ∷ c)
+
+-- so each has a place below 2^63 in the order of making
+abbrev pub PlacesAreThere : Type 0
+PlacesAreThere = (c : Chain) → IsSound c → AreSmall c → length (made_sources c) < 2 ^ 63
+
+-- what is unspent and all that such a block makes has units of 128 bits
+abbrev pub UnitsFit : Type 0
+UnitsFit = (c : Chain) (b : Block) → IsSound (b ∷ c) → IsBlock b → IsShort b → unspent_units c + sum_by units_of (made_by c b) < 2 ^ 128
+
+-- ---- rows and definitions
 
 -- the row of each source is that of the definition
 abbrev pub RowsAreAt : Type 0

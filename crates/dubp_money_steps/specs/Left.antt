@@ -1,6 +1,6 @@
 -- The rows that a chain leaves in the index of sources: its unspent sources in the order of making, each with the number that the
 -- text of its condition has in a list of texts. Protocol: money, tables.
-use Rattle.std.specs.Prelude.{◌≡◌, ℕ, ◌^◌, ◌<◌, ◌≤◌, IsTrue, List, option_map, unwrap_or, map, length}
+use Rattle.std.specs.Prelude.{◌≡◌, ℕ, ◌*◌, ◌^◌, ◌<◌, ◌≤◌, IsTrue, List, option_map, unwrap_or, map, length}
 use Rattle.std.specs.List.{list_any, AllByRecursion}
 use Rattle.dubp_atoms.specs.Same.{Text, same_text}
 use Rattle.dubp_cond.specs.Conditions.{cond_text}
@@ -45,10 +45,14 @@ HasTexts texts sources = AllByRecursion (λ s. IsTrue (list_any (same_text (cond
 abbrev pub IsSmall : Source → Type 0
 IsSmall s = (s.amount < 2 ^ 53) × (s.base ≤ 15)
 
+-- how many sources a block makes at most, whose text is no longer than that of a block may be
+abbrev pub most_made : ℕ
+most_made = 2 ^ 22
+
 -- so have all that the chain made, and their number
 pub record AreSmall (c : Chain) : Type 0 where
   pub each : AllByRecursion IsSmall (made_sources c)
-  pub count : length (made_sources c) ≤ 2 ^ 53
+  pub count : length (made_sources c) ≤ most_made * length c
 
 -- the row of the definition, with the number of the condition in place of its text
 abbrev pub with_account : (Text → ℕ) → chain.SourceRow → SourceRow

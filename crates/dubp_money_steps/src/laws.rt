@@ -1,4 +1,4 @@
-ghost use Rattle.dubp_money_steps.specs.Laws.{ClearsByBalance, LimitStays, TotalsGoOn, TransactionsGoOn, SpendsAndMakes, SourcesAreRows, SourcesAreRowsBeforeClearing, MadeAreSmall, RowsAreAt, SourcesStay, StatesStay, ClearsRows, KeptHaveEnough, OthersHaveEnough};
+ghost use Rattle.dubp_money_steps.specs.Laws.{ClearsByBalance, LimitStays, TotalsGoOn, TransactionsGoOn, SpendsAndMakes, SourcesAreRows, SourcesAreRowsBeforeClearing, MadeAreSmall, MadeStayFew, PlacesAreThere, UnitsFit, RowsAreAt, SourcesStay, StatesStay, ClearsRows, KeptHaveEnough, OthersHaveEnough};
 
 /// A block clears, of what stands when it has spent and made, each condition that has too little there.
 pub fn clears_by_balance()
@@ -38,6 +38,21 @@ pub fn sources_are_rows_before_clearing()
 /// What a block makes is in the bounds of a row.
 pub fn made_are_small()
     ensures { MadeAreSmall }
+{}
+
+/// With one block more, whose text is no longer than that of a block may be, a chain made at most 2^22 sources a block.
+pub fn made_stay_few()
+    ensures { MadeStayFew }
+{}
+
+/// So each has a place below 2^63 in the order of making.
+pub fn places_are_there()
+    ensures { PlacesAreThere }
+{}
+
+/// The units that are unspent, and all that such a block makes, are a number of 128 bits.
+pub fn units_fit()
+    ensures { UnitsFit }
 {}
 
 /// The row of a source is that of the definition, with a number for its condition.

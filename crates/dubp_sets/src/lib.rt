@@ -8,7 +8,7 @@
 //! ```
 #![tactic(auto)]
 
-ghost use Rattle.std.specs.Prelude.{◌≡◌, true, IfOk, OnOk, cond, not};
+ghost use Rattle.std.specs.Prelude.{◌≡◌, true, IfOk, OnOk, OnErr, cond, not};
 ghost use Rattle.std.specs.List.{list_all, list_any};
 ghost use Rattle.indexmap.specs.IndexSet.{contains, insert_key};
 
@@ -22,6 +22,7 @@ pub fn insert<T: Copy + Eq + Hash>(set: &mut IndexSet<T>, value: T) -> Result<bo
     ensures is_new { IfOk result (λ is_new. is_new ≡ not (contains T.eq set.old value)) }
     ensures keys { OnOk result (set.new.keys ≡ insert_key T.eq set.old.keys value) }
     ensures has { OnOk result ((k : T) → contains T.eq set.new k ≡ cond (T.eq value k) true (contains T.eq set.old k)) }
+    ensures refused { OnErr result (set.new.keys ≡ set.old.keys) }
 {
     set.insert(value).map_err(|_| NoMemory)
 }

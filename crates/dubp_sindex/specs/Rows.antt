@@ -1,6 +1,6 @@
 -- The unspent sources as rows in the order of making, each with its name and the number of its account; what an account has, and
 -- which account has least. Protocol: money.
-use Rattle.std.specs.Prelude.{◌≡◌, ℕ, ◌*◌, ◌^◌, ◌<◌, ◌≤◌, ◌==◌, ◌&&◌, nat_lt, Bool, true, false, not, List, [], ◌∷◌, ◌++◌, Option, option_map, filter, find, map, sum_by, IsTrue, ◌⊎◌, ⊤}
+use Rattle.std.specs.Prelude.{◌≡◌, ℕ, ◌+◌, ◌*◌, ◌^◌, ◌<◌, ◌≤◌, ◌==◌, ◌&&◌, nat_lt, Bool, true, false, not, List, [], ◌∷◌, ◌++◌, Option, option_map, filter, find, map, sum_by, IsTrue, ◌⊎◌, ⊤}
 use Rattle.std.specs.List.{list_any, AllByRecursion}
 use Rattle.dubp_atoms.specs.Same.{same_text}
 use Rattle.dubp_cond.specs.declared.source.SourceId.{SourceId}
@@ -59,7 +59,7 @@ Rises (e ∷ rows) = IsBelow e.1.order rows × Rises rows
 
 -- amounts, bases and places have their bounds
 abbrev pub IsInRange : Entry → Type 0
-IsInRange e = (e.1.amount < 2 ^ 53) × (e.1.base ≤ 15) × (e.1.order < 2 ^ 53)
+IsInRange e = (e.1.amount < 2 ^ 53) × (e.1.base ≤ 15) × (e.1.order < 2 ^ 63)
 
 -- each source once, in the order of making, all in range
 pub record AreRows (rows : List Entry) : Type 0 where
@@ -67,11 +67,16 @@ pub record AreRows (rows : List Entry) : Type 0 where
   pub rises : Rises rows
   pub in_range : AllByRecursion IsInRange rows
 
+-- with the source, the units of all rows are a number of 128 bits
+abbrev pub Fits : List Entry → Entry → Type 0
+Fits rows e = sum_by units_of_entry rows + units_of_entry e < 2 ^ 128
+
 -- the source is not among the rows, and stands behind all of them in the order of making
 pub record IsNewRow (rows : List Entry) (e : Entry) : Type 0 where
   pub unnamed : list_any (is_named e.0) rows ≡ false
   pub behind : AllByRecursion (λ (x : Entry). x.1.order < e.1.order) rows
   pub in_range : IsInRange e
+  pub fits : Fits rows e
 
 -- the rows with one more, between those that were made before it and those behind it
 abbrev pub is_before : Entry → Entry → Bool
@@ -85,6 +90,7 @@ pub record IsFreeRow (rows : List Entry) (e : Entry) : Type 0 where
   pub unnamed : list_any (is_named e.0) rows ≡ false
   pub unplaced : list_any (λ (x : Entry). x.1.order == e.1.order) rows ≡ false
   pub in_range : IsInRange e
+  pub fits : Fits rows e
 
 -- A balance is an account with its units, in the order of units, and of numbers where these are the same.
 abbrev pub IsAtMost : ℕ × ℕ → ℕ × ℕ → Type 0

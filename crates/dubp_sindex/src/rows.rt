@@ -18,7 +18,7 @@ pub struct SourceRow {
     pub account: usize,
     /// The median time of the block that made it, in seconds.
     pub made_at: u64,
-    /// Its place in the order of making, below 2^53.
+    /// Its place in the order of making, below 2^63.
     pub order: u64,
 }
 

@@ -10,11 +10,12 @@ use crate::moves::{Change, changes_since, drop_first, make_room, move_last, note
 use crate::places::{give_up_idle, place};
 use crate::slots::Slots;
 use crate::summary::{NoSummary, Summary};
-use dubp_atoms::{NoMemory, Noted, Steps};
+use dubp_atoms::{NoMemory, Steps};
 use std::alloc::Global;
 use std::collections::VecDeque;
 use std::marker::Model;
 use std::ops::Bound;
+use std::snapshot::Snapshot;
 use std::sync::ledger::Ledger as StepBook;
 
 /// A map that keeps its earlier states, and those that it was taken back from.
@@ -41,10 +42,10 @@ pub struct UndoTable<K, V, F: Finder<K> = ByOrder<K>, S: Summary<V> = NoSummary>
     // how many changes led to the first mark from the one before it, which is forgotten
     first: usize,
     // the slots from which the changes of the way forward are undone
-    root: Noted<Slots<V, S>>,
+    root: Snapshot<Slots<V, S>>,
     // the keys and slots of the last `hold` or `again`, where the way forward begins
-    rooted_keys: Noted<Vec<Option<K>>>,
-    rooted: Noted<Slots<V, S>>,
+    rooted_keys: Snapshot<Vec<Option<K>>>,
+    rooted: Snapshot<Slots<V, S>>,
 }
 
 impl<K, V, F: Finder<K>, S: Summary<V>> Model for UndoTable<K, V, F, S> {
@@ -140,9 +141,9 @@ impl<K: Copy, V: Copy + Eq, F: Finder<K>, S: Summary<V>> UndoTable<K, V, F, S> {
     {
         let keys = Vec::new(alloc);
         let slots = Slots::new(summary, alloc);
-        let root = Noted::of(&slots);
-        let rooted_keys = Noted::of(&keys);
-        let rooted = Noted::of(&slots);
+        let root = Snapshot::of(&slots);
+        let rooted_keys = Snapshot::of(&keys);
+        let rooted = Snapshot::of(&slots);
         UndoTable {
             finder,
             keys,
@@ -336,9 +337,9 @@ impl<K: Copy, V: Copy + Eq, F: Finder<K>, S: Summary<V>> UndoTable<K, V, F, S> {
         let n = self.marks.pop_back().unwrap();
         move_last(&mut self.slots, &mut self.journal, &mut self.redo, n, steps);
         self.redo_marks.push_back_reserved(n);
-        self.root = Noted::of(&self.slots);
-        self.rooted_keys = Noted::of(&self.keys);
-        self.rooted = Noted::of(&self.slots);
+        self.root = Snapshot::of(&self.slots);
+        self.rooted_keys = Snapshot::of(&self.keys);
+        self.rooted = Snapshot::of(&self.slots);
         self.spare -= 1;
     }
 
@@ -382,9 +383,9 @@ impl<K: Copy, V: Copy + Eq, F: Finder<K>, S: Summary<V>> UndoTable<K, V, F, S> {
         let n = self.redo_marks.pop_back().unwrap();
         move_last(&mut self.slots, &mut self.redo, &mut self.journal, n, steps);
         self.marks.push_back_reserved(n);
-        self.root = Noted::of(&self.slots);
-        self.rooted_keys = Noted::of(&self.keys);
-        self.rooted = Noted::of(&self.slots);
+        self.root = Snapshot::of(&self.slots);
+        self.rooted_keys = Snapshot::of(&self.keys);
+        self.rooted = Snapshot::of(&self.slots);
         self.spare = 0;
     }
 
@@ -450,7 +451,7 @@ impl<K: Copy, V: Copy + Eq, F: Finder<K>, S: Summary<V>> UndoTable<K, V, F, S> {
                 &self.slots,
                 &mut self.hints,
             );
-            self.root = Noted::of(&self.slots);
+            self.root = Snapshot::of(&self.slots);
         }
     }
 }

@@ -107,6 +107,10 @@ pub record IsTextOf (bytes : List ℕ) (b : Block) : Type 0 where
 abbrev pub longest_block : ℕ
 longest_block = 1048576
 
+-- its text is no longer than that of a block may be
+abbrev pub IsShort : Block → Type 0
+IsShort b = length (block_text b) ≤ longest_block
+
 -- What each rule says of raw bytes. X01: The raw block has at most 1,048,576 bytes. P01: The bytes are the text of a block. Every
 -- other rule speaks of the block whose text they are.
 abbrev pub HoldsRaw : Verdicts → Chain → List ℕ → Rule → Type 0

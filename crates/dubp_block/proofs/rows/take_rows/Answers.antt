@@ -23,4 +23,4 @@ loop-preserved g c =
     c.loop.invariant
     ∙ ap (behind c.loop.taken.items) (ap (λ k. rows k reads c.loop.lines) left ∙ rows_step reads (c.args.count - (c.loop.counter + 1)) c.loop.lines c.take_row.new.lines c.in_ok-row.row c.in_ok-row.ensures)
     ∙ behind_more c.loop.taken.items c.in_ok-row.row more
-    ∙ ap (λ xs. behind xs more) (sym c.in_ok-push.ensures)
+    ∙ ap (λ xs. behind xs more) (sym c.in_ok-push.ensures.appended)

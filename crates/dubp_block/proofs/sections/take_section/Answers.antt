@@ -39,7 +39,7 @@ entries-preserved g c =
     c.entries.invariant
     ∙ ap (behind c.entries.taken.items) (entries_step stops (line_at reads) c.entries.lines c.take_row.new.lines c.in_ok-row.row (line_shrinks reads) (sym c.is_next.ensures ∙ c.entries-test.true) c.in_ok-row.ensures)
     ∙ behind_more c.entries.taken.items c.in_ok-row.row more
-    ∙ ap (λ xs. behind xs more) (sym c.in_ok-push.ensures)
+    ∙ ap (λ xs. behind xs more) (sym c.in_ok-push.ensures.appended)
 
 pub returns : goal.returns
 unfolding section_at

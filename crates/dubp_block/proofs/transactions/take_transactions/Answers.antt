@@ -43,7 +43,7 @@ entries-preserved c =
     c.entries.invariant
     ∙ ap (behind c.entries.taken.items) (entries_step stops tx_at c.entries.lines c.take_tx.new.lines c.in_ok-tx.tx tx_shrinks (ap not (sym c.has_next.ensures ∙ c.entries-test.true)) c.in_ok-tx.ensures)
     ∙ behind_more c.entries.taken.items c.in_ok-tx.tx more
-    ∙ ap (λ xs. behind xs more) (sym c.in_ok-push.ensures)
+    ∙ ap (λ xs. behind xs more) (sym c.in_ok-push.ensures.appended)
 
 pub returns : goal.returns
 unfolding transactions_at

@@ -15,13 +15,13 @@ take_all-returns-in_default-clause-taken t c =
 pub take_all-returns-then-not-take_word-clause-taken : goal.take_all-returns-then-not-take_word-clause-taken
 take_all-returns-then-not-take_word-clause-taken t c =
     loop_ends (item_at c.args.groups) (item_shrinks c.args.groups) and_word (omega arith) item_tree all_of c.loop-every.every.items c.loop-every.cursor c.args.cursor.now c.loop-every.invariant.so_far
-    c.in_ok-item.field-0 c.in-Some.item c.take_item.new.cursor c.take_word.new.self c.take_word.result c.push.new.list.items c.in_ok-item.ensures.taken c.in-Some.is c.in_ok-push.ensures
+    c.in_ok-item.field-0 c.in-Some.item c.take_item.new.cursor c.take_word.new.self c.take_word.result c.push.new.list.items c.in_ok-item.ensures.taken c.in-Some.is c.in_ok-push.ensures.appended
     c.take_word.ensures.taken c.if-not-take_word.true c.take_word.ensures.kept
 
 pub take_all-loop-every-preserved : goal.take_all-loop-every-preserved
 take_all-loop-every-preserved t c = record {
   so_far = loop_goes (item_at c.args.groups) (item_shrinks c.args.groups) and_word (omega arith) item_tree all_of c.loop-every.every.items c.loop-every.cursor c.args.cursor.now c.loop-every.invariant.so_far
-      c.in_ok-item.field-0 c.in-Some.item c.take_item.new.cursor c.take_word.new.self c.take_word.result c.push.new.list.items c.in_ok-item.ensures.taken c.in-Some.is c.in_ok-push.ensures
+      c.in_ok-item.field-0 c.in-Some.item c.take_item.new.cursor c.take_word.new.self c.take_word.result c.push.new.list.items c.in_ok-item.ensures.taken c.in-Some.is c.in_ok-push.ensures.appended
       c.take_word.ensures.taken c.if-not-take_word.false;
   shorter = search rules;
 }
@@ -34,13 +34,13 @@ take_cond-returns-in_default-clause-taken t c =
 pub take_cond-returns-then-not-take_word-clause-taken : goal.take_cond-returns-then-not-take_word-clause-taken
 take_cond-returns-then-not-take_word-clause-taken t c =
     loop_ends (all_at c.args.groups) (all_shrinks c.args.groups) or_word (omega arith) all_tree cond_of c.loop-any.any.items c.loop-any.cursor c.args.cursor.now c.loop-any.invariant.so_far
-    c.in_ok-all.field-0 c.in-Some.all c.take_all.new.cursor c.take_word.new.self c.take_word.result c.push.new.list.items c.in_ok-all.ensures.taken c.in-Some.is c.in_ok-push.ensures
+    c.in_ok-all.field-0 c.in-Some.all c.take_all.new.cursor c.take_word.new.self c.take_word.result c.push.new.list.items c.in_ok-all.ensures.taken c.in-Some.is c.in_ok-push.ensures.appended
     c.take_word.ensures.taken c.if-not-take_word.true c.take_word.ensures.kept
 
 pub take_cond-loop-any-preserved : goal.take_cond-loop-any-preserved
 take_cond-loop-any-preserved t c = record {
   so_far = loop_goes (all_at c.args.groups) (all_shrinks c.args.groups) or_word (omega arith) all_tree cond_of c.loop-any.any.items c.loop-any.cursor c.args.cursor.now c.loop-any.invariant.so_far
-      c.in_ok-all.field-0 c.in-Some.all c.take_all.new.cursor c.take_word.new.self c.take_word.result c.push.new.list.items c.in_ok-all.ensures.taken c.in-Some.is c.in_ok-push.ensures
+      c.in_ok-all.field-0 c.in-Some.all c.take_all.new.cursor c.take_word.new.self c.take_word.result c.push.new.list.items c.in_ok-all.ensures.taken c.in-Some.is c.in_ok-push.ensures.appended
       c.take_word.ensures.taken c.if-not-take_word.false;
   shorter = search rules;
 }

@@ -13,16 +13,16 @@ pub returns-then-not-take_word : goal.returns-then-not-take_word
 returns-then-not-take_word c =
     let n = length c.functions.list.items in
     turn_ends unlock_at (codes " ") c.functions.list.items c.functions.cursor (unlocks_at 8 c.args.cursor.now) (8 - n) (8 - (n + 1)) (omega (arith, c.functions.list.ok.0)) c.functions.invariant
-    c.in_ok-unlock.field-0 c.in-Some.unlock c.take_unlock.new.cursor c.take_word.new.self c.take_word.result c.push.new.list.items c.in_ok-unlock.ensures c.in-Some.is c.in_ok-push.ensures
+    c.in_ok-unlock.field-0 c.in-Some.unlock c.take_unlock.new.cursor c.take_word.new.self c.take_word.result c.push.new.list.items c.in_ok-unlock.ensures c.in-Some.is c.in_ok-push.ensures.appended
     c.take_word.ensures.taken c.if-not-take_word.true c.take_word.ensures.kept
 
 pub functions-preserved : goal.functions-preserved
 functions-preserved c =
     let n = length c.functions.list.items in
     let m = length c.push.new.list.items in
-    let more : m ≡ n + 1 = ap length c.in_ok-push.ensures ∙ length-append c.functions.list.items (c.in-Some.unlock ∷ []) in
+    let more : m ≡ n + 1 = ap length c.in_ok-push.ensures.appended ∙ length-append c.functions.list.items (c.in-Some.unlock ∷ []) in
     turn_goes unlock_at (codes " ") c.functions.list.items c.functions.cursor (unlocks_at 8 c.args.cursor.now) (8 - n) (8 - m) (omega (arith, c.functions.list.ok.0)) c.functions.invariant
-    c.in_ok-unlock.field-0 c.in-Some.unlock c.take_unlock.new.cursor c.take_word.new.self c.take_word.result c.push.new.list.items c.in_ok-unlock.ensures c.in-Some.is c.in_ok-push.ensures
+    c.in_ok-unlock.field-0 c.in-Some.unlock c.take_unlock.new.cursor c.take_word.new.self c.take_word.result c.push.new.list.items c.in_ok-unlock.ensures c.in-Some.is c.in_ok-push.ensures.appended
     c.take_word.ensures.taken c.if-not-take_word.false
 
 pub returns : goal.returns
