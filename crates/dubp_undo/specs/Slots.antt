@@ -1,7 +1,9 @@
 -- How a table keeps its keys: each placed key has a slot, and a map is what the slots hold. These words mirror the code.
 use Rattle.std.specs.Prelude.{◌≡◌, ℕ, true, List, [], ◌∷◌, ◌++◌, length, Option, None, Some, IsSome, get_or, ◌⊎◌}
 use Rattle.std.specs.declared.cmp.Ordering.{Ordering}
+use Rattle.std.specs.declared.ops.Bound.{Bound}
 use Rattle.std.specs.BTreeMap.{is_at}
+use Rattle.std.specs.BTreeMap.Range.{IsFromStart, IsLeBy}
 
 module _ {K : Type 0} where
   -- the keys that have slots, in the order of these
@@ -15,6 +17,21 @@ module _ {K : Type 0} where
     pub found : (i : ℕ) (k : K) → get_or keys i None ≡ Some k → slot_of k ≡ Some i
     pub has : (q : K) (i : ℕ) → slot_of q ≡ Some i → (k : K) × (get_or keys i None ≡ Some k) × (is_at (cmp q) k ≡ true)
     pub alike : (q k : K) → is_at (cmp q) k ≡ true → slot_of q ≡ slot_of k
+
+-- what a slot holds, if there is one
+abbrev pub held : {V : Type 0} → List (Option V) → Option ℕ → Option V
+held slots None = None
+held slots (Some i) = get_or slots i None
+
+-- e is the least key from a bound on whose slot holds something, with that
+pub record IsFirstHeld {K V : Type 0} (cmp : K → K → Ordering) (slot_of : K → Option ℕ) (slots : List (Option V)) (from : Bound K) (e : K × V) : Type 0 where
+  pub within : IsFromStart cmp from e.0
+  pub has : held slots (slot_of e.0) ≡ Some e.1
+  pub least : (q : K) → IsFromStart cmp from q → IsSome (held slots (slot_of q)) → IsLeBy cmp e.0 q
+
+-- the slot of no key from a bound on holds anything
+abbrev pub HasNoneHeld : {K V : Type 0} → (K → K → Ordering) → (K → Option ℕ) → List (Option V) → Bound K → Type 0
+HasNoneHeld {K} cmp slot_of slots from = (q : K) → IsFromStart cmp from q → held slots (slot_of q) ≡ None
 
 -- a slot that holds nothing, and that no change names
 pub record IsDead {V : Type 0} (uses : List ℕ) (slots : List (Option V)) (i : ℕ) : Type 0 where

@@ -1,7 +1,7 @@
-ghost use Rattle.std.specs.Prelude.{◌≡◌, None, Some, IfSome, IfNone, IsSome};
+ghost use Rattle.std.specs.Prelude.{◌≡◌, None, get_or, IfSome, IfNone};
 ghost use Rattle.std.specs.BTreeMap.{get};
-ghost use Rattle.std.specs.BTreeMap.Range.{IsFromStart, IsLeBy};
 ghost use Rattle.dubp_undo.specs.Finders.{order_respects};
+ghost use Rattle.dubp_undo.specs.Slots.{IsFirstHeld, HasNoneHeld};
 
 use crate::finder::{Finder, OrderedFinder};
 use dubp_atoms::NoMemory;
@@ -58,13 +58,26 @@ impl<K: Ord + Copy> Finder<K> for ByOrder<K> {
 
 impl<K: Ord + Copy> OrderedFinder<K> for ByOrder<K> {
     // the clauses of the trait, which the check cannot give a method whose trait names a member of another
-    fn next(&self, from: Bound<K>) -> Option<(K, usize)>
-        ensures within { IfSome result (λ r. IsFromStart K.cmp from r.0) }
-        ensures found { IfSome result (λ r. get K.cmp self.now.slots r.0 ≡ Some r.1) }
-        ensures least { IfSome result (λ r. (q : K) → IsFromStart K.cmp from q → IsSome (get K.cmp self.now.slots q) → IsLeBy K.cmp r.0 q) }
-        ensures none { IfNone result ((q : K) → IsFromStart K.cmp from q → get K.cmp self.now.slots q ≡ None) }
+    fn next_held<V: Copy>(&self, from: Bound<K>, slots: &[Option<V>]) -> Option<(K, V)>
+        ensures found { IfSome result (IsFirstHeld K.cmp (get K.cmp self.now.slots) slots.now from) }
+        ensures none { IfNone result (HasNoneHeld K.cmp (get K.cmp self.now.slots) slots.now from) }
     {
-        let (k, slot) = self.slots.range((from, Bound::Unbounded)).next()?;
-        Some((*k, *slot))
+        for (k, slot) in self.slots.range((from, Bound::Unbounded)) {
+            if let Some(v) = held(slots, *slot) {
+                return Some((*k, v));
+            }
+        }
+        None
+    }
+}
+
+// What the slot holds, if there is one.
+fn held<V: Copy>(slots: &[Option<V>], slot: usize) -> Option<V>
+    ensures { result ≡ get_or slots.now slot None }
+{
+    if slot < slots.len() {
+        slots[slot]
+    } else {
+        None
     }
 }

@@ -1,8 +1,8 @@
 ghost use Rattle.std.specs.Prelude.{◌≡◌, ℕ, Bool, true, cond, Option, Some, None, OnOk, OnErr, IfOk, IfSome, IfNone, IsOk, IsSome};
 ghost use Rattle.std.specs.BTreeMap.{is_at};
-ghost use Rattle.std.specs.BTreeMap.Range.{IsFromStart, IsLeBy};
 ghost use Rattle.std.specs.Cmp.{IsTotalOrder};
 ghost use Rattle.std.specs.declared.cmp.Ordering.{Ordering};
+ghost use Rattle.dubp_undo.specs.Slots.{IsFirstHeld, HasNoneHeld};
 
 use dubp_atoms::NoMemory;
 use std::ops::Bound;
@@ -38,12 +38,12 @@ pub trait Finder<K>: Drop {
     ghost respects: { (f : Self) (q k : K) → is_at (cmp q) k ≡ true → slot_of f q ≡ slot_of f k };
 }
 
-/// What also finds the next key in the order of the keys.
+/// What also goes through the keys in their order.
 pub trait OrderedFinder<K>: Finder<K> {
-    /// The least key from a bound on that has a slot, with its slot. `None` where there is none.
-    fn next(&self, from: Bound<K>) -> Option<(K, usize)>
-        ensures within { IfSome result (λ r. IsFromStart Self.cmp from r.0) }
-        ensures found { IfSome result (λ r. Self.slot_of self.now r.0 ≡ Some r.1) }
-        ensures least { IfSome result (λ r. (q : K) → IsFromStart Self.cmp from q → IsSome (Self.slot_of self.now q) → IsLeBy Self.cmp r.0 q) }
-        ensures none { IfNone result ((q : K) → IsFromStart Self.cmp from q → Self.slot_of self.now q ≡ None) };
+    /// The least key from a bound on whose slot holds something, with that. `None` where there is none. `slots` has what each slot holds.
+    ///
+    /// It steps over the keys between whose slots hold nothing.
+    fn next_held<V: Copy>(&self, from: Bound<K>, slots: &[Option<V>]) -> Option<(K, V)>
+        ensures found { IfSome result (IsFirstHeld Self.cmp (Self.slot_of self.now) slots.now from) }
+        ensures none { IfNone result (HasNoneHeld Self.cmp (Self.slot_of self.now) slots.now from) };
 }

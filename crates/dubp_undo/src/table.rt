@@ -107,15 +107,7 @@ impl<K: Copy, V: Copy + Eq, F: OrderedFinder<K>, S: Summary<V>> UndoTable<K, V, 
         ensures found { IfSome result (IsLeast F.cmp self.now.now (IsFromStart F.cmp first)) }
         ensures none { IfNone result (HasNone F.cmp self.now.now (IsFromStart F.cmp first)) }
     {
-        let _finder = &self.finder;
-        let mut from = first;
-        loop {
-            let (k, slot) = self.finder.next(from)?;
-            if let Some(v) = self.slots.get(slot) {
-                return Some((k, v));
-            }
-            from = Bound::Excluded(k);
-        }
+        self.finder.next_held(first, self.slots.values())
     }
 }
 
