@@ -10,3 +10,4 @@ pub mod TxReads
 pub mod SectionReads
 pub mod BlockReads
 pub mod Whole
+pub mod Sizes

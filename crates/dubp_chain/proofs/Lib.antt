@@ -1,1 +1,2 @@
 pub mod OfAtoms
+pub mod OfBlock

@@ -6,6 +6,7 @@ use Rattle.dubp_params.specs.declared.params.Params.{Params}
 use Rattle.dubp_params.specs.Ranges.{IsInRange}
 use Rattle.dubp_block.specs.declared.block.Block.{Block}
 use Rattle.dubp_block.specs.Text.{IsBlock, IsFirstParams, block_text}
+use Rattle.dubp_block.proofs.Sizes.{size_is_within}
 use Rattle.dubp_rules.specs.declared.rule.Rule.{Rule}
 use Rattle.dubp_rules.specs.declared.rule.Rule.TheVariants.{G51, G62}
 use Rattle.dubp_rules.specs.First.{IsFirst}
@@ -30,7 +31,6 @@ use Rattle.dubp_judge.proofs.Orders.{all_front, all_behind}
 use Rattle.dubp_judge.proofs.Asking.{header_asked}
 use Rattle.dubp_judge.proofs.Early.{early_hold}
 use Rattle.dubp_judge.proofs.Chains.{length_heads}
-use Rattle.dubp_judge.proofs.Sizes.{size_is_within}
 
 -- what the rules up to G51 say of the block
 module _ (asked : Asked) (v : Verdicts) (c : Chain) (b : Block) (all : AllByRecursion (Asks asked v c b) opening_rules) where

@@ -1,10 +1,10 @@
 use Rattle.std.proofs.Common.{◌≡◌, ◌∙◌, ◌<◌, ◌^◌, Some, refl, sym, subst, reverse}
+use Rattle.dubp_validity.proofs.Members.{members_are_few}
 use Rattle.dubp_head.specs.Laws.{members_with}
 use Rattle.dubp_head.specs.Following.{limit_rules}
 use Rattle.dubp_judge.specs.Asking.{Asks}
 use Rattle.dubp_judge.proofs.Orders.{limit_breaks}
 use Rattle.dubp_judge.proofs.Asking.{others_asked}
-use Rattle.dubp_judge.proofs.Members.{members_are_few}
 use Rattle.dubp_judge.proofs.Heads.{range_with, over_with, are_heads_with, may_follow_with, limit_found, limits_hold, members_by}
 use Rattle.dubp_judge.proofs.judging.judge_placed.Goals as goal
 

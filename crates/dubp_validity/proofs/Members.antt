@@ -9,21 +9,17 @@ use Rattle.std.proofs.lemmas.Cmp.{tied_itself}
 use Rattle.std.proofs.lemmas.List.{length-map}
 use Rattle.std.proofs.lemmas.List.Folds.{list_any-append}
 use Rattle.std.proofs.lemmas.Map.Made.{length-le_from_is_member}
-use Rattle.dubp_atoms.specs.Same.{Text, same_text, same_stamp}
-use Rattle.dubp_atoms.proofs.Same.{same_text_is}
+use Rattle.dubp_verdict.specs.OfAtoms.{Text, same_text, same_stamp}
 use Rattle.dubp_rules.specs.declared.rule.Rule.TheVariants.{G82, X06}
-use Rattle.dubp_block.specs.declared.block.Block.{Block}
-use Rattle.dubp_block.specs.declared.block.IdentityLine.{IdentityLine}
-use Rattle.dubp_block.specs.declared.block.MemberLine.{MemberLine}
-use Rattle.dubp_block.specs.Text.{block_text}
+use Rattle.dubp_chain.specs.OfBlock.{Block, IdentityLine, MemberLine}
+use Rattle.dubp_chain.proofs.OfAtoms.{same_text_is}
+use Rattle.dubp_chain.proofs.OfBlock.{size_is_within}
 use Rattle.dubp_chain.specs.Words.{names, marked}
 use Rattle.dubp_chain.specs.Chains.{Chain}
 use Rattle.dubp_chain.specs.Members.{is_of, member, members, joined_keys}
 use Rattle.dubp_chain.specs.People.{identity_lines}
 use Rattle.dubp_validity.specs.PeopleRules.{is_identity_of}
-use Rattle.dubp_validity.specs.Rules.{IsSound, longest_block}
-use Rattle.dubp_head.specs.Laws.{members_with}
-use Rattle.dubp_judge.proofs.Sizes.{size_is_within}
+use Rattle.dubp_validity.specs.Rules.{IsSound, IsShort}
 
 -- ---- members stand once each
 
@@ -173,7 +169,7 @@ identities_are_few : (c : Chain) → IsSound c → length (identity_lines c) ≤
 identities_are_few [] sound = omega arith
 identities_are_few (b ∷ c) sound = sound.0 X06 refl
 
-pub members_are_counted : (c : Chain) (b : Block) → IsSound c → members_with c b ≤ length b.joiners + 1000000
+pub members_are_counted : (c : Chain) (b : Block) → IsSound c → length (members (b ∷ c)) ≤ length b.joiners + 1000000
 members_are_counted c b sound =
     let joiners = member_keys b.joiners in
     let identities = identity_keys (identity_lines c) in
@@ -186,5 +182,5 @@ members_are_counted c b sound =
       identities_are_few c sound,
     )
 
-pub members_are_few : (c : Chain) (b : Block) → IsSound c → length (block_text b) ≤ longest_block → members_with c b < 2 ^ 21
+pub members_are_few : (c : Chain) (b : Block) → IsSound c → IsShort b → length (members (b ∷ c)) < 2 ^ 21
 members_are_few c b sound short = omega (arith, members_are_counted c b sound, size_is_within b, short)
