@@ -14,3 +14,4 @@ pub mod SourceRows
 pub mod Sources
 pub mod Spending
 pub mod OfLists
+pub mod OfValidity

@@ -52,6 +52,14 @@ in_map_of f (y ∷ ys) x (inr there) = inr (in_map_of f ys x there)
 in_rest : (c : Chain) (b : Block) (q : ℕ × Source) → IsIn q (numbered_rest c b) → IsIn q.1 (rest c b)
 in_rest c b q there = subst (IsIn q.1) (rest_numbered c b) (in_map_of (λ (q : ℕ × Source). q.1) (numbered_rest c b) q there)
 
+-- the units of rows are those of their sources
+pub sum_rows : (account : Text → ℕ) (xs : List (ℕ × Source)) → sum_by units_of_entry (entries_of account xs) ≡ sum_by units_of (map (λ (q : ℕ × Source). q.1) xs)
+sum_rows account [] = refl
+sum_rows account (x ∷ xs) =
+    sum_by-cons units_of_entry (entry_of account x) (entries_of account xs)
+    ∙ ap (λ n. units_of x.1 + n) (sum_rows account xs)
+    ∙ sym (sum_by-cons units_of x.1 (map (λ (q : ℕ × Source). q.1) xs))
+
 -- ---- accounts of conditions
 
 -- two of these conditions have one number only where they are one
@@ -68,15 +76,11 @@ module _ (account : Text → ℕ) (qs : List (ℕ × Source)) (apart : TellsApar
       filter-map (is_of (account (text_of x))) (entry_of account) qs
       ∙ ap (map (entry_of account)) (filter_on (λ q. account (text_of x) == account (text_of q)) (λ q. same_text (text_of x) (text_of q)) qs (λ q in_q. same_account x q there in_q))
 
-  sum_rows : (xs : List (ℕ × Source)) → sum_by units_of_entry (entries_of account xs) ≡ sum_by units_of (map (λ (q : ℕ × Source). q.1) xs)
-  sum_rows [] = refl
-  sum_rows (x ∷ xs) = sum_by-cons units_of_entry (entry_of account x) (entries_of account xs) ∙ ap (λ n. units_of x.1 + n) (sum_rows xs) ∙ sym (sum_by-cons units_of x.1 (map (λ (q : ℕ × Source). q.1) xs))
-
   little_is : (limit : ℕ) (x : ℕ × Source) → IsIn x qs → has_little limit (entries_of account qs) (entry_of account x) ≡ is_small limit (map (λ (q : ℕ × Source). q.1) qs) (text_of x)
   little_is limit x there =
       ap (λ n. nat_lt n limit)
       (ap (sum_by units_of_entry) (of_condition x there)
-      ∙ sum_rows (filter (λ q. same_text (text_of x) (text_of q)) qs)
+      ∙ sum_rows account (filter (λ q. same_text (text_of x) (text_of q)) qs)
       ∙ ap (sum_by units_of) (sym (filter-map (λ (s : Source). same_text (text_of x) (cond_text s.cond)) (λ (q : ℕ × Source). q.1) qs)))
 
   little_rows : (limit : ℕ) → filter (has_little limit (entries_of account qs)) (entries_of account qs) ≡ entries_of account (filter (λ q. is_small limit (map (λ (q : ℕ × Source). q.1) qs) (text_of q)) qs)

@@ -5,6 +5,8 @@ pub mod Entries
 pub mod Numbering
 pub mod Transacted
 pub mod Enough
+pub mod Bounds
 pub mod Ranges
+pub mod Units
 pub mod Cleared
 pub mod OfLaws

@@ -2,6 +2,7 @@
 use Rattle.std.proofs.Common.{◌≡◌, ℕ, ◌+◌, ◌^◌, ◌<◌, ◌≤◌, Bool, true, false, cond, List, [], ◌∷◌, Some, None, map, filter, length, refl, ap, ◌∙◌, subst, arith}
 use Rattle.std.specs.Prelude.{unwrap_or, nat_le}
 use Rattle.std.proofs.lemmas.Option.{none-some}
+use Rattle.std.proofs.Math.Nat.{le_of_lt}
 use Rattle.std.specs.List.{AllByRecursion, enumerate_from, flat_map}
 use Rattle.std.proofs.lemmas.List.Elements.{recursion_from_All}
 use Rattle.dubp_atoms.specs.Same.{Text}
@@ -27,11 +28,12 @@ use Rattle.dubp_money_steps.specs.Steps.{head_with}
 use Rattle.dubp_money_steps.specs.Left.{account_in, entries_of, IsSmall}
 use Rattle.dubp_money_steps.specs.Laws.{SourcesAreRows, SourcesAreRowsBeforeClearing, MadeAreSmall}
 use Rattle.dubp_money_steps.proofs.Names.{each_once-same}
+use Rattle.dubp_money_steps.proofs.Bounds.{places_are_there}
 use Rattle.dubp_money_steps.proofs.Entries.{rises_from, names_of, without_numbers}
 
 -- ---- the rows of some of the sources that were made
 
-in_range_from : (account : Text → ℕ) (p : Source → Bool) (n : ℕ) (ss : List Source) → AllByRecursion IsSmall ss → n + length ss ≤ 2 ^ 53
+in_range_from : (account : Text → ℕ) (p : Source → Bool) (n : ℕ) (ss : List Source) → AllByRecursion IsSmall ss → n + length ss ≤ 2 ^ 63
     → AllByRecursion IsInRange (entries_of account (filter (λ (q : ℕ × Source). p q.1) (enumerate_from n ss)))
 in_range_from account p n [] small count = tt
 in_range_from account p n (s ∷ ss) small count =
@@ -41,7 +43,7 @@ in_range_from account p n (s ∷ ss) small count =
       | false ↦ later
     ]
 
-rows_from : (account : Text → ℕ) (p : Source → Bool) (ss : List Source) → SourcesApart ss → AllByRecursion IsSmall ss → length ss ≤ 2 ^ 53
+rows_from : (account : Text → ℕ) (p : Source → Bool) (ss : List Source) → SourcesApart ss → AllByRecursion IsSmall ss → length ss ≤ 2 ^ 63
     → AreRows (entries_of account (filter (λ (q : ℕ × Source). p q.1) (enumerate_from 0 ss)))
 rows_from account p ss apart small count = record {
   once =
@@ -54,11 +56,11 @@ rows_from account p ss apart small count = record {
 }
 
 pub sources_are_rows : SourcesAreRows
-sources_are_rows texts c sound small = rows_from (account_in texts) (is_left c (cleared c)) (made_sources c) (made_sources-once c sound) small.each small.count
+sources_are_rows texts c sound small = rows_from (account_in texts) (is_left c (cleared c)) (made_sources c) (made_sources-once c sound) small.each (le_of_lt (places_are_there c sound small))
 
 pub sources_are_rows_before_clearing : SourcesAreRowsBeforeClearing
 sources_are_rows_before_clearing texts c b sound small =
-    rows_from (account_in texts) (is_left (b ∷ c) (cleared c)) (made_sources (b ∷ c)) (made_sources-once (b ∷ c) sound) small.each small.count
+    rows_from (account_in texts) (is_left (b ∷ c) (cleared c)) (made_sources (b ∷ c)) (made_sources-once (b ∷ c) sound) small.each (le_of_lt (places_are_there (b ∷ c) sound small))
 
 -- ---- what a block makes
 

@@ -15,7 +15,8 @@
 mod laws;
 
 pub use laws::{
-    clears_by_balance, clears_rows, kept_have_enough, limit_stays, made_are_small,
-    others_have_enough, rows_are_at, sources_are_rows, sources_are_rows_before_clearing,
-    sources_stay, spends_and_makes, states_stay, totals_go_on, transactions_go_on,
+    clears_by_balance, clears_rows, kept_have_enough, limit_stays, made_are_small, made_stay_few,
+    others_have_enough, places_are_there, rows_are_at, sources_are_rows,
+    sources_are_rows_before_clearing, sources_stay, spends_and_makes, states_stay, totals_go_on,
+    transactions_go_on, units_fit,
 };
