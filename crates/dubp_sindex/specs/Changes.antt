@@ -1,5 +1,5 @@
 -- One source more, or one less: what it makes of the tables. These words mirror the code.
-use Rattle.std.specs.Prelude.{◌≡◌, ℕ, ◌+◌, ◌-◌, ◌==◌, ◌&&◌, List, Option, Some, None, option_map, if◌then◌else◌}
+use Rattle.std.specs.Prelude.{◌≡◌, ℕ, ◌+◌, ◌-◌, ◌^◌, ◌<◌, ◌==◌, ◌&&◌, List, Option, Some, None, option_map, if◌then◌else◌, ⊤}
 use Rattle.dubp_cond.specs.declared.source.SourceId.{SourceId}
 use Rattle.dubp_sindex.specs.declared.rows.Balance.{Balance}
 use Rattle.dubp_sindex.specs.declared.change.Change.{Change}
@@ -14,6 +14,11 @@ joined (Some b) account units = record { account = account; units = b.units + un
 abbrev pub parted : Option Balance → ℕ → Option Balance
 parted None units = None
 parted (Some b) units = if b.count == 1 then None else Some (record { account = b.account; units = b.units - units; count = b.count - 1 })
+
+-- the sums of the balance with these units more are numbers of 128 and of 64 bits
+abbrev pub JoinFits : Option Balance → ℕ → Type 0
+JoinFits None units = ⊤
+JoinFits (Some b) units = (b.units + units < 2 ^ 128) × (b.count + 1 < 2 ^ 64)
 
 -- the account has this balance after, and each other what it had
 abbrev pub IsMoved : ℕ → Option Balance → List Entry → List Entry → Type 0

@@ -1,7 +1,7 @@
-ghost use Rattle.std.specs.Prelude.{◌≡◌, ◌+◌, ◌≤◌, ◌∷◌, List, min, option_map, IfOk, OnOk, OnErr};
+ghost use Rattle.std.specs.Prelude.{◌≡◌, ◌+◌, ◌≤◌, ◌∷◌, List, min, option_map, OnOk, OnErr};
 ghost use Rattle.dubp_sindex.specs.Rows.{Entry, units};
 ghost use Rattle.dubp_sindex.specs.States.{States, rows_of};
-ghost use Rattle.dubp_sindex.specs.Changes.{IsChanged, joined, parted};
+ghost use Rattle.dubp_sindex.specs.Changes.{IsChanged, JoinFits, joined, parted};
 
 use crate::rows::{Balance, SourceRow, SourceRows, SourceTables};
 use dubp_atoms::{NoMemory, Steps};
@@ -28,21 +28,21 @@ pub fn units_of(row: SourceRow) -> u128
     u128::from(row.amount) * 10_u128.pow(u32::from(row.base.min(MAX_BASE)))
 }
 
-/// The balance of the account with one source more. `NoMemory` where a number of it would leave its range.
-pub fn join(before: Option<Balance>, account: usize, units: u128) -> Result<Balance, NoMemory>
-    ensures { IfOk result (λ balance. balance ≡ joined before account units) }
+/// The balance of the account with one source more, exact where the sums are numbers of 128 and 64 bits.
+pub fn join(before: Option<Balance>, account: usize, units: u128) -> Balance
+    ensures { JoinFits before units → result ≡ joined before account units }
 {
     match before {
-        Some(balance) => Ok(Balance {
+        Some(balance) => Balance {
             account,
-            units: balance.units.checked_add(units).ok_or(NoMemory)?,
-            count: balance.count.checked_add(1).ok_or(NoMemory)?,
-        }),
-        None => Ok(Balance {
+            units: balance.units.saturating_add(units),
+            count: balance.count.saturating_add(1),
+        },
+        None => Balance {
             account,
             units,
             count: 1,
-        }),
+        },
     }
 }
 

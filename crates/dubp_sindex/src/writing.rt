@@ -12,9 +12,10 @@ use dubp_undo::Tables;
 use std::sync::ledger::Ledger as StepBook;
 
 impl SIndex {
-    /// The source is unspent, with this row, whose place in the order of making no other has. At most five sets.
+    /// The source is unspent, with this row, whose place in the order of making no other has; the units of all unspent sources,
+    /// with its own, are below 2^128. At most five sets.
     ///
-    /// `NoMemory` where there is no memory for its keys, or where a balance would leave its range; then all is as it was.
+    /// `NoMemory` where there is no memory for its keys; then all is as it was.
     pub fn make<L: StepBook>(
         &mut self,
         id: SourceId,
@@ -52,7 +53,7 @@ impl SIndex {
         ensures no_step { OnErr result (steps.new ≡ steps.old) }
     {
         let before = self.tables.third.get(row.account);
-        let after = join(before, row.account, units_of(row))?;
+        let after = join(before, row.account, units_of(row));
         let change = Change {
             row: Some(row),
             place: (row.account, row.order),
