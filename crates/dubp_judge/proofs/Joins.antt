@@ -7,6 +7,7 @@ use Rattle.dubp_rules.specs.Table.{table_rules}
 use Rattle.dubp_verdict.specs.Verdicts.{Verdicts}
 use Rattle.dubp_chain.specs.declared.head.Head.{Head}
 use Rattle.dubp_chain.specs.Chains.{Chain}
+use Rattle.dubp_validity.specs.Rules.{IsShort}
 use Rattle.dubp_kept.specs.KeptChain.{MayJoin}
 use Rattle.dubp_kept.specs.OfLocal.{Asked}
 use Rattle.dubp_kept.specs.OfLocal.{Signed, Unsigned}
@@ -15,9 +16,10 @@ use Rattle.dubp_judge.specs.Judged.{HeadFits, IsToJudge}
 use Rattle.dubp_judge.proofs.Asking.{signed_asked}
 use Rattle.dubp_judge.proofs.Early.{keeps_unsigned}
 
-pub may_join : (asked : Asked) (v : Verdicts) (c : Chain) (b : Block) (h : Head) (p : Params) → IsFirst (Asks asked v c b) table_rules None → IsToJudge c b h p → HeadFits c b h → WhereSigned asked (MayJoin c b h p)
-may_join Signed v c b h p all judged fits = record {
+pub may_join : (asked : Asked) (v : Verdicts) (c : Chain) (b : Block) (h : Head) (p : Params) → IsFirst (Asks asked v c b) table_rules None → IsShort b → IsToJudge c b h p → HeadFits c b h → WhereSigned asked (MayJoin c b h p)
+may_join Signed v c b h p all short judged fits = record {
   text = judged.block;
+  short = short;
   keeps = keeps_unsigned v c b ((signed_asked v c b table_rules None).1 all);
   head = judged.head;
   same = judged.same;
@@ -25,4 +27,4 @@ may_join Signed v c b h p all judged fits = record {
   steered = fits.steered;
   stated = fits.stated;
 }
-may_join Unsigned v c b h p all judged fits = tt
+may_join Unsigned v c b h p all short judged fits = tt

@@ -261,6 +261,7 @@ fn judge_headed<T: Judges>(
     requires at { T.at tables.now (reverse blocks.now) }
     requires known { IsKnown (reverse blocks.now) heads.now }
     requires text { IsBlock block.now }
+    requires short { length (block_text block.now) ≤ longest_block }
     requires params { Some params.now ≡ stated (block.now ∷ reverse blocks.now) }
     requires opening { IsFirst (Asks asked verdicts.now (reverse blocks.now) block.now) opening_rules None }
     requires place { IsFirst (Holds verdicts.now (reverse blocks.now) block.now) place_rules None }
@@ -319,6 +320,7 @@ fn judge_tables<T: Judges>(
     asked: Asked,
 ) -> Result<Judgement, NoMemory>
     requires at { T.at tables.now (reverse blocks.now) }
+    requires short { length (block_text block.now) ≤ longest_block }
     requires to_judge { IsToJudge (reverse blocks.now) block.now head.now params.now }
     requires early { IsFirst (Asks asked verdicts.now (reverse blocks.now) block.now) early_rules None }
     requires fits { HeadFits (reverse blocks.now) block.now head.now }

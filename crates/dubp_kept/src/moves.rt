@@ -2,7 +2,7 @@ ghost use Rattle.std.specs.Prelude.{◌≡◌, ◌+◌, ◌-◌, ◌≤◌, ◌<
 ghost use Rattle.dubp_block.specs.Text.{IsBlock};
 ghost use Rattle.dubp_chain.specs.Chains.{Chain};
 ghost use Rattle.dubp_chain.specs.Heads.{head_of};
-ghost use Rattle.dubp_head.specs.OfValidity.{IsSound};
+ghost use Rattle.dubp_head.specs.OfValidity.{IsSound, IsShort};
 ghost use Rattle.dubp_local.specs.Local.{all_hashes};
 ghost use Rattle.dubp_kept.specs.KeptChain.{most_steps, StandsWithin, WaitsWithin};
 ghost use Rattle.dubp_kept.specs.LeftBehind.{left_behind};
@@ -28,6 +28,7 @@ pub(crate) fn enter<T: Written, L: StepBook>(
     steps: &mut Steps<L>,
 ) -> Result<LeftBehind, NoMemory>
     requires text { IsBlock block.now }
+    requires short { IsShort block.now }
     requires hashes { hashes.now ≡ all_hashes block.now }
     ensures stands { OnOk result ((c : Chain) → IsSound (block.now ∷ c) → IsBlock block.now → head_of (block.now ∷ c) ≡ Some head.now → StandsWithin (T.is (T.names tables.old)) (T.now tables.old) (T.count tables.old) (T.others tables.old).kept c → StandsWithin (T.is (T.names tables.new)) (T.now tables.new) (T.count tables.new) (T.others tables.new).kept (block.now ∷ c)) }
     ensures left { IfOk result (λ left. (c : Chain) → IsSound (block.now ∷ c) → IsBlock block.now → head_of (block.now ∷ c) ≡ Some head.now → T.at tables.old c → left ≡ left_behind c block.now) }

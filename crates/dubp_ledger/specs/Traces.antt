@@ -1,7 +1,6 @@
 -- What the blocks of a chain left behind, block by block. Protocol: records.
 use Rattle.std.specs.Prelude.{◌≡◌, ◌≤◌, ℕ, List, [], ◌∷◌, length, take, Option, Some, None, ⊤}
 use Rattle.std.specs.List.{AllByRecursion}
-use Rattle.dubp_block.specs.declared.block.Block.{Block}
 pub use Rattle.dubp_validity.specs.Rules.{IsShort}
 use Rattle.dubp_chain.specs.Chains.{Chain}
 use Rattle.dubp_rows.specs.OfKept.{KeptChain, Out}

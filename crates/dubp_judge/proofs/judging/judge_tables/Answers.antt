@@ -27,4 +27,4 @@ returns-in-None g c =
     let r = c.requires in
     let first = subst (IsFirst (Holds v chain b) table_parts) c.in-None.is (c.in_ok-rule.ensures chain r.at r.to_judge) in
     let all = parts_decide (Asks asked v chain b) None r.early (others_asked v chain b asked table_parts None refl first) in
-    (all, may_join asked v chain b c.args.head.now c.args.params.now all r.to_judge r.fits, r.hashes)
+    (all, may_join asked v chain b c.args.head.now c.args.params.now all r.short r.to_judge r.fits, r.hashes)

@@ -19,7 +19,7 @@ returns-clause-at g c = λ chain sound text head at.
     let b = c.args.block.now in
     let h = c.args.head.now in
     let first : people_words.IsApplied chain b h = record { sound = sound; block = text; head = head } in
-    let second : money_words.IsApplied chain b h = record { sound = sound; block = text; head = head } in
+    let second : money_words.IsApplied chain b h = record { sound = sound; block = text; short = c.requires.short; head = head } in
     let people_at = c.in_ok-apply.ensures.at chain first at.0 in
     let paid = are_paid (b ∷ chain) h c.as_slice.result.now (c.as_slice.ensures.value ∙ c.in_ok-members.ensures (b ∷ chain) people_at sound) in
     (people_at, c.in_ok-apply_hashed.ensures.at chain second paid at.1)
@@ -29,7 +29,7 @@ returns-clause-steps g c = λ chain sound text head at.
     let b = c.args.block.now in
     let h = c.args.head.now in
     let first : people_words.IsApplied chain b h = record { sound = sound; block = text; head = head } in
-    let second : money_words.IsApplied chain b h = record { sound = sound; block = text; head = head } in
+    let second : money_words.IsApplied chain b h = record { sound = sound; block = text; short = c.requires.short; head = head } in
     let people_at = c.in_ok-apply.ensures.at chain first at.0 in
     let paid = are_paid (b ∷ chain) h c.as_slice.result.now (c.as_slice.ensures.value ∙ c.in_ok-members.ensures (b ∷ chain) people_at sound) in
     steps_of_both chain b c.args.steps.now c.apply.new.steps c.apply_hashed.new.steps (c.in_ok-apply.ensures.steps chain first at.0) (c.in_ok-apply_hashed.ensures.steps chain second paid at.1)
@@ -39,7 +39,7 @@ returns-clause-left g c = λ chain sound text head at.
     let b = c.args.block.now in
     let h = c.args.head.now in
     let first : people_words.IsApplied chain b h = record { sound = sound; block = text; head = head } in
-    let second : money_words.IsApplied chain b h = record { sound = sound; block = text; head = head } in
+    let second : money_words.IsApplied chain b h = record { sound = sound; block = text; short = c.requires.short; head = head } in
     let people_at = c.in_ok-apply.ensures.at chain first at.0 in
     let keys = c.in_ok-members.ensures (b ∷ chain) people_at sound in
     let paid = are_paid (b ∷ chain) h c.as_slice.result.now (c.as_slice.ensures.value ∙ keys) in
