@@ -3,3 +3,4 @@ pub mod Events
 pub mod Ways
 pub mod Blocks
 pub mod Whole
+mod Numbers

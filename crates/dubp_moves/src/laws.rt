@@ -1,5 +1,6 @@
 //! The laws of statements, proved for every chain. Each function here is a law: it does nothing, and its contract is the law.
-ghost use Rattle.std.specs.Prelude.{◌≡◌};
+ghost use Rattle.std.specs.Prelude.{◌≡◌, ◌<◌, ◌^◌};
+ghost use Rattle.std.specs.List.{AllByRecursion};
 ghost use Rattle.dubp_verdict.specs.OfAtoms.{Text};
 ghost use Rattle.dubp_chain.specs.Chains.{Chain};
 ghost use Rattle.dubp_validity.specs.Rules.{IsSound};
@@ -16,4 +17,9 @@ pub fn moves_are_statements()
 /// What is noted block by block, knowing the sources that were made so far alone, is the moves.
 pub fn accounts_have_the_moves()
     ensures { (c : Chain) (cond : Text) → IsSound c → (account_of cond c).moves ≡ moves_of c cond }
+{}
+
+/// On a sound chain each balance of a condition's moves is a number of 128 bits.
+pub fn balances_are_numbers()
+    ensures { (c : Chain) (cond : Text) → IsSound c → AllByRecursion (λ m. m.balance < 2 ^ 128) (moves_of c cond) }
 {}
