@@ -1,5 +1,0 @@
-use Rattle.std.proofs.Common.{length}
-use Rattle.dubp_at_work.proofs.walks.+count_certified.Given as goal
-
-abbrev pub decreases-count_certified : goal.decreases-count_certified
-decreases-count_certified l = length l.pairs.now

@@ -1,0 +1,21 @@
+//! Tests of numbers and names, of parameters, of median times, of difficulties, of dividends, of walks over certifications and of sources
+//! and sinks, and nothing else.
+//!
+//! Each call is made with values whose answers are known from outside. The tests stand above the crates that they try: a crate with
+//! tests of its own is proved once more with them.
+#![tactic(auto)]
+
+#[cfg(test)]
+mod difficulties;
+#[cfg(test)]
+mod dividends;
+#[cfg(test)]
+mod numbers;
+#[cfg(test)]
+mod parameters;
+#[cfg(test)]
+mod streams;
+#[cfg(test)]
+mod times;
+#[cfg(test)]
+mod walks;
