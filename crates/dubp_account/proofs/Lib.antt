@@ -1,5 +1,6 @@
 pub mod Names
 pub mod Lists
 pub mod Tallies
+pub mod Sums
 pub mod Folds
 pub mod Signers

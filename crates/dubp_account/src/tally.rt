@@ -1,11 +1,11 @@
 //! What is known of a condition's account, block by block.
-ghost use Rattle.std.specs.Prelude.{◌≡◌, ◌+◌, ◌||◌, ◌++◌, ◌∷◌, [], take, length, OnOk, IfOk};
+ghost use Rattle.std.specs.Prelude.{◌≡◌, ◌-◌, ◌<◌, ◌^◌, ◌||◌, ◌++◌, ◌∷◌, [], min, take, length, OnOk};
 ghost use Rattle.std.specs.List.{list_any};
 ghost use Rattle.dubp_chain.specs.Heads.{units as units_of};
 ghost use Rattle.dubp_chain.specs.Money.{same_source};
 ghost use Rattle.dubp_chain.specs.OfCond.{SourceId as SourceIdValue};
 ghost use Rattle.dubp_replay.specs.OfMoves.{Account, balance_behind, no_account, with_gone};
-ghost use Rattle.dubp_account.specs.Tallies.{IsTallyOf, moves_of, with_move, with_source};
+ghost use Rattle.dubp_account.specs.Tallies.{AreNumbers, IsTallyOf, moves_of, with_move, with_source};
 
 use dubp_atoms::NoMemory;
 use dubp_cond::{Input, SourceId};
@@ -35,7 +35,7 @@ impl Tally {
 
     /// The moves, in order.
     pub fn into_moves(self) -> Vec<Move>
-        ensures account { (a : Account) → IsTallyOf a self → result.items ≡ a.moves }
+        ensures account { (a : Account) → IsTallyOf a self → AreNumbers a.moves → result.items ≡ a.moves }
         ensures moves { result.items ≡ moves_of self }
     {
         self.moves
@@ -43,7 +43,7 @@ impl Tally {
 
     /// A source of the condition is made in the block of this number.
     ///
-    /// `NoMemory` where there is no room, or the units are no number of 128 bits.
+    /// `NoMemory` where there is no room.
     pub(crate) fn make(&mut self, number: u64, input: &Input) -> Result<(), NoMemory>
         ensures account { OnOk result ((a : Account) → IsTallyOf a self.old → IsTallyOf (with_source number a input.now) self.new) }
         ensures begins { take (length (moves_of self.old)) (moves_of self.new) ≡ moves_of self.old }
@@ -54,7 +54,7 @@ impl Tally {
 
     /// A source is spent or cleared in the block of this number: a move where it is one of the condition.
     ///
-    /// `NoMemory` where there is no room, or the units are no number of 128 bits.
+    /// `NoMemory` where there is no room.
     pub(crate) fn take(&mut self, number: u64, kind: Kind, input: &Input) -> Result<(), NoMemory>
         ensures account { OnOk result ((a : Account) → IsTallyOf a self.old → IsTallyOf (with_gone kind number a input.now) self.new) }
         ensures begins { take (length (moves_of self.old)) (moves_of self.new) ≡ moves_of self.old }
@@ -70,7 +70,7 @@ impl Tally {
         ensures account { OnOk result ((a : Account) → IsTallyOf a self.old → IsTallyOf (with_move kind number a input.now) self.new) }
         ensures begins { take (length (moves_of self.old)) (moves_of self.new) ≡ moves_of self.old }
     {
-        let balance = balance_after(self.balance, kind, input)?;
+        let balance = balance_after(self.balance, kind, input);
         let next = Move {
             number,
             kind,
@@ -110,37 +110,21 @@ fn has(names: &IndexSet<SourceId>, source: &SourceId) -> bool
     names.contains(source)
 }
 
-// The units behind a move. `NoMemory` where they are no number of 128 bits.
-fn balance_after(balance: u128, kind: Kind, input: &Input) -> Result<u128, NoMemory>
-    ensures { IfOk result (λ behind. behind ≡ balance_behind balance kind input.now) }
+// The units behind a move, where they are a number of 128 bits.
+fn balance_after(balance: u128, kind: Kind, input: &Input) -> u128
+    ensures { balance_behind balance kind input.now < 2 ^ 128 → result ≡ balance_behind balance kind input.now }
 {
-    let units = units(input.amount, input.base)?;
+    let units = units(input.amount, input.base);
     match kind {
-        Kind::Made => sum_of(balance, units),
-        Kind::Spent => Ok(balance.saturating_sub(units)),
-        Kind::Cleared => Ok(balance.saturating_sub(units)),
+        Kind::Made => balance.saturating_add(units),
+        Kind::Spent => balance.saturating_sub(units),
+        Kind::Cleared => balance.saturating_sub(units),
     }
 }
 
-// The sum. `NoMemory` where it is no number of 128 bits.
-fn sum_of(a: u128, b: u128) -> Result<u128, NoMemory>
-    ensures { IfOk result (λ n. n ≡ a + b) }
+// The units of an amount, or the greatest number of 128 bits where they are more.
+fn units(amount: u64, base: u8) -> u128
+    ensures { result ≡ min (units_of amount base) (2 ^ 128 - 1) }
 {
-    match a.checked_add(b) {
-        Some(sum) => Ok(sum),
-        None => Err(NoMemory),
-    }
-}
-
-// The units of an amount. `NoMemory` where they are no number of 128 bits.
-fn units(amount: u64, base: u8) -> Result<u128, NoMemory>
-    ensures { IfOk result (λ n. n ≡ units_of amount base) }
-{
-    let Some(power) = 10u128.checked_pow(base as u32) else {
-        return Err(NoMemory);
-    };
-    match (amount as u128).checked_mul(power) {
-        Some(units) => Ok(units),
-        None => Err(NoMemory),
-    }
+    (amount as u128).saturating_mul(10u128.saturating_pow(base as u32))
 }

@@ -4,7 +4,9 @@ ghost use Rattle.dubp_account.specs.OfReplay.{IsStatement, account_of};
 ghost use Rattle.dubp_statement.specs.Fronts.{first_blocks};
 ghost use Rattle.dubp_account.specs.Tallies.{IsTallyOf};
 
-use dubp_account::move_laws::{accounts_have_the_moves, moves_are_statements};
+use dubp_account::move_laws::{
+    accounts_have_the_moves, balances_are_numbers, moves_are_statements,
+};
 use dubp_account::{Move, Tally, add_block};
 use dubp_atoms::NoMemory;
 use dubp_cond::CondText;
@@ -24,6 +26,7 @@ pub fn statement<T: PeopleAndMoney>(
     ledger.laws();
     accounts_have_the_moves();
     moves_are_statements();
+    balances_are_numbers();
     let tally = tally_of(alloc, ledger, cond.as_slice())?;
     Ok(tally.into_moves())
 }

@@ -9,5 +9,5 @@ returns-then-not-has-clause-account c = λ a is. not_gone c.args.self.now a c.ar
 pub returns-clause-account : goal.returns-clause-account
 returns-clause-account c =
     on_ok_weaker c.note.result
-    (λ noted a is. gone c.args.self.now c.note.new.self a c.args.kind c.args.number c.args.input.now is (sym c.has.ensures ∙ c.if-not-has.false) (noted a is))
+    (λ noted a is. gone c.args.self.now a c.args.kind c.args.number c.args.input.now is c.note.new.self (sym c.has.ensures ∙ c.if-not-has.false) (noted a is))
     c.note.ensures.account
