@@ -1,5 +1,5 @@
 -- The rows of a chain while a block is written: they are those of the numbered sources, transaction by transaction.
-use Rattle.std.proofs.Common.{◌≡◌, ℕ, ◌+◌, ◌^◌, ◌<◌, ◌≤◌, Bool, true, false, not, cond, ◌||◌, Option, None, Some, List, [], ◌∷◌, ◌++◌, map, filter, fold, length, refl, ap, sym, ◌∙◌, subst, length-append, arith}
+use Rattle.std.proofs.Common.{◌≡◌, ℕ, ◌+◌, ◌^◌, ◌<◌, ◌≤◌, Bool, true, false, not, cond, ◌||◌, List, [], ◌∷◌, ◌++◌, map, filter, fold, length, sum_by, refl, ap, sym, ◌∙◌, subst, length-append, arith}
 use Rattle.std.specs.List.{list_any, AllByRecursion, enumerate_from}
 use Rattle.dubp_atoms.specs.Same.{Text, same_text}
 use Rattle.dubp_cond.specs.Conditions.{cond_text}
@@ -11,18 +11,19 @@ use Rattle.dubp_chain.specs.Chains.{Chain}
 use Rattle.dubp_chain.specs.Heads.{time_of}
 use Rattle.dubp_chain.specs.Money as money
 use Rattle.dubp_chain.specs.Money.{Source, named_by, is_left, outputs_made, made_by, made_sources, cleared, unspent}
-use Rattle.dubp_validity.specs.Rules.{IsSound}
+use Rattle.dubp_validity.specs.Rules.{IsSound, IsShort}
 use Rattle.dubp_local.proofs.OfLists.{in_all, all_from_in, all_append, in_filter}
 use Rattle.dubp_local.proofs.OfLists.{each_once-map}
 use Rattle.dubp_money_steps.proofs.OfLaws.{SourcesApart, sources-filter}
 use Rattle.dubp_money_steps.proofs.OfLaws.{pays, at_hand-is}
-use Rattle.dubp_sindex.specs.Rows.{Entry, same_source, is_named, each_once, AreRows}
+use Rattle.dubp_sindex.specs.Rows.{Entry, units_of_entry, same_source, is_named, each_once, AreRows}
 use Rattle.dubp_money_steps.specs.Steps.{rest, numbered, outputs_of, dividends_of, transacted, all_transacted}
-use Rattle.dubp_money_steps.specs.Left.{account_in, entry_of, entries_of, HasTexts, IsSmall, sources_left, sources_before_clearing}
+use Rattle.dubp_money_steps.specs.Left.{account_in, entry_of, entries_of, HasTexts, IsSmall, AreSmall, sources_left, sources_before_clearing}
 use Rattle.dubp_money_steps.proofs.Names.{same_name, each_once-same}
 use Rattle.dubp_money_steps.proofs.Entries.{names_of, without_numbers}
 use Rattle.dubp_money_steps.proofs.Numbering.{sources_stay}
 use Rattle.dubp_money_steps.proofs.Ranges.{sources_are_rows, made_are_small, sources_are_rows_before_clearing}
+use Rattle.dubp_money_steps.proofs.Bounds.{made_stay_few, places_are_there, units_fit, units_left}
 use Rattle.dubp_money_steps.proofs.Cleared.{clears_rows}
 use Rattle.dubp_money_steps.specs.Clearing.{kept, taken, clear_record}
 use Rattle.dubp_validity.specs.Records.{clearing_records}
@@ -32,9 +33,9 @@ use Rattle.dubp_money.specs.Writing.{without_inputs}
 use Rattle.dubp_money.specs.Making.{CanFollow, with_made}
 use Rattle.dubp_money.specs.Transactions.{all_outputs, all_written}
 use Rattle.dubp_money.proofs.Growing.{grows_on, has_more}
-use Rattle.dubp_money.proofs.Made.{map-both, same_flip, dividends-length}
-use Rattle.dubp_money.specs.declared.paying.Payment.{Payment}
-use Rattle.dubp_money.specs.Blocks.{paid, IsWritten, IsCleared}
+use Rattle.dubp_money.proofs.Units.{units_made}
+use Rattle.dubp_money.proofs.Made.{map-both, same_flip}
+use Rattle.dubp_money.specs.Blocks.{IsCleared}
 use Rattle.dubp_money.proofs.Written.{can_first, IsSoFar, so_far, written-more}
 
 -- ---- the inputs of a transaction
@@ -84,8 +85,15 @@ below_from account p n k (s ∷ ss) le =
       | false ↦ later
     ]
 
-pub can_make : (texts : List Text) (c : Chain) (b : Block) → IsSound (b ∷ c) → IsBlock b → length (made_sources (b ∷ c)) ≤ 2 ^ 53 → CanFollow (sources_left texts c) (length (made_sources c)) (made_by c b)
-can_make texts c b sound is few =
+-- with the block all that the chain made is in its bounds
+pub small_next : (c : Chain) (b : Block) → IsSound (b ∷ c) → IsBlock b → IsShort b → AreSmall c → AreSmall (b ∷ c)
+small_next c b sound is short small = record {
+  each = all_append IsSmall (made_sources c) (made_by c b) small.each (made_are_small c b sound is);
+  count = made_stay_few c b sound short small.count;
+}
+
+pub can_make : (texts : List Text) (c : Chain) (b : Block) → IsSound (b ∷ c) → IsBlock b → IsShort b → AreSmall c → CanFollow (sources_left texts c) (length (made_sources c)) (made_by c b)
+can_make texts c b sound is short small =
     let p = pays c b sound in
     record {
       apart =
@@ -96,19 +104,20 @@ can_make texts c b sound is few =
           ∙ subst SourcesApart (at_hand-is c b p) (sources-filter (is_left c (cleared c)) (made_sources (b ∷ c)) p.once);
       behind = below_from (account_in texts) (is_left c (cleared c)) 0 (length (made_sources c)) (made_sources c) (omega arith);
       small = made_are_small c b sound is;
-      few = omega (arith, few, length-append (made_sources c) (made_by c b));
+      few = omega (arith, places_are_there (b ∷ c) sound (small_next c b sound is short small), length-append (made_sources c) (made_by c b));
+      fits = omega (arith, units_fit c b sound is short, units_left texts c);
     }
 
 -- the chain with the block fits
-pub fits_next : (texts texts' : List Text) → Grows texts texts' → (c : Chain) (b : Block) → IsSound (b ∷ c) → IsBlock b → length (made_sources (b ∷ c)) ≤ 2 ^ 53 → Fits texts c → HasTexts texts' (made_by c b) → Fits texts' (b ∷ c)
-fits_next texts texts' g c b sound is few fits has = record {
+pub fits_next : (texts texts' : List Text) → Grows texts texts' → (c : Chain) (b : Block) → IsSound (b ∷ c) → IsBlock b → IsShort b → Fits texts c → HasTexts texts' (made_by c b) → Fits texts' (b ∷ c)
+fits_next texts texts' g c b sound is short fits has = record {
   has = all_append (λ s. list_any (same_text (cond_text s.cond)) texts' ≡ true) (made_sources c) (made_by c b) (has_more texts texts' g (made_sources c) fits.has) has;
-  small = record { each = all_append IsSmall (made_sources c) (made_by c b) fits.small.each (made_are_small c b sound is); count = few };
+  small = small_next c b sound is short fits.small;
 }
 
 -- ---- the rows before clearing
 
-module _ (c : Chain) (b : Block) (sound : IsSound (b ∷ c)) (is : IsBlock b) (few : length (made_sources (b ∷ c)) ≤ 2 ^ 53) (texts : List Text) (fits : Fits texts c) where
+module _ (c : Chain) (b : Block) (sound : IsSound (b ∷ c)) (is : IsBlock b) (short : IsShort b) (texts : List Text) (fits : Fits texts c) where
   abbrev time : ℕ
   time = time_of (b ∷ c)
 
@@ -119,10 +128,10 @@ module _ (c : Chain) (b : Block) (sound : IsSound (b ∷ c)) (is : IsBlock b) (f
   are_rows = sources_are_rows texts c sound.1 fits.small
 
   pub can_transact : CanFollow (sources_left texts c) count (outputs_of c b)
-  can_transact = can_first (sources_left texts c) count (outputs_of c b) (dividends_of c b) (can_make texts c b sound is few)
+  can_transact = can_first (sources_left texts c) count (outputs_of c b) (dividends_of c b) (can_make texts c b sound is short fits.small)
 
   pub transacted_so_far : (texts' : List Text) → IsSoFar (all_written texts' time b.currency count (sources_left texts c) b.transactions) count (outputs_of c b) (dividends_of c b)
-  transacted_so_far texts' = so_far time b.currency texts' b.transactions (dividends_of c b) count (sources_left texts c) are_rows (can_make texts c b sound is few)
+  transacted_so_far texts' = so_far time b.currency texts' b.transactions (dividends_of c b) count (sources_left texts c) are_rows (can_make texts c b sound is short fits.small)
 
   unspent_has : HasTexts texts (unspent c)
   unspent_has =
@@ -140,6 +149,12 @@ module _ (c : Chain) (b : Block) (sound : IsSound (b ∷ c)) (is : IsBlock b) (f
       ap (λ s. with_made texts' s.1 s.0 (dividends_of c b)) (written_is texts' time b.currency b.transactions count (numbered c))
       ∙ sym (map-both (entry_of (account_in texts')) rest.1 (enumerate_from rest.0 (dividends_of c b)))
       ∙ ap (entries_of (account_in texts')) (sym (spends_and_makes c b sound))
+
+  -- whose units are a number of 128 bits
+  pub units_before_clearing : sum_by units_of_entry (sources_before_clearing texts c b) < 2 ^ 128
+  units_before_clearing =
+      let state = all_written texts time b.currency count (sources_left texts c) b.transactions in
+      subst (λ l. sum_by units_of_entry l < 2 ^ 128) (before_clearing texts) (omega (arith, (transacted_so_far texts).can.fits, units_made texts state.1 state.0 (dividends_of c b)))
 
   -- so do the calls one after the other
   pub block_rows : (Has Has' Has'' : List Entry → Type 0) (texts' texts'' : List Text) → Grows texts texts' → Grows texts' texts'' → (behind : ℕ)
@@ -160,25 +175,6 @@ module _ (c : Chain) (b : Block) (sound : IsSound (b ∷ c)) (is : IsBlock b) (f
       ∙ ap (λ s. with_made texts'' s.1 s.0 (dividends_of c b)) more
       ∙ before_clearing texts'')
       paid
-
--- at most one dividend a member
-paid-length : (payment : Option Payment) (keys : List Text) → length (paid payment keys) ≤ length keys
-paid-length None keys = omega arith
-paid-length (Some p) keys = omega (arith, dividends-length p keys)
-
-pub few_made : (c : Chain) (b : Block) (time : ℕ) (payment : Option Payment) (members : List Text) (made : ℕ) → IsWritten c b time payment members made
-    → made + length (all_outputs time b.currency b.transactions) + length members ≤ 2 ^ 53 → length (made_sources (b ∷ c)) ≤ 2 ^ 53
-few_made c b time payment members made w few =
-    omega (
-      arith,
-      few,
-      w.behind,
-      paid-length payment members,
-      ap length w.pays,
-      ap (λ t. length (all_outputs t b.currency b.transactions)) w.at_time,
-      length-append (made_sources c) (outputs_of c b ++ dividends_of c b),
-      length-append (outputs_of c b) (dividends_of c b),
-    )
 
 -- what stands before clearing has texts, and is rows
 rest_has : (texts : List Text) (c : Chain) (b : Block) → Fits texts (b ∷ c) → HasTexts texts (rest c b)

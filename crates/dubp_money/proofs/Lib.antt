@@ -2,6 +2,7 @@ pub mod Growing
 pub mod Rows
 pub mod Lists
 pub mod Begins
+pub mod Units
 pub mod Clears
 pub mod Made
 pub mod Written

@@ -1,15 +1,16 @@
 -- Rows behind rows: what is made in turn is new each time, and what stands then are rows.
-use Rattle.std.proofs.Common.{◌≡◌, ℕ, suc, zero, ◌+◌, ◌^◌, ◌<◌, ◌≤◌, true, false, not, List, [], ◌∷◌, ◌++◌, map, length, cond, take, drop, get_or, inl, refl, ap, sym, ◌∙◌, subst, append_assoc, append-nil, arith}
+use Rattle.std.proofs.Common.{◌≡◌, ℕ, suc, zero, ◌+◌, ◌^◌, ◌<◌, ◌≤◌, true, false, not, List, [], ◌∷◌, ◌++◌, map, length, sum_by, cond, take, drop, get_or, inl, refl, ap, sym, ◌∙◌, subst, append_assoc, append-nil, length-append, arith}
 use Rattle.std.specs.Prelude.{unwrap_or, Some}
 use Rattle.std.specs.List.{list_any, AllByRecursion, enumerate_from}
 use Rattle.std.proofs.lemmas.List.{length-take-le, take_all, take_more, get_or-map}
 use Rattle.std.proofs.lemmas.List.Folds.{list_any-append}
+use Rattle.std.proofs.lemmas.List.Sums.{sum_by-cons, sum_by-append}
 use Rattle.dubp_atoms.specs.Same.{Text, same_text}
 use Rattle.dubp_cond.specs.Conditions.{cond_text}
 use Rattle.dubp_cond.specs.declared.source.SourceId.{SourceId}
 use Rattle.dubp_cond.specs.declared.output.Output.{Output}
 use Rattle.dubp_chain.specs.Money.{Source, output_source, dividend_source}
-use Rattle.dubp_sindex.specs.Rows.{Entry, same_source, is_named, each_once, Rises, IsBelow, IsInRange, AreRows, IsNewRow}
+use Rattle.dubp_sindex.specs.Rows.{Entry, units_of_entry, same_source, is_named, each_once, Rises, IsBelow, IsInRange, AreRows, IsNewRow}
 use Rattle.dubp_sindex.proofs.Elements.{and_left, and_right, not_true, or_left, or_right, all_append, in_any, in_right}
 use Rattle.dubp_sindex.proofs.Sources.{same_source_is, same_source_own, same_text_own}
 use Rattle.dubp_sindex.specs.Numbering.{number_of, with_text}
@@ -19,6 +20,7 @@ use Rattle.dubp_money.specs.Texts.{Grows}
 use Rattle.dubp_money.specs.Making.{CanFollow, with_made, dividends_to}
 use Rattle.dubp_money.specs.declared.paying.Payment.{Payment}
 use Rattle.dubp_money.proofs.Growing.{has_more}
+use Rattle.dubp_money.proofs.Units.{units_made}
 
 -- ---- lists
 
@@ -95,12 +97,17 @@ behind_in : (xs : List Entry) (e : Entry) (ys : List Entry) → Rises (xs ++ e �
 behind_in [] e ys rises = tt
 behind_in (x ∷ xs) e ys rises = (all_middle (λ z. x.1.order < z.1.order) xs e ys rises.0, behind_in xs e ys rises.1)
 
-new_row : (xs : List Entry) (e : Entry) (ys : List Entry) → AreRows (xs ++ e ∷ ys) → IsNewRow xs e
-new_row xs e ys are = record { unnamed = unnamed_in xs e ys are.once; behind = behind_in xs e ys are.rises; in_range = all_middle IsInRange xs e ys are.in_range }
+new_row : (xs : List Entry) (e : Entry) (ys : List Entry) → AreRows (xs ++ e ∷ ys) → sum_by units_of_entry (xs ++ e ∷ ys) < 2 ^ 128 → IsNewRow xs e
+new_row xs e ys are fits = record {
+  unnamed = unnamed_in xs e ys are.once;
+  behind = behind_in xs e ys are.rises;
+  in_range = all_middle IsInRange xs e ys are.in_range;
+  fits = omega (arith, fits, sum_by-append units_of_entry xs (e ∷ ys), sum_by-cons units_of_entry e ys);
+}
 
 -- ---- all that is made
 
-in_range_made : (account : Text → ℕ) (n : ℕ) (made : List Source) → AllByRecursion IsSmall made → n + length made ≤ 2 ^ 53 → AllByRecursion IsInRange (entries_of account (enumerate_from n made))
+in_range_made : (account : Text → ℕ) (n : ℕ) (made : List Source) → AllByRecursion IsSmall made → n + length made ≤ 2 ^ 63 → AllByRecursion IsInRange (entries_of account (enumerate_from n made))
 in_range_made account n [] small few = tt
 in_range_made account n (s ∷ ss) small few = ((small.0.0, small.0.1, omega (arith, few)), in_range_made account (n + 1) ss small.1 (omega (arith, few)))
 
@@ -147,14 +154,22 @@ pub record IsNext (made : List Source) (i : ℕ) (s : Source) : Type 0 where
   pub count : length (take i made) ≡ i
 
 module _ (texts : List Text) (rows : List Entry) (n : ℕ) (made : List Source) (i : ℕ) (s : Source) (next : IsNext made i s) (are : AreRows rows) (can : CanFollow rows n made) where
+  cut : with_made texts rows n made
+      ≡ with_made texts rows n (take i made) ++ entry_of (account_in texts) (n + length (take i made), s) ∷ entries_of (account_in texts) (enumerate_from (n + length (take i made) + 1) (drop (suc i) made))
+  cut = ap (with_made texts rows n) next.split ∙ made_split texts rows n (take i made) s (drop (suc i) made)
+
   whole : AreRows (with_made texts rows n (take i made) ++ entry_of (account_in texts) (n + length (take i made), s) ∷ entries_of (account_in texts) (enumerate_from (n + length (take i made) + 1) (drop (suc i) made)))
-  whole = subst AreRows (ap (with_made texts rows n) next.split ∙ made_split texts rows n (take i made) s (drop (suc i) made)) (rows_made (account_in texts) rows n made are can)
+  whole = subst AreRows cut (rows_made (account_in texts) rows n made are can)
 
   pub rows_so_far : AreRows (with_made texts rows n (take i made))
   rows_so_far = rows_first (with_made texts rows n (take i made)) _ whole
 
   pub next_is_new : IsNewRow (with_made texts rows n (take i made)) (entry_of (account_in texts) (n + i, s))
-  next_is_new = subst (λ k. IsNewRow (with_made texts rows n (take i made)) (entry_of (account_in texts) (n + k, s))) next.count (new_row (with_made texts rows n (take i made)) _ _ whole)
+  next_is_new = subst (λ k. IsNewRow (with_made texts rows n (take i made)) (entry_of (account_in texts) (n + k, s))) next.count (new_row (with_made texts rows n (take i made)) _ _ whole (subst (λ l. sum_by units_of_entry l < 2 ^ 128) cut (omega (arith, units_made texts rows n made, can.fits))))
+
+-- its place is in range
+pub place_next : (rows : List Entry) (n : ℕ) (made : List Source) (i : ℕ) (s : Source) → IsNext made i s → CanFollow rows n made → n + i ≤ 2 ^ 63
+place_next rows n made i s next can = omega (arith, can.few, ap length next.split, length-append (take i made) (s ∷ drop (suc i) made), next.count)
 
 pub made_more : (texts : List Text) (rows : List Entry) (n : ℕ) (made : List Source) (i : ℕ) (s : Source) → IsNext made i s
     → with_made texts rows n (take i made) ++ entry_of (account_in texts) (n + i, s) ∷ [] ≡ with_made texts rows n (take (i + 1) made)

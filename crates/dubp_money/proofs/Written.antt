@@ -3,13 +3,14 @@ use Rattle.std.proofs.Common.{◌≡◌, ℕ, suc, ◌+◌, ◌<◌, ◌≤◌, 
 use Rattle.std.specs.List.{list_any, AllByRecursion, enumerate_from, flat_map}
 use Rattle.std.proofs.lemmas.List.{take_more, length-map, get_or-map}
 use Rattle.std.proofs.lemmas.Grind.{flat_map-append}
+use Rattle.std.proofs.lemmas.List.Sums.{sum_by-append}
 use Rattle.dubp_atoms.specs.Same.{Text, same_text}
 use Rattle.dubp_cond.specs.Conditions.{cond_text}
 use Rattle.dubp_cond.specs.declared.source.SourceId.{SourceId}
 use Rattle.dubp_cond.specs.declared.tx.Tx.{Tx}
 use Rattle.dubp_block.specs.declared.block.Block.{Block}
 use Rattle.dubp_docs.specs.declared.hashing.TxHashes.{TxHashes}
-use Rattle.dubp_chain.specs.Money.{Source, outputs_made, hashes_in}
+use Rattle.dubp_chain.specs.Money.{Source, units_of, outputs_made, hashes_in}
 use Rattle.dubp_docs.specs.Spelling.{tx_hash}
 use Rattle.dubp_validity.specs.declared.record.Record.TheVariants.{Spend}
 use Rattle.dubp_validity.specs.Records.{make_record}
@@ -21,6 +22,7 @@ use Rattle.dubp_money.specs.Writing.{without_inputs}
 use Rattle.dubp_money.specs.Making.{CanFollow, with_made}
 use Rattle.dubp_money.specs.Transactions.{all_outputs, written, all_written, records_of}
 use Rattle.dubp_money.proofs.Rows.{rows-filter}
+use Rattle.dubp_money.proofs.Units.{units_filter, units_made}
 use Rattle.dubp_money.proofs.Made.{map-both, names-entries, once_first, split_at, with_made-rows, with_made-more, outputs-length}
 use Rattle.dubp_money.proofs.Growing.{has_more}
 
@@ -48,6 +50,7 @@ can_filter p rows n made can = record {
   behind = all_from_in (λ (e : Entry). e.1.order < n) (filter p rows) (λ e there. in_all (λ (e : Entry). e.1.order < n) rows can.behind e (in_filter p rows e there).0);
   small = can.small;
   few = can.few;
+  fits = omega (arith, can.fits, units_filter p rows);
 }
 
 smaller : (P : Source → Type 0) (xs ys : List Source) → AllByRecursion P (xs ++ ys) → AllByRecursion P xs × AllByRecursion P ys
@@ -64,6 +67,7 @@ can_first rows n xs ys can = record {
   behind = can.behind;
   small = (smaller IsSmall xs ys can.small).0;
   few = omega (arith, can.few, length-append xs ys);
+  fits = omega (arith, can.fits, sum_by-append units_of xs ys);
 }
 
 below_made : (account : Text → ℕ) (n : ℕ) (xs : List Source) (k : ℕ) → n + length xs ≤ k → AllByRecursion (λ (e : Entry). e.1.order < k) (entries_of account (enumerate_from n xs))
@@ -85,6 +89,7 @@ can_on texts rows n xs ys can = record {
       (below_made (account_in texts) n xs (n + length xs) (omega arith));
   small = (smaller IsSmall xs ys can.small).1;
   few = omega (arith, can.few, length-append xs ys);
+  fits = omega (arith, can.fits, units_made texts rows n xs, sum_by-append units_of xs ys);
 }
 
 -- ---- the transactions

@@ -33,9 +33,8 @@ impl Money {
     /// The block is in range. `members` are those of the chain with the block, by key, where the head has a dividend; else they are not
     /// looked at. It adds at most eight steps for each of these records, and eight. What is kept stays so.
     ///
-    /// `NoMemory` where there is no room, where more than 2^53 sources would be made with a dividend for each of `members`, and where units
-    /// or totals would leave 128 bits: the records are as before then, and what was written until then stands in the tables until they go
-    /// back to what is kept.
+    /// `NoMemory` where there is no room: the records are as before then, and what was written until then stands in the tables until they
+    /// go back to what is kept.
     pub fn apply<L: StepBook>(
         &mut self,
         alloc: Global,

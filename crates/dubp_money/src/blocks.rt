@@ -1,4 +1,4 @@
-ghost use Rattle.std.specs.Prelude.{◌≡◌, ◌+◌, ◌*◌, ◌^◌, ◌≤◌, ◌++◌, List, ◌∷◌, take, length, map, OnOk, IfOk};
+ghost use Rattle.std.specs.Prelude.{◌≡◌, ◌+◌, ◌*◌, ◌≤◌, ◌++◌, List, ◌∷◌, take, length, map, OnOk, IfOk};
 ghost use Rattle.std.specs.List.{flat_map};
 ghost use Rattle.dubp_block.specs.Text.{IsBlock};
 ghost use Rattle.dubp_block.specs.declared.block.Block.{Block as BlockValue};
@@ -15,7 +15,7 @@ ghost use Rattle.dubp_money_steps.specs.Clearing.{clear_record};
 ghost use Rattle.dubp_money.specs.Index.{HasRows};
 ghost use Rattle.dubp_money.specs.Texts.{Grows, Fits};
 ghost use Rattle.dubp_money.specs.Making.{CanFollow, with_made};
-ghost use Rattle.dubp_money.specs.Transactions.{all_outputs, records_of};
+ghost use Rattle.dubp_money.specs.Transactions.{records_of};
 ghost use Rattle.dubp_money.specs.Blocks.{paid, IsWritten, IsCleared};
 
 use crate::clearing::{clear_accounts, put_clears};
@@ -41,7 +41,6 @@ pub fn pay<L: StepBook>(
     out: &mut Vec<Record>,
     steps: &mut Steps<L>,
 ) -> Result<(), NoMemory>
-    requires { order + length members.now ≤ 2 ^ 53 }
     ensures at { OnOk result ((rows : List Entry) → AreRows rows → CanFollow rows order (paid payment members.now) → HasRows index.old rows → HasRows index.new (with_made (accounts index.new) rows order (paid payment members.now))) }
     ensures has { OnOk result (HasTexts (accounts index.new) (paid payment members.now)) }
     ensures texts { Grows (accounts index.old) (accounts index.new) }
@@ -81,7 +80,6 @@ pub fn spend_and_make<L: StepBook>(
 ) -> Result<(), NoMemory>
     requires block { IsBlock block.now }
     requires hashes { map (λ (h : TxHashesValue). h.whole) hashes.now ≡ hashes_in block.now }
-    requires few { made + length (all_outputs time block.now.currency block.now.transactions) + length members.now ≤ 2 ^ 53 }
     ensures at { OnOk result ((c : Chain) → IsWritten c block.now time payment members.now made → Fits (accounts index.old) c → HasRows index.old (sources_left (accounts index.old) c) → HasRows index.new (sources_before_clearing (accounts index.new) c block.now)) }
     ensures fits { OnOk result ((c : Chain) → IsWritten c block.now time payment members.now made → Fits (accounts index.old) c → Fits (accounts index.new) (block.now ∷ c)) }
     ensures texts { Grows (accounts index.old) (accounts index.new) }

@@ -1,4 +1,4 @@
-ghost use Rattle.std.specs.Prelude.{◌≡◌, ◌+◌, ◌*◌, ◌^◌, ◌≤◌, ◌++◌, List, ◌∷◌, [], IsTrue, take, length, map, ℕ, OnOk, IfOk};
+ghost use Rattle.std.specs.Prelude.{◌≡◌, ◌+◌, ◌*◌, ◌≤◌, ◌++◌, List, ◌∷◌, [], IsTrue, take, length, map, ℕ, OnOk, IfOk};
 ghost use Rattle.std.specs.List.{list_any};
 ghost use Rattle.dubp_atoms.specs.Same.{same_text};
 ghost use Rattle.dubp_cond.specs.Conditions.{cond_text};
@@ -12,6 +12,7 @@ ghost use Rattle.dubp_money.specs.Index.{HasRows};
 ghost use Rattle.dubp_money.specs.Texts.{Grows};
 ghost use Rattle.dubp_money.specs.Making.{outputs_at, CanFollow, with_made, source_of};
 
+use crate::counting::place_behind;
 use arrayvec::ArrayVec;
 use dubp_atoms::{Hash, Items, Line, NoMemory, Steps};
 use dubp_cond::{Cond, Input, Output, SourceId, Tx, put_cond};
@@ -70,8 +71,7 @@ pub fn make_outputs<L: StepBook>(
     order: u64,
     steps: &mut Steps<L>,
 ) -> Result<(), NoMemory>
-    requires tx { IsTx tx.now }
-    requires few { order + length tx.now.outputs ≤ 2 ^ 53 }
+    requires { IsTx tx.now }
     ensures at { OnOk result ((rows : List Entry) → AreRows rows → CanFollow rows order (outputs_at time hash.now tx.now) → HasRows index.old rows → HasRows index.new (with_made (accounts index.new) rows order (outputs_at time hash.now tx.now))) }
     ensures has { OnOk result (HasTexts (accounts index.new) (outputs_at time hash.now tx.now)) }
     ensures texts { Grows (accounts index.old) (accounts index.new) }
@@ -89,7 +89,7 @@ pub fn make_outputs<L: StepBook>(
             amount: output.amount,
             base: output.base,
             made_at: time,
-            order: order + place,
+            order: place_behind(order, place),
         };
         make_source(index, source, &output.cond, steps)?;
         place += 1;

@@ -1,4 +1,4 @@
-ghost use Rattle.std.specs.Prelude.{◌≡◌, ◌+◌, ◌*◌, ◌^◌, ◌≤◌, ◌++◌, List, ◌∷◌, [], take, length, map, OnOk, IfOk};
+ghost use Rattle.std.specs.Prelude.{◌≡◌, ◌+◌, ◌*◌, ◌≤◌, ◌++◌, List, ◌∷◌, [], take, length, map, OnOk, IfOk};
 ghost use Rattle.dubp_cond.specs.Conditions.{cond_text};
 ghost use Rattle.dubp_cond.specs.declared.source.SourceId.TheVariants.{D};
 ghost use Rattle.dubp_chain.specs.Money.{signed_by as sig_by};
@@ -11,6 +11,7 @@ ghost use Rattle.dubp_money.specs.Index.{HasRows};
 ghost use Rattle.dubp_money.specs.Texts.{Grows};
 ghost use Rattle.dubp_money.specs.Making.{dividends_to, CanFollow, with_made};
 
+use crate::counting::place_behind;
 use crate::making::{NewSource, make_source};
 use dubp_atoms::{Key, NoMemory, Steps};
 use dubp_cond::{All, Cond, Input, Item, SourceId};
@@ -60,7 +61,6 @@ pub fn pay_dividends<L: StepBook>(
     order: u64,
     steps: &mut Steps<L>,
 ) -> Result<(), NoMemory>
-    requires { order + length members.now ≤ 2 ^ 53 }
     ensures at { OnOk result ((rows : List Entry) → AreRows rows → CanFollow rows order (dividends_to payment members.now) → HasRows index.old rows → HasRows index.new (with_made (accounts index.new) rows order (dividends_to payment members.now))) }
     ensures has { OnOk result (HasTexts (accounts index.new) (dividends_to payment members.now)) }
     ensures texts { Grows (accounts index.old) (accounts index.new) }
@@ -79,7 +79,7 @@ pub fn pay_dividends<L: StepBook>(
             amount: payment.amount,
             base: payment.base,
             made_at: payment.time,
-            order: order + place,
+            order: place_behind(order, place),
         };
         make_source(index, source, &cond, steps)?;
         place += 1;

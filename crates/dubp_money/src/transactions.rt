@@ -13,6 +13,7 @@ ghost use Rattle.dubp_money.specs.Writing.{without_inputs};
 ghost use Rattle.dubp_money.specs.Making.{outputs_at, CanFollow, with_made};
 ghost use Rattle.dubp_money.specs.Transactions.{all_outputs, all_written, records_at, records_of};
 
+use crate::counting::place_behind;
 use crate::making::{make_outputs, put_makes};
 use crate::spending::{put_spends, spend_inputs};
 use dubp_atoms::{Hash, NoMemory, Steps};
@@ -40,8 +41,7 @@ pub fn write_transaction<L: StepBook>(
     out: &mut Vec<Record>,
     steps: &mut Steps<L>,
 ) -> Result<(), NoMemory>
-    requires tx { IsTx tx.now }
-    requires few { order + length tx.now.outputs ≤ 2 ^ 53 }
+    requires { IsTx tx.now }
     ensures at { OnOk result ((rows : List Entry) → AreRows rows → CanFollow (without_inputs tx.now.inputs rows) order (outputs_at time hash.now tx.now) → HasRows index.old rows → HasRows index.new (with_made (accounts index.new) (without_inputs tx.now.inputs rows) order (outputs_at time hash.now tx.now))) }
     ensures has { OnOk result (HasTexts (accounts index.new) (outputs_at time hash.now tx.now)) }
     ensures texts { Grows (accounts index.old) (accounts index.new) }
@@ -59,8 +59,8 @@ pub fn write_transaction<L: StepBook>(
 }
 
 /// What the transactions of the block, which have these hashes, spend and make at this time in seconds, one after the other, with
-/// their records. What they make stands from this place on in the order of making; the answer is the place behind it. At most five
-/// sets a record.
+/// their records. What they make stands from this place on in the order of making; the answer is the place behind it, where that is
+/// at most 2^63. At most five sets a record.
 ///
 /// On `NoMemory` some of it may be written; what is kept stays so.
 #[tactic(auto, using(crate::proofs::Begins::begins_behind))]
@@ -76,9 +76,8 @@ pub fn write_transactions<L: StepBook>(
 ) -> Result<u64, NoMemory>
     requires block { IsBlock block.now }
     requires hashes { map (λ (h : TxHashesValue). h.whole) hashes.now ≡ hashes_in block.now }
-    requires few { order + length (all_outputs time block.now.currency block.now.transactions) ≤ 2 ^ 53 }
     ensures at { OnOk result ((rows : List Entry) → AreRows rows → CanFollow rows order (all_outputs time block.now.currency block.now.transactions) → HasRows index.old rows → HasRows index.new ((all_written (accounts index.new) time block.now.currency order rows block.now.transactions).1)) }
-    ensures order { IfOk result (λ n. n ≡ order + length (all_outputs time block.now.currency block.now.transactions)) }
+    ensures order { IfOk result (λ n. order + length (all_outputs time block.now.currency block.now.transactions) ≤ 2 ^ 63 → n ≡ order + length (all_outputs time block.now.currency block.now.transactions)) }
     ensures has { OnOk result (HasTexts (accounts index.new) (all_outputs time block.now.currency block.now.transactions)) }
     ensures texts { Grows (accounts index.old) (accounts index.new) }
     ensures records { OnOk result (out.new.items ≡ out.old.items ++ flat_map (records_of time block.now.currency) block.now.transactions) }
@@ -93,7 +92,7 @@ pub fn write_transactions<L: StepBook>(
         let tx = &txs[i];
         let hash = &hashes[i].whole;
         write_transaction(index, alloc, tx, hash, time, place, out, steps)?;
-        place += tx.outputs.len() as u64;
+        place = place_behind(place, tx.outputs.len() as u64);
     }
     Ok(place)
 }

@@ -15,7 +15,7 @@ ghost use Rattle.dubp_money.specs.Applied.{IsApplied, ArePaid, Follows, money_re
 
 use crate::beside::write_beside;
 use crate::blocks::{clear_block, spend_and_make};
-use crate::counting::{count_made, sum_of, units, units_of};
+use crate::counting::{count_made, units, units_of};
 use crate::money::{HashesAndTotals, Totals};
 use crate::paying::Payment;
 use crate::sources::Sources;
@@ -56,7 +56,7 @@ fn payment_of(block: &Block, head: &Head) -> Option<Payment>
 
 /// Writes the block, whose head this is, into the index of sources, and appends its records of money. At most five sets a record.
 ///
-/// `made` is how many sources the chain made.
+/// `made` is how many sources the chain made. What is handed out is exact behind a chain for which the index stands.
 #[tactic(auto, using(crate::proofs::Begins::begins_on))]
 fn write_index<L: StepBook>(
     index: &mut SIndex,
@@ -74,7 +74,7 @@ fn write_index<L: StepBook>(
     ensures at { OnOk result ((c : Chain) → Follows c block.now head.now members.now made → StandsFor index.old c → StandsFor index.new (block.now ∷ c)) }
     ensures records { OnOk result ((c : Chain) → Follows c block.now head.now members.now made → StandsFor index.old c → out.new.items ≡ out.old.items ++ money_records c block.now) }
     ensures begins { take (length out.old.items) out.new.items ≡ out.old.items }
-    ensures made { IfOk result (λ w. (c : Chain) → Follows c block.now head.now members.now made → w.made ≡ length (made_sources (block.now ∷ c))) }
+    ensures made { IfOk result (λ w. (c : Chain) → Follows c block.now head.now members.now made → StandsFor index.old c → w.made ≡ length (made_sources (block.now ∷ c))) }
     ensures cleared { IfOk result (λ w. (c : Chain) → Follows c block.now head.now members.now made → StandsFor index.old c → w.cleared ≡ cleared_units_by c block.now) }
     ensures steps { OnOk result ((c : Chain) → Follows c block.now head.now members.now made → StandsFor index.old c → steps.new ≤ steps.old + 5 * length (money_records c block.now)) }
     ensures texts { Grows (accounts index.old) (accounts index.new) }
@@ -82,8 +82,8 @@ fn write_index<L: StepBook>(
     ensures count { ⟦<SIndex as Tables<SourceRows>>⟧.count index.new + steps.old ≤ ⟦<SIndex as Tables<SourceRows>>⟧.count index.old + steps.new }
 {
     let payment = payment_of(block, head);
-    let behind = count_made(block, payment, members, made)?;
-    let limit = units(100, head.unit_base)?;
+    let behind = count_made(block, payment, members, made);
+    let limit = units(100, head.unit_base);
     spend_and_make(
         index,
         alloc,
@@ -97,7 +97,7 @@ fn write_index<L: StepBook>(
         steps,
     )?;
     let taken = clear_block(index, alloc, limit, out, steps)?;
-    let cleared = units_of(taken.as_slice())?;
+    let cleared = units_of(taken.as_slice());
     Ok(Written {
         made: behind,
         cleared,
@@ -121,7 +121,7 @@ fn write_sources<L: StepBook>(
     ensures at { OnOk result ((c : Chain) → Follows c block.now head.now members.now made → ⟦<Sources as Tables<Block>>⟧.at sources.old c → ⟦<Sources as Tables<Block>>⟧.at sources.new (block.now ∷ c)) }
     ensures records { OnOk result ((c : Chain) → Follows c block.now head.now members.now made → ⟦<Sources as Tables<Block>>⟧.at sources.old c → out.new.items ≡ out.old.items ++ money_records c block.now) }
     ensures begins { take (length out.old.items) out.new.items ≡ out.old.items }
-    ensures made { IfOk result (λ w. (c : Chain) → Follows c block.now head.now members.now made → w.made ≡ length (made_sources (block.now ∷ c))) }
+    ensures made { IfOk result (λ w. (c : Chain) → Follows c block.now head.now members.now made → ⟦<Sources as Tables<Block>>⟧.at sources.old c → w.made ≡ length (made_sources (block.now ∷ c))) }
     ensures cleared { IfOk result (λ w. (c : Chain) → Follows c block.now head.now members.now made → ⟦<Sources as Tables<Block>>⟧.at sources.old c → w.cleared ≡ cleared_units_by c block.now) }
     ensures others { ⟦<Sources as Tables<Block>>⟧.others sources.new ≡ ⟦<Sources as Tables<Block>>⟧.others sources.old }
     ensures count { ⟦<Sources as Tables<Block>>⟧.count sources.new + steps.old ≤ ⟦<Sources as Tables<Block>>⟧.count sources.old + steps.new }
@@ -141,26 +141,20 @@ fn write_sources<L: StepBook>(
     )
 }
 
-/// The totals of a chain with a block, whose head this is, from the units that the chain cleared and what the block wrote.
-///
-/// `NoMemory` where they are out of their range, as those of no chain are.
-fn totals_with(before: u128, head: &Head, written: Written) -> Result<Totals, NoMemory>
-    ensures issued { IfOk result (λ t. t.issued ≡ head.now.mass) }
-    ensures whole { IfOk result (λ t. head.now.mass ≡ t.unspent + t.cleared) }
-    ensures cleared { IfOk result (λ t. t.cleared ≡ before + written.cleared) }
-    ensures made { IfOk result (λ t. t.made ≡ written.made) }
+/// The totals of a chain with a block, whose head this is, from the units that the chain cleared and what the block wrote, where no
+/// more was cleared than the head says was issued.
+fn totals_with(before: u128, head: &Head, written: Written) -> Totals
+    ensures issued { result.issued ≡ head.now.mass }
+    ensures whole { before + written.cleared ≤ head.now.mass → head.now.mass ≡ result.unspent + result.cleared }
+    ensures cleared { before + written.cleared ≤ head.now.mass → result.cleared ≡ before + written.cleared }
+    ensures made { result.made ≡ written.made }
 {
-    let cleared = sum_of(before, written.cleared)?;
-    match head.mass.checked_sub(cleared) {
-        Some(unspent) => {
-            Ok(Totals {
-                issued: head.mass,
-                unspent,
-                cleared,
-                made: written.made,
-            })
-        }
-        None => Err(NoMemory),
+    let cleared = before.saturating_add(written.cleared);
+    Totals {
+        issued: head.mass,
+        unspent: head.mass.saturating_sub(cleared),
+        cleared,
+        made: written.made,
     }
 }
 
@@ -219,7 +213,7 @@ pub(crate) fn write_all<L: StepBook>(
         out,
         steps,
     )?;
-    let totals = totals_with(before.cleared, head, written)?;
+    let totals = totals_with(before.cleared, head, written);
     write_beside(beside, hashes, totals, steps)?;
     write_facts(facts, block, head, steps)?;
     Ok(())

@@ -1,13 +1,13 @@
-use Rattle.std.proofs.Common.{◌+◌, ◌++◌, length, ◌∷◌, [], map, ap, sym, subst, arith, refl, ◌∙◌}
+use Rattle.std.proofs.Common.{◌≡◌, ℕ, ◌+◌, ◌++◌, length, ◌∷◌, [], map, ap, sym, subst, arith, refl, ◌∙◌}
 use Rattle.std.specs.List.{enumerate_from}
 use Rattle.dubp_chain.specs.Money.{output_source}
 use Rattle.dubp_sindex.specs.Accounts.{accounts}
-use Rattle.dubp_sindex.specs.Rows.{IsNewRow}
+use Rattle.dubp_sindex.specs.Rows.{Entry, IsNewRow}
 use Rattle.dubp_money_steps.specs.Left.{account_in, entry_of, HasTexts}
 use Rattle.dubp_money.specs.Index.{HasRows}
 use Rattle.dubp_money.specs.Making.{outputs_at, with_made}
 use Rattle.dubp_money.proofs.Growing.{grows_none, grows_on}
-use Rattle.dubp_money.proofs.Made.{IsNext, made_next, has_next, nothing_made, output_next, outputs_all}
+use Rattle.dubp_money.proofs.Made.{IsNext, place_next, made_next, has_next, nothing_made, output_next, outputs_all}
 use Rattle.dubp_money.proofs.making.make_outputs.Goals as goal
 
 pub loop-output-init : goal.loop-output-init
@@ -40,8 +40,10 @@ loop-output-preserved g c =
           made_next (HasRows c.loop-output.index) (HasRows c.make_source.new.index) texts texts' c.in_ok-make_source.ensures.texts rows n made i (output_source time hash (i, o)) next are can
           c.loop-output.invariant.has (c.loop-output.invariant.at rows are can has)
           (λ xs rows_are there new.
-          subst (λ k. HasRows c.make_source.new.index (xs ++ entry_of (account_in texts') (n + k, output_source time hash (k, o)) ∷ [])) place
-          (c.in_ok-make_source.ensures.at xs rows_are there (subst (λ k. IsNewRow xs (entry_of (account_in texts') (n + k, output_source time hash (k, o)))) (sym place) new)));
+          let order : c.place_behind.result ≡ n + i = c.place_behind.ensures (omega (arith, place, place_next rows n made i (output_source time hash (i, o)) next can)) ∙ ap (λ k. n + k) place in
+          let E : ℕ → ℕ → Entry = λ m k. entry_of (account_in texts') (m, output_source time hash (k, o)) in
+          let same : E c.place_behind.result c.loop-output.place ≡ E (n + i) i = λ j. E (order j) (place j) in
+          subst (λ e. HasRows c.make_source.new.index (xs ++ e ∷ [])) same (c.in_ok-make_source.ensures.at xs rows_are there (subst (IsNewRow xs) (sym same) new)));
       has = has_next texts texts' c.in_ok-make_source.ensures.texts made i (output_source time hash (i, o)) next c.loop-output.invariant.has c.in_ok-make_source.ensures.has;
       texts = grows_on (accounts c.args.index.now) texts texts' c.loop-output.invariant.texts c.in_ok-make_source.ensures.texts;
       place = omega (arith, place);

@@ -1,4 +1,4 @@
-use Rattle.std.proofs.Common.{◌≡◌, ℕ, ◌+◌, ◌++◌, true, ◌∷◌, [], sym, subst, arith, refl, ◌∙◌}
+use Rattle.std.proofs.Common.{◌≡◌, ℕ, ◌+◌, ◌++◌, true, ◌∷◌, [], ap, sym, subst, arith, refl, ◌∙◌}
 use Rattle.std.specs.List.{list_any}
 use Rattle.dubp_atoms.specs.Same.{same_text}
 use Rattle.dubp_cond.specs.Conditions.{cond_text}
@@ -11,7 +11,7 @@ use Rattle.dubp_money_steps.specs.Left.{account_in, entry_of}
 use Rattle.dubp_money.specs.Index.{HasRows}
 use Rattle.dubp_money.specs.Making.{dividends_to}
 use Rattle.dubp_money.proofs.Growing.{grows_none, grows_on}
-use Rattle.dubp_money.proofs.Made.{IsNext, made_next, has_next, nothing_made, dividend_next}
+use Rattle.dubp_money.proofs.Made.{IsNext, place_next, made_next, has_next, nothing_made, dividend_next}
 use Rattle.dubp_money.proofs.paying.pay_dividends.Goals as goal
 
 pub loop-key-init : goal.loop-key-init
@@ -43,8 +43,9 @@ loop-key-preserved g c =
           made_next (HasRows c.loop-key.index) (HasRows c.make_source.new.index) texts texts' c.in_ok-make_source.ensures.texts rows n made i s next are can
           c.loop-key.invariant.has (c.loop-key.invariant.at rows are can has)
           (λ xs rows_are there new.
-          let E : ℕ → CondTree → Entry = λ j cond. entry_of (account_in texts') (n + j, record { id = D k p.number; amount = p.amount; base = p.base; cond = cond; time = p.time }) in
-          let same : E c.loop-key.place c.in_ok-cond.cond ≡ E i s.cond = λ j. E (place j) (is j) in
+          let order : c.place_behind.result ≡ n + i = c.place_behind.ensures (omega (arith, place, place_next rows n made i s next can)) ∙ ap (λ k. n + k) place in
+          let E : ℕ → CondTree → Entry = λ m cond. entry_of (account_in texts') (m, record { id = D k p.number; amount = p.amount; base = p.base; cond = cond; time = p.time }) in
+          let same : E c.place_behind.result c.in_ok-cond.cond ≡ E (n + i) s.cond = λ j. E (order j) (is j) in
           subst (λ e. HasRows c.make_source.new.index (xs ++ e ∷ [])) same
           (c.in_ok-make_source.ensures.at xs rows_are there (subst (IsNewRow xs) (sym same) new)));
       has =

@@ -19,30 +19,12 @@ loop-i-init g c = record {
   at = λ rows are can has. has;
   has = tt;
   texts = grows_none (accounts c.args.index.now);
-  place = omega arith;
+  place = λ few. omega arith;
   records = sym (append-nil c.args.out.now.items);
   steps = omega arith;
   others = refl;
   count = omega arith;
 }
-
-pub write_transaction-requires-clause-few : goal.write_transaction-requires-clause-few
-write_transaction-requires-clause-few g c =
-    let txs = c.args.block.now.transactions in
-    let i = c.loop-i.i in
-    let tx = c.index-txs-i.result in
-    let within : i < length txs = omega (arith, ap length c.as_slice-txs.ensures) in
-    let is : tx ≡ get_or txs i tx = subst (λ l. tx ≡ get_or l i tx) c.as_slice-txs.ensures c.index-txs-i.is in
-    omega (arith, c.loop-i.invariant.place, c.requires.few, outputs_few c.args.time c.args.block.now.currency txs i tx within is, outputs-length c.args.time (tx_hash c.args.block.now.currency tx) 0 tx.outputs)
-
-pub overflow_add-place : goal.overflow_add-place
-overflow_add-place g c =
-    let txs = c.args.block.now.transactions in
-    let i = c.loop-i.i in
-    let tx = c.index-txs-i.result in
-    let within : i < length txs = omega (arith, ap length c.as_slice-txs.ensures) in
-    let is : tx ≡ get_or txs i tx = subst (λ l. tx ≡ get_or l i tx) c.as_slice-txs.ensures c.index-txs-i.is in
-    omega (arith, c.len.ensures, c.loop-i.invariant.place, c.requires.few, outputs_few c.args.time c.args.block.now.currency txs i tx within is, outputs-length c.args.time (tx_hash c.args.block.now.currency tx) 0 tx.outputs)
 
 pub loop-i-preserved : goal.loop-i-preserved
 loop-i-preserved g c =
@@ -62,21 +44,23 @@ loop-i-preserved g c =
     omega (arith, ap length more, length-append (flat_map (records_of time currency) (take i txs)) (records_of time currency tx), records-length time currency tx) in
     record {
       at = λ rows are can has.
-          written_next time currency (HasRows c.loop-i.index) (HasRows c.write_transaction.new.index) texts texts' c.in_ok-write_transaction.ensures.texts rows n c.loop-i.place txs i tx within is c.loop-i.invariant.place
+          written_next time currency (HasRows c.loop-i.index) (HasRows c.write_transaction.new.index) texts texts' c.in_ok-write_transaction.ensures.texts rows n c.loop-i.place txs i tx within is
+          (c.loop-i.invariant.place (omega (arith, can.few, outputs_few time currency txs i tx within is)))
           are can c.loop-i.invariant.has (c.loop-i.invariant.at rows are can has)
           (subst (λ h. (xs : List Entry) → AreRows xs → CanFollow (without_inputs tx.inputs xs) c.loop-i.place (outputs_at time h tx) → HasRows c.loop-i.index xs → HasRows c.write_transaction.new.index (with_made texts' (without_inputs tx.inputs xs) c.loop-i.place (outputs_at time h tx)))
           hash c.in_ok-write_transaction.ensures.at);
       has = has_written texts texts' c.in_ok-write_transaction.ensures.texts time currency txs i tx within is c.loop-i.invariant.has (subst (λ h. HasTexts texts' (outputs_at time h tx)) hash c.in_ok-write_transaction.ensures.has);
       texts = grows_on (accounts c.args.index.now) texts texts' c.loop-i.invariant.texts c.in_ok-write_transaction.ensures.texts;
-      place =
+      place = λ few.
+          let counted : length (all_outputs time currency (take (i + 1) txs)) ≡ length (all_outputs time currency (take i txs)) + length tx.outputs =
           omega (
             arith,
-            c.len.ensures,
-            c.loop-i.invariant.place,
             ap length (flat_next (outputs_made time currency) txs i tx within is),
             length-append (all_outputs time currency (take i txs)) (outputs_made time currency tx),
             outputs-length time (tx_hash currency tx) 0 tx.outputs,
-          );
+          ) in
+          let was = c.loop-i.invariant.place (omega (arith, few, counted)) in
+          omega (arith, few, counted, was, c.len.ensures, c.place_behind-place.ensures (omega (arith, few, counted, was, c.len.ensures)));
       records =
           c.in_ok-write_transaction.ensures.records
           ∙ ap (λ h. c.loop-i.out.items ++ records_at time h tx) hash

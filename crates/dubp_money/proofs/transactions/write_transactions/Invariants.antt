@@ -1,4 +1,4 @@
-use Rattle.std.proofs.Common.{◌≡◌, ◌+◌, ◌*◌, ◌≤◌, ◌++◌, List, take, length}
+use Rattle.std.proofs.Common.{◌≡◌, ◌+◌, ◌*◌, ◌^◌, ◌≤◌, ◌++◌, List, take, length}
 use Rattle.std.specs.List.{flat_map}
 use Rattle.dubp_sindex.specs.Accounts.{accounts}
 use Rattle.dubp_sindex.specs.Rows.{Entry, AreRows}
@@ -15,7 +15,7 @@ invariant-loop-i g l = record {
   at : (rows : List Entry) → AreRows rows → CanFollow rows l.fn.order (all_outputs l.fn.time l.fn.block.currency l.fn.block.transactions) → HasRows l.fn.index rows → HasRows l.index (all_written (accounts l.index) l.fn.time l.fn.block.currency l.fn.order rows (take l.i l.fn.block.transactions)).1;
   has : HasTexts (accounts l.index) (all_outputs l.fn.time l.fn.block.currency (take l.i l.fn.block.transactions));
   texts : Grows (accounts l.fn.index) (accounts l.index);
-  place : l.place ≡ l.fn.order + length (all_outputs l.fn.time l.fn.block.currency (take l.i l.fn.block.transactions));
+  place : l.fn.order + length (all_outputs l.fn.time l.fn.block.currency (take l.i l.fn.block.transactions)) ≤ 2 ^ 63 → l.place ≡ l.fn.order + length (all_outputs l.fn.time l.fn.block.currency (take l.i l.fn.block.transactions));
   records : l.out.items ≡ l.fn.out.items ++ flat_map (records_of l.fn.time l.fn.block.currency) (take l.i l.fn.block.transactions);
   steps : l.steps ≤ l.fn.steps + 5 * length (flat_map (records_of l.fn.time l.fn.block.currency) (take l.i l.fn.block.transactions));
   others : (tables.ghosts).others l.index ≡ (tables.ghosts).others l.fn.index;

@@ -11,8 +11,8 @@ returns-clause-at g c = λ chain applied are was at beside facts.
     let written = c.in_ok-written.written in
     let follows : Follows chain b c.args.head.now c.args.members.now c.args.before.made = record { applied = applied; pays = are; behind = ap (λ (t : Totals). t.made) was } in
     let totals =
-    totals_are chain b c.args.head.now applied c.in_ok-totals.totals c.args.before written.cleared written.made was (c.in_ok-written.ensures.cleared chain follows at) (c.in_ok-written.ensures.made chain follows)
-    c.in_ok-totals.ensures.issued c.in_ok-totals.ensures.whole c.in_ok-totals.ensures.cleared c.in_ok-totals.ensures.made in (
+    totals_are chain b c.args.head.now applied c.totals_with-totals.result c.args.before written.cleared written.made was (c.in_ok-written.ensures.cleared chain follows at) (c.in_ok-written.ensures.made chain follows at)
+    c.totals_with-totals.ensures.issued c.totals_with-totals.ensures.whole c.totals_with-totals.ensures.cleared c.totals_with-totals.ensures.made in (
       c.in_ok-written.ensures.at chain follows at,
       c.in_ok-write_beside.ensures.at chain b c.requires.hashes totals beside,
       c.in_ok-write_facts.ensures.at chain facts (record { block = applied.block; number = applied.sound.0 G51 refl; head = applied.head }),
