@@ -6,7 +6,7 @@ ghost use Rattle.dubp_atoms.specs.Same.{same_text};
 ghost use Rattle.dubp_atoms.specs.Walks.{received_of, stock_of};
 ghost use Rattle.dubp_wot.specs.Order.{IsInOrder, IsNextIssuer, is_above, less};
 
-use dubp_atoms::{Key, NoMemory};
+use dubp_atoms::{Key, NoMemory, Secret};
 use dubp_wot::{Web, d_sen, reaches, reaches_among, sentries};
 use std::alloc::{AllocError, Global};
 use std::mem::forget;
@@ -45,6 +45,10 @@ impl Web for Listed {
 
     fn received(&self, key: &Key) -> u64 {
         count_issuers(&self.pairs, key) as u64
+    }
+
+    fn secret(&self) -> Secret {
+        Secret::known()
     }
 }
 

@@ -6,7 +6,7 @@ ghost use Rattle.dubp_wot.specs.Search.{Grows, Closed, In};
 
 use crate::sentry::sentries;
 use crate::web::Web;
-use dubp_atoms::{Key, NoMemory};
+use dubp_atoms::{Key, NoMemory, Secret};
 use indexmap::IndexSet;
 use std::alloc::Global;
 
@@ -53,10 +53,10 @@ fn find_reaching<W: Web>(
     web: &W,
     target: Key,
     steps_max: u64,
-) -> Result<IndexSet<Key>, NoMemory>
+) -> Result<IndexSet<Key, Secret>, NoMemory>
     ensures { IfOk result (λ s. (members : List Text) (pairs : List (Text × Text)) → W.shows web.now members pairs → (a : Text) → IsTrue (contains same_text s a) ↔ Reaches members pairs steps_max a target) }
 {
-    let mut found = IndexSet::new(alloc);
+    let mut found = IndexSet::with_hasher(alloc, web.secret());
     if !web.is_member(&target) {
         return Ok(found);
     }
@@ -74,7 +74,11 @@ fn find_reaching<W: Web>(
 }
 
 /// Adds the next level: the members who certify a key from `start` on.
-fn add_level<W: Web>(web: &W, start: usize, found: &mut IndexSet<Key>) -> Result<(), NoMemory>
+fn add_level<W: Web>(
+    web: &W,
+    start: usize,
+    found: &mut IndexSet<Key, Secret>,
+) -> Result<(), NoMemory>
     ensures grows { OnOk result ((members : List Text) (pairs : List (Text × Text)) → W.shows web.now members pairs → Grows members pairs (In found.old.keys) found.old.keys found.new.keys) }
     ensures closed { OnOk result ((members : List Text) (pairs : List (Text × Text)) → W.shows web.now members pairs → Closed members pairs start found.old.keys → Closed members pairs (length found.old.keys) found.new.keys) }
 {
@@ -86,7 +90,7 @@ fn add_level<W: Web>(web: &W, start: usize, found: &mut IndexSet<Key>) -> Result
 }
 
 /// Adds the members who certify `to`.
-fn add_issuers<W: Web>(web: &W, to: Key, found: &mut IndexSet<Key>) -> Result<(), NoMemory>
+fn add_issuers<W: Web>(web: &W, to: Key, found: &mut IndexSet<Key, Secret>) -> Result<(), NoMemory>
     ensures longer { OnOk result (length found.old.keys ≤ length found.new.keys) }
     ensures grows { OnOk result ((members : List Text) (pairs : List (Text × Text)) → W.shows web.now members pairs → Grows members pairs (λ b. b ≡ to) found.old.keys found.new.keys) }
     ensures all { OnOk result ((members : List Text) (pairs : List (Text × Text)) → W.shows web.now members pairs → (a : Text) → Contains members a → Contains pairs (a, to) → In found.new.keys a) }
@@ -106,7 +110,7 @@ fn add_issuers<W: Web>(web: &W, to: Key, found: &mut IndexSet<Key>) -> Result<()
 }
 
 /// Adds the key, unless the set has it.
-fn insert(found: &mut IndexSet<Key>, key: Key) -> Result<(), NoMemory>
+fn insert(found: &mut IndexSet<Key, Secret>, key: Key) -> Result<(), NoMemory>
     ensures { OnOk result (found.new.keys ≡ insert_key same_text found.old.keys key) }
 {
     found.insert(key).map_err(|_| NoMemory)?;
@@ -121,7 +125,7 @@ fn count_others(keys: &[Key], target: Key) -> usize
 }
 
 /// How many of the keys other than the target are in the set.
-fn count_found(keys: &[Key], target: Key, found: &IndexSet<Key>) -> usize
+fn count_found(keys: &[Key], target: Key, found: &IndexSet<Key, Secret>) -> usize
     ensures { result ≡ count_by (contains same_text found.now) (others keys.now target) }
 {
     keys.iter()

@@ -3,7 +3,7 @@ ghost use Rattle.dubp_atoms.specs.Same.{Text};
 ghost use Rattle.dubp_atoms.specs.Walks.{received_of, stock_of};
 ghost use Rattle.dubp_wot.specs.Order.{IsInOrder, IsNextMember, IsNextIssuer};
 
-use dubp_atoms::Key;
+use dubp_atoms::{Key, Secret};
 
 /// The members of a chain and its live certifications. No call takes memory.
 ///
@@ -39,4 +39,7 @@ pub trait Web {
     /// By how many keys this key is certified.
     fn received(&self, key: &Key) -> u64
         ensures { (members : List Text) (pairs : List (Text × Text)) → shows self.now members pairs → result ≡ received_of pairs key.now };
+
+    /// What keys are hashed by in sets that live as long as a question.
+    fn secret(&self) -> Secret;
 }

@@ -1,6 +1,7 @@
-use Rattle.std.proofs.Common.{◌≤◌, List, length, arith, Some, BuildHasherDefault, FoldHasher, true≢false, sym, subst, ◌∙◌}
+use Rattle.std.proofs.Common.{◌≤◌, List, length, arith, Some, true≢false, sym, subst, ◌∙◌}
 use Rattle.indexmap.specs.IndexSet.{IndexSet}
 use Rattle.dubp_atoms.specs.Same.{Text, same_text}
+use Rattle.dubp_atoms.specs.declared.secret.Secret.{Secret}
 use Rattle.dubp_wot.proofs.Issuers.{longer-insert, Seen, Seen-put, Seen-skip}
 use Rattle.dubp_wot.proofs.reaching.add_issuers.Goals as goal
 use Rattle.dubp_wot.proofs.reaching.add_issuers.Goals.{then-is_member+in_ok-insert, else-is_member}
@@ -17,15 +18,15 @@ issuers-preserved g c =
       longer = elim c.if-is_member.branch [
         | then-is_member+in_ok-insert w ↦
             let more = longer-insert same_text keys from in
-            subst (λ (s : IndexSet Text (BuildHasherDefault FoldHasher)). length old ≤ length s.keys) (sym w.found-is)
+            subst (λ (s : IndexSet Text Secret). length old ≤ length s.keys) (sym w.found-is)
             (subst (λ (ks : List Text). length old ≤ length ks) (sym w.in_ok-insert.ensures) (omega (arith, before.longer)))
         | else-is_member w ↦
-            subst (λ (s : IndexSet Text (BuildHasherDefault FoldHasher)). length old ≤ length s.keys) (sym w.found-is) before.longer
+            subst (λ (s : IndexSet Text Secret). length old ≤ length s.keys) (sym w.found-is) before.longer
       ];
       seen = λ members pairs shown.
           let next = c.in-Some.ensures members pairs shown in
           let seen = before.seen members pairs shown in
-          let goal_at = λ (s : IndexSet Text (BuildHasherDefault FoldHasher)). Seen members pairs to (Some from) old s.keys in
+          let goal_at = λ (s : IndexSet Text Secret). Seen members pairs to (Some from) old s.keys in
           elim c.if-is_member.branch [
             | then-is_member+in_ok-insert w ↦
                 subst goal_at (sym w.found-is)

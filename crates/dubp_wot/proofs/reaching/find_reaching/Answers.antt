@@ -6,13 +6,13 @@ use Rattle.dubp_wot.proofs.reaching.find_reaching.Goals as goal
 
 pub returns-then-not-is_member : goal.returns-then-not-is_member
 returns-then-not-is_member g c = λ members pairs shown.
-    nobody members pairs c.args.target same_text c.args.steps_max c.new-found.result.keys c.new-found.ensures.empty
+    nobody members pairs c.args.target same_text c.args.steps_max c.with_hasher-found.result.keys c.with_hasher-found.ensures.empty
     (λ h. true≢false (sym ((c.is_member.ensures members pairs shown).1 h) ∙ c.if-not-is_member.true))
 
 pub loop-level-init : goal.loop-level-init
 loop-level-init g c =
     let target = c.args.target in
-    let e : c.insert.new.found.keys ≡ target ∷ [] = c.in_ok-insert.ensures ∙ ap (λ ks. insert_key same_text ks target) c.new-found.ensures.empty in
+    let e : c.insert.new.found.keys ≡ target ∷ [] = c.in_ok-insert.ensures ∙ ap (λ ks. insert_key same_text ks target) c.with_hasher-found.ensures.empty in
     record {
       closed = λ members pairs shown. Closed-none members pairs c.insert.new.found.keys;
       level = λ members pairs shown.
