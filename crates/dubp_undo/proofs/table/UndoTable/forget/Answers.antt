@@ -7,18 +7,18 @@ use Rattle.dubp_undo.proofs.Covering.{all_placed}
 use Rattle.dubp_undo.proofs.Forgetting.{swept_kept, swept_live, swept_states, swept_placed, no_states}
 use Rattle.dubp_undo.proofs.table.UndoTable.forget.Given.{Over}
 use Rattle.dubp_undo.proofs.table.UndoTable.forget.Goals as goal
-use Rattle.dubp_undo.proofs.table.UndoTable.forget.Goals.{After-self-1}
+use Rattle.dubp_undo.proofs.table.UndoTable.forget.Goals.{After-drop-self-inside}
 
-gives : (g : Over) (c : After-self-1 g) → let t = c.self.inside in GivesUp g.F.Finder.cmp t.uses.items t.slots t.keys.items (g.F.Finder.slot_of t.finder) c.give_up_idle.new.keys.items (g.F.Finder.slot_of c.give_up_idle.new.finder)
+gives : (g : Over) (c : After-drop-self-inside g) → let t = c.self.inside in GivesUp g.F.Finder.cmp t.uses.items t.slots t.keys.items (g.F.Finder.slot_of t.finder) c.give_up_idle.new.keys.items (g.F.Finder.slot_of c.give_up_idle.new.finder)
 gives g c = rw (← c.deref.ensures.value) c.give_up_idle.ensures
 
-none_ahead : (g : Over) (c : After-self-1 g) → length c.self.inside.redo_marks.items ≡ 0
+none_ahead : (g : Over) (c : After-drop-self-inside g) → length c.self.inside.redo_marks.items ≡ 0
 none_ahead g c =
     let none = eqb-true (deque_len c.self.inside.redo_marks) 0 (sym c.if-is_empty.ensures) in
     omega (arith, none, c.self.inside.redo_marks.ok.0)
 
 pub invariant_of-self : goal.invariant_of-self
-invariant_of-self g c = rw c.of-self-inside.ensures (swept_kept c.self.invariant (gives g c) (none_ahead g c))
+invariant_of-self g c = rw c.of.ensures (swept_kept c.self.invariant (gives g c) (none_ahead g c))
 
 pub returns-then-is_empty-clause-past : goal.returns-then-is_empty-clause-past
 returns-then-is_empty-clause-past g c = swept_states c.self.invariant (gives g c) ∙ ap (λ v. v.past) c.self.view_is
@@ -29,7 +29,7 @@ returns-then-is_empty-clause-now g c = swept_live c.self.invariant (gives g c) �
 pub returns-then-is_empty-clause-ahead : goal.returns-then-is_empty-clause-ahead
 returns-then-is_empty-clause-ahead g c =
     let t = c.self.inside in
-    ap reverse (no_states t.keys.items c.give_up_idle.new.keys.items t.root.value c.of-self-inside.result.value t.redo.items t.redo_marks.items (none_ahead g c)) ∙ ap (λ v. v.ahead) c.self.view_is
+    ap reverse (no_states t.keys.items c.give_up_idle.new.keys.items t.root.value c.of.result.value t.redo.items t.redo_marks.items (none_ahead g c)) ∙ ap (λ v. v.ahead) c.self.view_is
 
 pub returns-then-is_empty-clause-placed : goal.returns-then-is_empty-clause-placed
 returns-then-is_empty-clause-placed g c =
