@@ -21,6 +21,8 @@ type RegistryTables = Both<Block, Indexes, Others>;
 #[derive(Drop)]
 pub struct Registry {
     pub tables: RegistryTables,
+    /// What its tables hash keys by.
+    secret: Secret,
 }
 
 impl Tables<Block> for Registry {
@@ -105,7 +107,13 @@ impl Registry {
     {
         Registry {
             tables: Both::new(Indexes::new(alloc, secret), Others::new(alloc)),
+            secret,
         }
+    }
+
+    /// What its tables hash keys by, for sets that live as long as a block.
+    pub fn secret(&self) -> Secret {
+        self.secret
     }
 
     /// The index of identities.
