@@ -18,7 +18,7 @@ ghost use Rattle.dubp_people_after.specs.Names.{is_repeated, name_of, name_of_li
 
 use crate::keys::{Keys, keys_of};
 use crate::near::{put_lines, put_rows};
-use dubp_atoms::{Hash, Key, NoMemory, Sig, Stamp, Uid};
+use dubp_atoms::{Hash, Key, NoMemory, Secret, Sig, Stamp, Uid};
 use dubp_block::{Block, CertLine, MemberLine};
 use dubp_params::Params;
 use dubp_registry::{BlockTime, Next, Registry};
@@ -66,9 +66,12 @@ pub trait WithBlock {
     /// Keys among which are all from whom the key has a live certification, and all to whom it has issued one.
     ///
     /// It looks at the live certifications of the key and at the lines of the block. `NoMemory` where there is no memory for the set.
-    fn near(&self, alloc: Global, key: Key) -> Result<IndexSet<Key>, NoMemory>
+    fn near(&self, alloc: Global, key: Key) -> Result<IndexSet<Key, Secret>, NoMemory>
         ensures issuers { IfOk result (λ near. (c : Chain) (b : BlockValue) → after self.now c b → HasIssuers c b key (contains same_text near)) }
         ensures receivers { IfOk result (λ near. (c : Chain) (b : BlockValue) → after self.now c b → HasReceivers c b key (contains same_text near)) };
+
+    /// What keys are hashed by in sets that live as long as a block.
+    fn secret(&self) -> Secret;
 }
 
 /// The people of a chain with a block that stands to be judged on it.
@@ -151,12 +154,16 @@ impl<'a> WithBlock for After<'a> {
         self.next.params
     }
 
-    fn near(&self, alloc: Global, key: Key) -> Result<IndexSet<Key>, NoMemory> {
+    fn near(&self, alloc: Global, key: Key) -> Result<IndexSet<Key, Secret>, NoMemory> {
         let rows = self.registry.cindex().rows_of(alloc, key)?;
-        let mut near = IndexSet::new(alloc);
+        let mut near = IndexSet::with_hasher(alloc, self.registry.secret());
         put_rows(&mut near, rows.as_slice())?;
         put_lines(&mut near, key, self.block.certifications.as_slice())?;
         Ok(near)
+    }
+
+    fn secret(&self) -> Secret {
+        self.registry.secret()
     }
 }
 
@@ -172,7 +179,7 @@ impl<'a> After<'a> {
     ) -> Result<After<'a>, NoMemory>
         ensures { IfOk result (λ a. (c : Chain) → ⟦<Registry as Tables<Block>>⟧.at registry.now c → IsAsked c block.now next.now → ⟦<After<'a> as WithBlock>⟧.after a c block.now) }
     {
-        let keys = keys_of(alloc, block)?;
+        let keys = keys_of(alloc, registry.secret(), block)?;
         Ok(After {
             registry,
             block,

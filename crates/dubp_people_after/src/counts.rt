@@ -8,7 +8,7 @@ ghost use Rattle.dubp_chain.specs.Live.{live, received, stock};
 ghost use Rattle.dubp_people_after.specs.Near.{is_issuer, is_near_issuer, is_receiver};
 
 use crate::after::WithBlock;
-use dubp_atoms::{Key, NoMemory};
+use dubp_atoms::{Key, NoMemory, Secret};
 use dubp_sets::insert;
 use indexmap::IndexSet;
 use std::alloc::Global;
@@ -36,11 +36,15 @@ pub fn stock<A: WithBlock>(alloc: Global, after: &A, key: Key) -> Result<u64, No
 /// The keys from which this key has a live certification on the chain with the block.
 ///
 /// `NoMemory` where there is no memory for the keys that it has certifications with.
-pub fn issuers<A: WithBlock>(alloc: Global, after: &A, key: Key) -> Result<IndexSet<Key>, NoMemory>
+pub fn issuers<A: WithBlock>(
+    alloc: Global,
+    after: &A,
+    key: Key,
+) -> Result<IndexSet<Key, Secret>, NoMemory>
     ensures { IfOk result (λ found. (c : Chain) (b : BlockValue) → A.after after.now c b → (a : Text) → contains same_text found a ≡ live (b ∷ c) a key) }
 {
     let near = after.near(alloc, key)?;
-    let mut found = IndexSet::new(alloc);
+    let mut found = IndexSet::with_hasher(alloc, after.secret());
     put_issuers(after, &near, &key, &mut found)?;
     Ok(found)
 }
@@ -48,9 +52,9 @@ pub fn issuers<A: WithBlock>(alloc: Global, after: &A, key: Key) -> Result<Index
 /// Puts those of the keys into the set from which this key has a live certification.
 fn put_issuers<A: WithBlock>(
     after: &A,
-    near: &IndexSet<Key>,
+    near: &IndexSet<Key, Secret>,
     key: &Key,
-    found: &mut IndexSet<Key>,
+    found: &mut IndexSet<Key, Secret>,
 ) -> Result<(), NoMemory>
     ensures { OnOk result ((c : Chain) (b : BlockValue) → A.after after.now c b → (a : Text) → contains same_text found.new a ≡ (contains same_text found.old a || list_any (is_near_issuer c b key.now a) near.now.keys)) }
 {
@@ -64,7 +68,7 @@ fn put_issuers<A: WithBlock>(
 }
 
 /// From how many of the keys this key has a live certification.
-fn count_issuers<A: WithBlock>(after: &A, near: &IndexSet<Key>, key: &Key) -> u64
+fn count_issuers<A: WithBlock>(after: &A, near: &IndexSet<Key, Secret>, key: &Key) -> u64
     ensures once { IsDistinct same_text near.now.keys }
     ensures count { (c : Chain) (b : BlockValue) → A.after after.now c b → result ≡ count_by (is_issuer c b key.now) near.now.keys }
 {
@@ -78,7 +82,7 @@ fn count_issuers<A: WithBlock>(after: &A, near: &IndexSet<Key>, key: &Key) -> u6
 }
 
 /// To how many of the keys this key has a live certification.
-fn count_receivers<A: WithBlock>(after: &A, near: &IndexSet<Key>, key: &Key) -> u64
+fn count_receivers<A: WithBlock>(after: &A, near: &IndexSet<Key, Secret>, key: &Key) -> u64
     ensures once { IsDistinct same_text near.now.keys }
     ensures count { (c : Chain) (b : BlockValue) → A.after after.now c b → result ≡ count_by (is_receiver c b key.now) near.now.keys }
 {

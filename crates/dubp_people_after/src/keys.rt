@@ -8,7 +8,7 @@ ghost use Rattle.dubp_chain.specs.Members.{is_of};
 ghost use Rattle.dubp_people_after.specs.Keys.{AreKeysOf, same_pair};
 ghost use Rattle.dubp_registry.specs.OfSteps.{of_pair};
 
-use dubp_atoms::{Key, NoMemory};
+use dubp_atoms::{Key, NoMemory, Secret};
 use dubp_block::{Block, CertLine, IdentityLine, MemberLine};
 use dubp_sets::{insert, set_of};
 use indexmap::{IndexMap, IndexSet};
@@ -18,14 +18,14 @@ use std::alloc::Global;
 #[derive(Drop)]
 pub(crate) struct Keys {
     /// Of Joiners.
-    pub(crate) joining: IndexSet<Key>,
+    pub(crate) joining: IndexSet<Key, Secret>,
     /// Of Joiners and Actives.
-    pub(crate) coming: IndexSet<Key>,
+    pub(crate) coming: IndexSet<Key, Secret>,
     /// Of Leavers.
-    pub(crate) leaving: IndexSet<Key>,
-    pub(crate) excluded: IndexSet<Key>,
-    pub(crate) identities: IndexMap<Key, IdentityLine>,
-    pub(crate) certifications: IndexMap<(Key, Key), CertLine>,
+    pub(crate) leaving: IndexSet<Key, Secret>,
+    pub(crate) excluded: IndexSet<Key, Secret>,
+    pub(crate) identities: IndexMap<Key, IdentityLine, Secret>,
+    pub(crate) certifications: IndexMap<(Key, Key), CertLine, Secret>,
 }
 
 impl Keys {
@@ -50,17 +50,17 @@ impl Keys {
     }
 }
 
-/// The keys of the block.
-pub(crate) fn keys_of(alloc: Global, block: &Block) -> Result<Keys, NoMemory>
+/// The keys of the block, which are hashed by the secret.
+pub(crate) fn keys_of(alloc: Global, secret: Secret, block: &Block) -> Result<Keys, NoMemory>
     ensures { IfOk result (λ keys. AreKeysOf block.now (contains same_text keys.joining) (contains same_text keys.coming) (contains same_text keys.leaving) (contains same_text keys.excluded) (get same_text keys.identities) (get same_pair keys.certifications)) }
 {
-    let joining = key_set(alloc, block.joiners.as_slice())?;
-    let mut coming = key_set(alloc, block.joiners.as_slice())?;
+    let joining = key_set(alloc, secret, block.joiners.as_slice())?;
+    let mut coming = key_set(alloc, secret, block.joiners.as_slice())?;
     put_keys(&mut coming, block.actives.as_slice())?;
-    let leaving = key_set(alloc, block.leavers.as_slice())?;
-    let excluded = set_of(alloc, block.excluded.as_slice())?;
-    let identities = identity_map(alloc, block.identities.as_slice())?;
-    let certifications = certification_map(alloc, block.certifications.as_slice())?;
+    let leaving = key_set(alloc, secret, block.leavers.as_slice())?;
+    let excluded = set_of(alloc, secret, block.excluded.as_slice())?;
+    let identities = identity_map(alloc, secret, block.identities.as_slice())?;
+    let certifications = certification_map(alloc, secret, block.certifications.as_slice())?;
     Ok(Keys {
         joining,
         coming,
@@ -72,16 +72,20 @@ pub(crate) fn keys_of(alloc: Global, block: &Block) -> Result<Keys, NoMemory>
 }
 
 /// The keys of the lines.
-fn key_set(alloc: Global, lines: &[MemberLine]) -> Result<IndexSet<Key>, NoMemory>
+fn key_set(
+    alloc: Global,
+    secret: Secret,
+    lines: &[MemberLine],
+) -> Result<IndexSet<Key, Secret>, NoMemory>
     ensures { IfOk result (λ set. (k : Text) → contains same_text set k ≡ list_any (is_of k) lines.now) }
 {
-    let mut set = IndexSet::new(alloc);
+    let mut set = IndexSet::with_hasher(alloc, secret);
     put_keys(&mut set, lines)?;
     Ok(set)
 }
 
 /// Puts the keys of the lines into the set.
-fn put_keys(set: &mut IndexSet<Key>, lines: &[MemberLine]) -> Result<(), NoMemory>
+fn put_keys(set: &mut IndexSet<Key, Secret>, lines: &[MemberLine]) -> Result<(), NoMemory>
     ensures { OnOk result ((k : Text) → contains same_text set.new k ≡ (contains same_text set.old k || list_any (is_of k) lines.now)) }
 {
     for line in lines {
@@ -93,11 +97,12 @@ fn put_keys(set: &mut IndexSet<Key>, lines: &[MemberLine]) -> Result<(), NoMemor
 /// The lines by their keys. Where a key stands twice its last line counts.
 fn identity_map(
     alloc: Global,
+    secret: Secret,
     lines: &[IdentityLine],
-) -> Result<IndexMap<Key, IdentityLine>, NoMemory>
+) -> Result<IndexMap<Key, IdentityLine, Secret>, NoMemory>
     ensures { IfOk result (λ map. (k : Text) → get same_text map k ≡ last_of (λ line. same_text k line.key) lines.now) }
 {
-    let mut map = IndexMap::new(alloc);
+    let mut map = IndexMap::with_hasher(alloc, secret);
     for line in lines {
         insert_line(&mut map, *line)?;
     }
@@ -105,7 +110,10 @@ fn identity_map(
 }
 
 /// Puts the line under its key, in the place of one that is there.
-fn insert_line(map: &mut IndexMap<Key, IdentityLine>, line: IdentityLine) -> Result<(), NoMemory>
+fn insert_line(
+    map: &mut IndexMap<Key, IdentityLine, Secret>,
+    line: IdentityLine,
+) -> Result<(), NoMemory>
     ensures { OnOk result ((k : Text) → get same_text map.new k ≡ cond (same_text line.key k) (Some line) (get same_text map.old k)) }
 {
     map.insert(line.key, line).map_err(|_| NoMemory)?;
@@ -115,11 +123,12 @@ fn insert_line(map: &mut IndexMap<Key, IdentityLine>, line: IdentityLine) -> Res
 /// The lines by their pairs. Where a pair stands twice its last line counts.
 fn certification_map(
     alloc: Global,
+    secret: Secret,
     lines: &[CertLine],
-) -> Result<IndexMap<(Key, Key), CertLine>, NoMemory>
+) -> Result<IndexMap<(Key, Key), CertLine, Secret>, NoMemory>
     ensures { IfOk result (λ map. (x y : Text) → get same_pair map (x, y) ≡ last_of (of_pair x y) lines.now) }
 {
-    let mut map = IndexMap::new(alloc);
+    let mut map = IndexMap::with_hasher(alloc, secret);
     for line in lines {
         insert_certification(&mut map, *line)?;
     }
@@ -128,7 +137,7 @@ fn certification_map(
 
 /// Puts the line under its pair, in the place of one that is there.
 fn insert_certification(
-    map: &mut IndexMap<(Key, Key), CertLine>,
+    map: &mut IndexMap<(Key, Key), CertLine, Secret>,
     line: CertLine,
 ) -> Result<(), NoMemory>
     ensures { OnOk result ((p : Text × Text) → get same_pair map.new p ≡ cond (same_pair (line.from, line.to) p) (Some line) (get same_pair map.old p)) }

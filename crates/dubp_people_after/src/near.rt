@@ -4,7 +4,7 @@ ghost use Rattle.indexmap.specs.IndexSet.{contains};
 ghost use Rattle.dubp_atoms.specs.Same.{Text, same_text};
 ghost use Rattle.dubp_people_after.specs.Near.{is_end, is_end_near, is_end_of};
 
-use dubp_atoms::{Key, NoMemory};
+use dubp_atoms::{Key, NoMemory, Secret};
 use dubp_block::CertLine;
 use dubp_cindex::CertRow;
 use dubp_sets::insert;
@@ -12,7 +12,7 @@ use indexmap::IndexSet;
 
 /// Puts both ends of each row into the set.
 pub(crate) fn put_rows(
-    set: &mut IndexSet<Key>,
+    set: &mut IndexSet<Key, Secret>,
     rows: &[(Key, Key, CertRow)],
 ) -> Result<(), NoMemory>
     ensures { OnOk result ((k : Text) → contains same_text set.new k ≡ (contains same_text set.old k || list_any (is_end_of k) rows.now)) }
@@ -25,7 +25,7 @@ pub(crate) fn put_rows(
 
 /// Puts both ends of each line that the key is an end of into the set.
 pub(crate) fn put_lines(
-    set: &mut IndexSet<Key>,
+    set: &mut IndexSet<Key, Secret>,
     key: Key,
     lines: &[CertLine],
 ) -> Result<(), NoMemory>
@@ -37,7 +37,7 @@ pub(crate) fn put_lines(
     Ok(())
 }
 
-fn put_line(set: &mut IndexSet<Key>, key: &Key, line: &CertLine) -> Result<(), NoMemory>
+fn put_line(set: &mut IndexSet<Key, Secret>, key: &Key, line: &CertLine) -> Result<(), NoMemory>
     ensures { OnOk result ((k : Text) → contains same_text set.new k ≡ (contains same_text set.old k || is_end_near key.now k line.now)) }
 {
     if line.from == *key || line.to == *key {
@@ -46,7 +46,7 @@ fn put_line(set: &mut IndexSet<Key>, key: &Key, line: &CertLine) -> Result<(), N
     Ok(())
 }
 
-fn insert_both(set: &mut IndexSet<Key>, from: Key, to: Key) -> Result<(), NoMemory>
+fn insert_both(set: &mut IndexSet<Key, Secret>, from: Key, to: Key) -> Result<(), NoMemory>
     ensures { OnOk result ((k : Text) → contains same_text set.new k ≡ (contains same_text set.old k || is_end from to k)) }
 {
     insert(set, from)?;

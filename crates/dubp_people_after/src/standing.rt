@@ -4,7 +4,7 @@ ghost use Rattle.dubp_chain.specs.Members.{members};
 ghost use Rattle.dubp_chain.specs.Live.{live_pairs};
 ghost use Rattle.dubp_registry.specs.OfValidity.{IsSound};
 
-use dubp_atoms::Key;
+use dubp_atoms::{Key, Secret};
 use dubp_block::Block;
 use dubp_registry::Registry;
 use dubp_undo::Tables;
@@ -41,5 +41,9 @@ impl<'a> Web for Standing<'a> {
 
     fn received(&self, key: &Key) -> u64 {
         self.registry.received(*key)
+    }
+
+    fn secret(&self) -> Secret {
+        self.registry.secret()
     }
 }

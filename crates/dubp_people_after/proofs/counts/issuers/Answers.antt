@@ -9,5 +9,5 @@ pub returns : goal.returns
 returns g c = λ chain b shown a.
     let near = c.in_ok-near.near.keys in
     c.in_ok-put_issuers.ensures chain b shown a
-    ∙ ap (λ ks. list_any (same_text a) ks || list_any (is_near_issuer chain b c.args.key a) near) c.new-found.ensures.empty
+    ∙ ap (λ ks. list_any (same_text a) ks || list_any (is_near_issuer chain b c.args.key a) near) c.with_hasher-found.ensures.empty
     ∙ issuers_found chain b c.args.key near (c.in_ok-near.ensures.issuers chain b shown) a

@@ -9,12 +9,12 @@ use Rattle.dubp_people_after.proofs.after.AfterWithBlock.near.Goals as goal
 
 pub returns-clause-issuers : goal.returns-clause-issuers
 returns-clause-issuers c = λ chain b shown.
-    issuers_near chain b c.args.key c.as_slice.result.now c.as_slice-2.result.now (contains same_text c.new-near.result) (contains same_text c.put_rows.new.set) (contains same_text c.put_lines.new.set)
+    issuers_near chain b c.args.key c.as_slice.result.now c.as_slice-2.result.now (contains same_text c.with_hasher-near.result) (contains same_text c.put_rows.new.set) (contains same_text c.put_lines.new.set)
     (c.as_slice.ensures.value ∙ c.in_ok-rows.ensures (states certifications_left chain) (c.cindex.ensures chain shown.0)) (c.as_slice-2.ensures ∙ ap (λ (x : Block). x.certifications) shown.1.2)
     c.in_ok-put_rows.ensures c.in_ok-put_lines.ensures
 
 pub returns-clause-receivers : goal.returns-clause-receivers
 returns-clause-receivers c = λ chain b shown.
-    receivers_near chain b c.args.key c.as_slice.result.now c.as_slice-2.result.now (contains same_text c.new-near.result) (contains same_text c.put_rows.new.set) (contains same_text c.put_lines.new.set)
+    receivers_near chain b c.args.key c.as_slice.result.now c.as_slice-2.result.now (contains same_text c.with_hasher-near.result) (contains same_text c.put_rows.new.set) (contains same_text c.put_lines.new.set)
     (c.as_slice.ensures.value ∙ c.in_ok-rows.ensures (states certifications_left chain) (c.cindex.ensures chain shown.0)) (c.as_slice-2.ensures ∙ ap (λ (x : Block). x.certifications) shown.1.2)
     c.in_ok-put_rows.ensures c.in_ok-put_lines.ensures
