@@ -5,7 +5,7 @@ use Rattle.dubp_people_after.proofs.Lists.{one_key_more}
 use Rattle.dubp_people_count.proofs.members.joined_keys.Goals as goal
 
 pub loop-line-init : goal.loop-line-init
-loop-line-init c = λ k. ap (list_any (same_text k)) c.new-set.ensures.empty
+loop-line-init c = λ k. ap (list_any (same_text k)) c.with_hasher-set.ensures.empty
 
 pub loop-line-preserved : goal.loop-line-preserved
 loop-line-preserved c =
