@@ -10,7 +10,7 @@ ghost use Rattle.dubp_iindex.specs.Order.{IsNext};
 ghost use Rattle.dubp_iindex.specs.Rows.{texts};
 ghost use Rattle.dubp_people_distance.specs.Certified.{IsCertified};
 
-use dubp_atoms::{Key, NoMemory};
+use dubp_atoms::{Key, NoMemory, Secret};
 use dubp_people_after::{WithBlock, issuers, stock};
 use indexmap::IndexSet;
 use std::alloc::Global;
@@ -48,7 +48,7 @@ pub(crate) fn certified_of<A: WithBlock>(
 }
 
 /// The keys, in order.
-fn in_order(alloc: Global, keys: &IndexSet<Key>) -> Result<BTreeSet<Key>, NoMemory>
+fn in_order(alloc: Global, keys: &IndexSet<Key, Secret>) -> Result<BTreeSet<Key>, NoMemory>
     ensures { IfOk result (λ set. (k : Text) → contains texts set k ≡ hashed.contains same_text keys.now k) }
 {
     let mut set = BTreeSet::new(alloc);

@@ -12,7 +12,7 @@ ghost use Rattle.dubp_people_distance.specs.Moved.{joins, leaves, stays, is_join
 
 use crate::certified::insert_key;
 use crate::two_chains::TwoChains;
-use dubp_atoms::{Key, NoMemory};
+use dubp_atoms::{Key, NoMemory, Secret};
 use dubp_block::{Block, MemberLine};
 use dubp_sets::insert;
 use indexmap::IndexSet;
@@ -66,16 +66,20 @@ pub(crate) fn left_by<T: TwoChains>(
     alloc: Global,
     chains: &T,
     block: &Block,
-) -> Result<IndexSet<Key>, NoMemory>
+) -> Result<IndexSet<Key, Secret>, NoMemory>
     ensures { IfOk result (λ set. (c : Chain) → T.stand chains.now c block.now → SaysWhoLeaves c block.now (hashed.contains same_text set)) }
 {
-    let mut set = IndexSet::new(alloc);
+    let mut set = IndexSet::with_hasher(alloc, chains.secret());
     put_left(chains, block.excluded.as_slice(), &mut set)?;
     Ok(set)
 }
 
 /// Puts those of the keys into the set that are members before the block and not with it.
-fn put_left<T: TwoChains>(chains: &T, keys: &[Key], set: &mut IndexSet<Key>) -> Result<(), NoMemory>
+fn put_left<T: TwoChains>(
+    chains: &T,
+    keys: &[Key],
+    set: &mut IndexSet<Key, Secret>,
+) -> Result<(), NoMemory>
     ensures { OnOk result ((c : Chain) (b : BlockValue) → T.stand chains.now c b → (k : Text) → hashed.contains same_text set.new k ≡ (hashed.contains same_text set.old k || list_any (is_leaving c b k) keys.now)) }
 {
     for key in keys {
@@ -84,7 +88,11 @@ fn put_left<T: TwoChains>(chains: &T, keys: &[Key], set: &mut IndexSet<Key>) -> 
     Ok(())
 }
 
-fn put_leaving<T: TwoChains>(chains: &T, key: &Key, set: &mut IndexSet<Key>) -> Result<(), NoMemory>
+fn put_leaving<T: TwoChains>(
+    chains: &T,
+    key: &Key,
+    set: &mut IndexSet<Key, Secret>,
+) -> Result<(), NoMemory>
     ensures { OnOk result ((c : Chain) (b : BlockValue) → T.stand chains.now c b → (k : Text) → hashed.contains same_text set.new k ≡ (hashed.contains same_text set.old k || is_leaving c b k key.now)) }
 {
     if has_left(chains, key) {
@@ -103,7 +111,7 @@ fn has_left<T: TwoChains>(chains: &T, key: &Key) -> bool
 pub(crate) fn count_with<T: TwoChains>(
     chains: &T,
     joined: &BTreeSet<Key>,
-    left: &IndexSet<Key>,
+    left: &IndexSet<Key, Secret>,
 ) -> u64
     requires few { (c : Chain) × (b : BlockValue) × (T.stand chains.now c b × (SaysWhoJoins c b (contains texts joined.now) × (SaysWhoLeaves c b (hashed.contains same_text left.now) × (length (members (b ∷ c)) < 2 ^ 21)))) }
     ensures { (c : Chain) (b : BlockValue) → T.stand chains.now c b → SaysWhoJoins c b (contains texts joined.now) → SaysWhoLeaves c b (hashed.contains same_text left.now) → result ≡ length (members (b ∷ c)) }
@@ -117,7 +125,7 @@ pub(crate) fn count_with<T: TwoChains>(
 /// The least key above `after`, or the least of all, that is a member before the block and with it. None exactly where there is none.
 pub(crate) fn next_staying<T: TwoChains>(
     chains: &T,
-    left: &IndexSet<Key>,
+    left: &IndexSet<Key, Secret>,
     after: Option<Key>,
 ) -> Option<Key>
     ensures { (c : Chain) (b : BlockValue) → T.stand chains.now c b → SaysWhoLeaves c b (hashed.contains same_text left.now) → IsNext (λ k. IsTrue (stays c b k)) after result }

@@ -14,7 +14,7 @@ use crate::certified::{Certified, next_above};
 use crate::changed::changed_by;
 use crate::moved::{count_with, joined_by, left_by, next_staying};
 use crate::two_chains::TwoChains;
-use dubp_atoms::{Key, NoMemory};
+use dubp_atoms::{Key, NoMemory, Secret};
 use dubp_block::Block;
 use dubp_wot::Web;
 use indexmap::{IndexMap, IndexSet};
@@ -28,11 +28,11 @@ pub(crate) struct NextWeb<'a, T: TwoChains> {
     /// Who is a member with the block and not before.
     joined: BTreeSet<Key>,
     /// Who is a member before the block and not with it.
-    left: IndexSet<Key>,
+    left: IndexSet<Key, Secret>,
     /// How many members there are with the block.
     count: u64,
     /// The live certifications with the block, where they may be others than before.
-    changed: IndexMap<Key, Certified>,
+    changed: IndexMap<Key, Certified, Secret>,
 }
 
 impl<'a, T: TwoChains> NextWeb<'a, T> {
@@ -97,6 +97,10 @@ impl<'a, T: TwoChains> Web for NextWeb<'a, T> {
             Some(certified) => certified.received,
             None => self.chains.received_before(*key),
         }
+    }
+
+    fn secret(&self) -> Secret {
+        self.chains.secret()
     }
 }
 

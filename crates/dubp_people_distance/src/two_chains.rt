@@ -12,7 +12,7 @@ ghost use Rattle.dubp_people_distance.specs.Certified.{IsCertified};
 ghost use Rattle.dubp_people_distance.specs.Stated.{AreStated};
 
 use crate::certified::{Certified, certified_of};
-use dubp_atoms::{Key, NoMemory};
+use dubp_atoms::{Key, NoMemory, Secret};
 use dubp_block::Block;
 use dubp_expiry::{Behind, Due};
 use dubp_params::Params;
@@ -66,6 +66,9 @@ pub(crate) trait TwoChains {
     fn params(&self) -> Params
         ensures value { (c : Chain) (b : BlockValue) → stand self.now c b → result ≡ params (b ∷ c) }
         ensures stated { (c : Chain) (b : BlockValue) → stand self.now c b → AreStated result };
+
+    /// What keys are hashed by in sets that live as long as a block.
+    fn secret(&self) -> Secret;
 }
 
 /// The registry of a chain, and beside it what a block changes.
@@ -118,5 +121,9 @@ impl<'a> TwoChains for Judged<'a> {
 
     fn params(&self) -> Params {
         self.after.params()
+    }
+
+    fn secret(&self) -> Secret {
+        self.registry.secret()
     }
 }

@@ -19,4 +19,4 @@ pub returns-clause-certified : goal.returns-clause-certified
 returns-clause-certified g c = λ chain shown.
     let b = c.args.block.now in
     c.in_ok-put_dues.ensures.certified chain b shown
-    (c.in_ok-put_lines.ensures.certified chain b shown (λ k x e. absurd (none-some x (sym (ap (lookup (same_text k)) c.new-known.ensures.empty) ∙ e))))
+    (c.in_ok-put_lines.ensures.certified chain b shown (λ k x e. absurd (none-some x (sym (ap (lookup (same_text k)) c.with_hasher-known.ensures.empty) ∙ e))))
