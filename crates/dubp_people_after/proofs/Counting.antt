@@ -1,39 +1,18 @@
--- Keys of a list that pass a test, counted one by one, and the keys that a key has live certifications with.
-use Rattle.std.proofs.Common.{◌≡◌, ℕ, ◌+◌, Bool, true, false, cond, ◌&&◌, ◌||◌, List, [], ◌∷◌, ◌++◌, Some, take, slice_get, get_or, filter, count_by, refl, sym, ap, subst, ◌∙◌, arith}
+-- The keys that a key has live certifications with, counted.
+use Rattle.std.proofs.Common.{◌≡◌, ℕ, ◌+◌, Bool, true, false, cond, ◌&&◌, ◌||◌, List, [], ◌∷◌, Some, take, slice_get, get_or, filter, count_by, refl, sym, ap, subst, ◌∙◌}
 use Rattle.std.specs.List.{AllByRecursion, IsDistinct, list_any}
-use Rattle.std.proofs.lemmas.List.{take_more}
-use Rattle.std.proofs.lemmas.List.Sums.{sum_by-append, sum_by-cons, length-filter}
+use Rattle.std.proofs.lemmas.List.Sums.{length-filter}
 use Rattle.std.proofs.lemmas.Option.{slice_get_within, slice_get-get_or, same_Some}
 use Rattle.dubp_atoms.specs.Same.{Text, same_text}
 use Rattle.dubp_block.specs.declared.block.Block.{Block}
 use Rattle.dubp_chain.specs.Words.{names}
 use Rattle.dubp_chain.specs.Chains.{Chain}
 use Rattle.dubp_chain.specs.Live.{live, received, stock}
-use Rattle.dubp_registry.proofs.OfLists.{and_left, and_right, any_in, in_any, in_filter, kept_in}
-use Rattle.dubp_registry.proofs.OfLists.{same_text_is}
-use Rattle.dubp_registry.proofs.OfSteps.{received_is_count, stock_is_count}
-use Rattle.dubp_people_after.proofs.Lists.{any_more, text_flip}
+use Rattle.dubp_people_count.proofs.OfLists.{and_left, and_right, any_in, in_any, in_filter, kept_in}
+use Rattle.dubp_people_count.proofs.OfLists.{same_text_is}
+use Rattle.dubp_people_count.proofs.OfSteps.{received_is_count, stock_is_count}
+use Rattle.dubp_people_count.proofs.Lists.{any_more, text_flip}
 use Rattle.dubp_people_after.specs.Near.{HasIssuers, HasReceivers, is_issuer, is_near_issuer, is_receiver}
-
-bit : Bool → ℕ
-bit t = cond t 1 0
-
-module _ (p : Text → Bool) (keys : List Text) (i : ℕ) (x : Text) (at : slice_get keys i ≡ Some x) where
-  taken : take (i + 1) keys ≡ take i keys ++ x ∷ []
-  taken =
-      let within = slice_get_within keys i x at in
-      take_more keys i x within ∙ ap (λ y. take i keys ++ y ∷ []) (same_Some (get_or keys i x) x (sym (slice_get-get_or keys i x within) ∙ at))
-
-  counted_more : count_by p (take (i + 1) keys) ≡ count_by p (take i keys) + cond (p x) 1 0
-  counted_more =
-      ap (count_by p) taken ∙ sum_by-append (λ y. cond (p y) 1 0) (take i keys) (x ∷ [])
-      ∙ ap (λ n. count_by p (take i keys) + n) (omega (arith, sum_by-cons (λ y. cond (p y) 1 0) x []))
-
-  pub one_passes : (n : ℕ) → n ≡ count_by p (take i keys) → p x ≡ true → n + 1 ≡ count_by p (take (i + 1) keys)
-  one_passes n e passes = ap (λ m. m + 1) e ∙ sym (counted_more ∙ ap (λ (t : Bool). count_by p (take i keys) + cond t 1 0) passes)
-
-  pub one_fails : (n : ℕ) → n ≡ count_by p (take i keys) → p x ≡ false → n ≡ count_by p (take (i + 1) keys)
-  one_fails n e fails = let same = counted_more ∙ ap (λ (t : Bool). count_by p (take i keys) + cond t 1 0) fails in omega (arith, e, same)
 
 -- ---- keys once, of which some are kept
 

@@ -5,7 +5,7 @@ pub mod Identities
 pub mod Lists
 pub mod Live
 pub mod Rests
-pub mod Webs
+pub mod OfCount
 pub mod OfRegistry
 pub mod OfLeft
 pub mod OfSteps

@@ -6,7 +6,7 @@ ghost use Rattle.dubp_atoms.specs.Same.{Text, same_text};
 ghost use Rattle.dubp_chain.specs.Words.{last_of};
 ghost use Rattle.dubp_chain.specs.Members.{is_of};
 ghost use Rattle.dubp_people_after.specs.Keys.{AreKeysOf, same_pair};
-ghost use Rattle.dubp_registry.specs.OfSteps.{of_pair};
+ghost use Rattle.dubp_people_count.specs.OfSteps.{of_pair};
 
 use dubp_atoms::{Key, NoMemory, Secret};
 use dubp_block::{Block, CertLine, IdentityLine, MemberLine};

@@ -12,12 +12,12 @@ use Rattle.dubp_block.specs.declared.block.Block.{Block}
 use Rattle.dubp_chain.specs.Words.{names, each_once}
 use Rattle.dubp_chain.specs.Chains.{Chain}
 use Rattle.dubp_chain.specs.Members.{is_of, member, members}
-use Rattle.dubp_people_after.specs.OfValidity.{IsSound}
-use Rattle.dubp_people_after.proofs.OfLists.{IsIn, and_right, not_true, is_false, in_any, in_filter}
-use Rattle.dubp_people_after.proofs.OfLists.{same_text_is, same_text_own, members-once}
-use Rattle.dubp_people_after.proofs.OfLists.{once-filter, once-append}
-use Rattle.dubp_people_after.proofs.OfRegistry.{member_named}
-use Rattle.dubp_people_after.proofs.OfRegistry.{members_are_count}
+use Rattle.dubp_registry.specs.OfValidity.{IsSound}
+use Rattle.dubp_registry.proofs.OfLists.{IsIn, and_right, not_true, is_false, in_any, in_filter}
+use Rattle.dubp_registry.proofs.OfLists.{same_text_is, same_text_own, members-once}
+use Rattle.dubp_registry.proofs.OfLists.{once-filter, once-append}
+use Rattle.dubp_registry.proofs.OfSteps.{member_named}
+use Rattle.dubp_registry.proofs.OfSteps.{members_are_count}
 use Rattle.dubp_people_count.proofs.Few.{distinct_of, members_are_few}
 use Rattle.dubp_people_count.specs.Counting.{is_old_member, is_new_member}
 

@@ -11,12 +11,12 @@ use Rattle.dubp_chain.specs.Words.{names, each_once}
 use Rattle.dubp_chain.specs.Chains.{Chain}
 use Rattle.dubp_chain.specs.Members.{member, members}
 use Rattle.dubp_chain.specs.People.{identity_lines}
-use Rattle.dubp_people_after.specs.OfValidity.{IsSound}
-use Rattle.dubp_people_after.proofs.OfLists.{and_left, and_right, not_true, or_left, or_right, list_any-map}
-use Rattle.dubp_people_after.proofs.OfLists.{members-once}
-use Rattle.dubp_people_after.proofs.OfLists.{last_line-any}
-use Rattle.dubp_people_after.proofs.OfRegistry.{some_identity, member_has_entry}
-use Rattle.dubp_people_after.proofs.OfRegistry.{member_named}
+use Rattle.dubp_registry.specs.OfValidity.{IsSound}
+use Rattle.dubp_registry.proofs.OfLists.{and_left, and_right, not_true, or_left, or_right, list_any-map}
+use Rattle.dubp_registry.proofs.OfLists.{members-once}
+use Rattle.dubp_registry.proofs.OfLists.{last_line-any}
+use Rattle.dubp_registry.proofs.OfSteps.{some_identity, member_has_entry}
+use Rattle.dubp_registry.proofs.OfSteps.{member_named}
 
 abbrev of_key : Text → IdentityLine → Bool
 of_key k line = same_text k line.key

@@ -1,7 +1,10 @@
 pub mod Counting
 pub mod Few
-pub mod Walked
-pub mod OfPeopleAfter
-pub mod OfRegistry
+pub mod Lists
 pub mod OfLeft
+pub mod OfLists
+pub mod OfRegistry
 pub mod OfSteps
+pub mod Passing
+pub mod Walked
+pub mod Webs

@@ -2,8 +2,8 @@
 use Rattle.std.proofs.Common.{◌≡◌, ◌||◌, true, false, not, List, [], ◌∷◌, ◌++◌, Option, None, Some, Contains, refl, ap, sym, subst, ◌∙◌, true≢false, arith}
 use Rattle.dubp_atoms.specs.Same.{Text, same_text}
 use Rattle.dubp_chain.specs.Words.{names}
-use Rattle.dubp_people_after.proofs.OfLists.{IsIn, in_any, filter_on, filter_true}
-use Rattle.dubp_people_after.proofs.OfLists.{same_text_is, same_text_own}
+use Rattle.dubp_registry.proofs.OfLists.{IsIn, in_any, filter_on, filter_true}
+use Rattle.dubp_registry.proofs.OfLists.{same_text_is, same_text_own}
 use Rattle.dubp_wot.specs.Order.{is_above, IsInOrder, IsNextMember}
 use Rattle.dubp_wot.specs.Search.{up_to}
 use Rattle.dubp_wot.proofs.Members.{Contains-there, up_to-next}

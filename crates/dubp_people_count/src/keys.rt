@@ -1,11 +1,11 @@
 ghost use Rattle.std.specs.Prelude.{◌≡◌, ◌∷◌, ◌++◌, [], IfOk, OnOk};
 ghost use Rattle.dubp_chain.specs.Chains.{Chain};
 ghost use Rattle.dubp_chain.specs.Members.{members};
-ghost use Rattle.dubp_people_after.specs.OfValidity.{IsSound};
+ghost use Rattle.dubp_registry.specs.OfValidity.{IsSound};
 
 use dubp_atoms::{Key, NoMemory};
 use dubp_block::Block;
-use dubp_people_after::Registry;
+use dubp_registry::Registry;
 use dubp_undo::Tables;
 use std::alloc::Global;
 

@@ -11,7 +11,9 @@
 
 mod keys;
 mod members;
+mod standing;
 
-pub use dubp_people_after::{First, Registry, Standing};
+pub use dubp_registry::{BlockTime, First, Next, Registry, next_of};
 pub use keys::member_keys;
 pub use members::members_with;
+pub use standing::Standing;

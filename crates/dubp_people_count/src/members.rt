@@ -4,12 +4,12 @@ ghost use Rattle.indexmap.specs.IndexSet.{contains};
 ghost use Rattle.dubp_atoms.specs.Same.{Text, same_text};
 ghost use Rattle.dubp_chain.specs.Chains.{Chain};
 ghost use Rattle.dubp_chain.specs.Members.{is_of, member, members};
-ghost use Rattle.dubp_people_after.specs.OfValidity.{IsSound};
+ghost use Rattle.dubp_registry.specs.OfValidity.{IsSound};
 ghost use Rattle.dubp_people_count.specs.Counting.{is_new_member, is_old_member};
 
 use dubp_atoms::{Key, NoMemory, Secret};
 use dubp_block::{Block, MemberLine};
-use dubp_people_after::Registry;
+use dubp_registry::Registry;
 use dubp_sets::{insert, set_of};
 use dubp_undo::Tables;
 use indexmap::IndexSet;

@@ -30,7 +30,7 @@ use Rattle.dubp_people_after.proofs.OfSteps.{live_is_of_row}
 use Rattle.dubp_people_after.proofs.OfSteps.{planned_later}
 use Rattle.dubp_people_after.proofs.OfSteps.{queued_certification}
 use Rattle.dubp_people_after.specs.Near.{is_end}
-use Rattle.dubp_people_after.proofs.Lists.{text_flip}
+use Rattle.dubp_people_after.proofs.OfCount.{text_flip}
 use Rattle.dubp_people_distance.specs.declared.certified.Certified.{Certified}
 use Rattle.dubp_people_distance.specs.Certified.{IsKept, OthersAreKept}
 use Rattle.dubp_people_distance.specs.Ends.{is_end_of_line, is_end_of_due}

@@ -12,7 +12,7 @@ use Rattle.dubp_iindex.specs.Rows.{texts}
 use Rattle.dubp_iindex.specs.Order.{IsNext}
 use Rattle.dubp_people_after.proofs.OfSteps.{same_received}
 use Rattle.dubp_wot.specs.Order.{IsInOrder, IsNextMember, IsNextIssuer}
-use Rattle.dubp_people_after.proofs.Webs.{member_told, next_member_told, next_issuer_told}
+use Rattle.dubp_people_after.proofs.OfCount.{member_told, next_member_told, next_issuer_told}
 use Rattle.dubp_people_distance.specs.declared.certified.Certified.{Certified}
 use Rattle.dubp_people_distance.specs.Certified.{AreCertified, IsCertified, IsKept, OthersAreKept}
 use Rattle.dubp_people_distance.specs.Moved.{joins, leaves, stays}

@@ -15,7 +15,7 @@ use Rattle.dubp_lists.proofs.Elements.{all_append, all_from_in, and_left, and_ri
 use Rattle.dubp_lists.proofs.InOrder.{same_text_is, same_text_own}
 use Rattle.dubp_people_after.specs.OfValidity.{ComersPass}
 use Rattle.dubp_people_after.proofs.Rests.{Rests, rests_all, rests_fails}
-use Rattle.dubp_people_after.proofs.Webs.{listed_member, member_listed}
+use Rattle.dubp_people_after.proofs.OfCount.{listed_member, member_listed}
 use Rattle.dubp_people_distance.specs.Stated.{AreStated, HaveSteps}
 use Rattle.dubp_people_distance.specs.Webs.{HasPassed}
 

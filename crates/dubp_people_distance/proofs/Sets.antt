@@ -13,7 +13,7 @@ use Rattle.dubp_chain.specs.Members.{is_of, member}
 use Rattle.dubp_iindex.specs.Rows.{texts}
 use Rattle.dubp_lists.proofs.Elements.{and_left, and_right, or_true, any_in, in_any}
 use Rattle.dubp_lists.proofs.InOrder.{same_text_is, same_text_own}
-use Rattle.dubp_people_after.proofs.Lists.{any_more}
+use Rattle.dubp_people_after.proofs.OfCount.{any_more}
 use Rattle.dubp_people_distance.specs.Moved.{joins, leaves, is_joining, is_leaving}
 
 pub tied : (key k : Text) → same_text k key ≡ is_eq (texts key k)

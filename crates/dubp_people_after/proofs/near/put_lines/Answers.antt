@@ -1,5 +1,5 @@
 use Rattle.dubp_people_after.specs.Near.{is_end_near}
-use Rattle.dubp_people_after.proofs.Lists.{any_more}
+use Rattle.dubp_people_count.proofs.Lists.{any_more}
 use Rattle.dubp_people_after.proofs.near.put_lines.Goals as goal
 
 pub loop-line-preserved : goal.loop-line-preserved

@@ -1,7 +1,7 @@
 use Rattle.std.proofs.Common.{None, Some, refl, sym, ◌∙◌}
 use Rattle.dubp_chain.specs.Members.{members}
 use Rattle.dubp_wot.proofs.Members.{up_to-first}
-use Rattle.dubp_people_after.proofs.Webs.{members_rise, next_member_told}
+use Rattle.dubp_people_count.proofs.Webs.{members_rise, next_member_told}
 use Rattle.dubp_people_count.proofs.Walked.{one_taken, all_taken}
 use Rattle.dubp_people_count.proofs.keys.member_keys.Goals as goal
 

@@ -1,9 +1,9 @@
 use Rattle.std.proofs.Common.{◌≡◌, ◌≤◌, take, count_by}
-use Rattle.dubp_people_after.specs.OfRegistry.registry_tables_block as registry
+use Rattle.dubp_registry.specs.contracts.registry.RegistryTablesBlock.TheImpl as registry
 use Rattle.indexmap.specs.IndexSet.{contains}
 use Rattle.dubp_atoms.specs.Same.{same_text}
 use Rattle.dubp_chain.specs.Chains.{Chain}
-use Rattle.dubp_people_after.specs.OfValidity.{IsSound}
+use Rattle.dubp_registry.specs.OfValidity.{IsSound}
 use Rattle.dubp_people_count.specs.Counting.{is_new_member}
 use Rattle.dubp_people_count.proofs.members.count_come.Given as goal
 

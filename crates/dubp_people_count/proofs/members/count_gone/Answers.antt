@@ -1,5 +1,5 @@
 use Rattle.std.proofs.Common.{◌≤◌, ◌+◌, ◌∙◌, ℕ, true, false, sym, subst, arith}
-use Rattle.dubp_people_after.proofs.Counting.{one_passes, one_fails}
+use Rattle.dubp_people_count.proofs.Passing.{one_passes, one_fails}
 use Rattle.dubp_people_count.specs.Counting.{is_old_member}
 use Rattle.dubp_people_count.proofs.Counting.{old_told}
 use Rattle.dubp_people_count.proofs.members.count_gone.Goals as goal

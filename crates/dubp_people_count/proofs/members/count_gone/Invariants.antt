@@ -1,7 +1,7 @@
 use Rattle.std.proofs.Common.{◌≡◌, ◌≤◌, take, count_by}
-use Rattle.dubp_people_after.specs.OfRegistry.registry_tables_block as registry
+use Rattle.dubp_registry.specs.contracts.registry.RegistryTablesBlock.TheImpl as registry
 use Rattle.dubp_chain.specs.Chains.{Chain}
-use Rattle.dubp_people_after.specs.OfValidity.{IsSound}
+use Rattle.dubp_registry.specs.OfValidity.{IsSound}
 use Rattle.dubp_people_count.specs.Counting.{is_old_member}
 use Rattle.dubp_people_count.proofs.members.count_gone.Given as goal
 

@@ -1,4 +1,4 @@
-use Rattle.dubp_people_after.proofs.Lists.{any_more}
+use Rattle.dubp_people_after.proofs.OfCount.{any_more}
 use Rattle.dubp_people_distance.specs.Ends.{is_end_of_line}
 use Rattle.dubp_people_distance.proofs.changed.put_lines.Goals as goal
 

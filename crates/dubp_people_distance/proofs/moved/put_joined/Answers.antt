@@ -1,4 +1,4 @@
-use Rattle.dubp_people_after.proofs.Lists.{any_more}
+use Rattle.dubp_people_after.proofs.OfCount.{any_more}
 use Rattle.dubp_people_distance.specs.Moved.{is_joining}
 use Rattle.dubp_people_distance.proofs.moved.put_joined.Goals as goal
 

@@ -3,7 +3,7 @@ use Rattle.indexmap.specs.IndexSet.{contains}
 use Rattle.dubp_atoms.specs.Same.{same_text}
 use Rattle.dubp_block.specs.declared.block.Block.{Block}
 use Rattle.dubp_undo.specs.States.{states}
-use Rattle.dubp_registry.specs.OfLeft.{certifications_left}
+use Rattle.dubp_people_count.specs.OfLeft.{certifications_left}
 use Rattle.dubp_people_after.proofs.Live.{issuers_near, receivers_near}
 use Rattle.dubp_people_after.proofs.after.AfterWithBlock.near.Goals as goal
 

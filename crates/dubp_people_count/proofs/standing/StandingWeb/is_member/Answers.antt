@@ -1,5 +1,5 @@
-use Rattle.dubp_people_after.proofs.Webs.{member_told}
-use Rattle.dubp_people_after.proofs.standing.StandingWeb.is_member.Goals as goal
+use Rattle.dubp_people_count.proofs.Webs.{member_told}
+use Rattle.dubp_people_count.proofs.standing.StandingWeb.is_member.Goals as goal
 
 pub returns : goal.returns
 returns c = λ keys pairs shown.

@@ -1,7 +1,7 @@
 use Rattle.std.proofs.Common.{◌∙◌, ap, length, subst, sym}
 use Rattle.dubp_wot.specs.Order.{IsInOrder}
-use Rattle.dubp_people_after.proofs.Webs.{members_rise}
-use Rattle.dubp_people_after.proofs.standing.StandingWeb.count_members.Goals as goal
+use Rattle.dubp_people_count.proofs.Webs.{members_rise}
+use Rattle.dubp_people_count.proofs.standing.StandingWeb.count_members.Goals as goal
 
 pub returns-clause-count : goal.returns-clause-count
 returns-clause-count c = λ keys pairs shown. c.members.ensures shown.0 shown.1.0 shown.1.1.0 ∙ ap length (sym shown.1.1.1.0)

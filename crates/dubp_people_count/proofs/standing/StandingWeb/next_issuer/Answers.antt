@@ -1,5 +1,5 @@
-use Rattle.dubp_people_after.proofs.Webs.{next_issuer_told}
-use Rattle.dubp_people_after.proofs.standing.StandingWeb.next_issuer.Goals as goal
+use Rattle.dubp_people_count.proofs.Webs.{next_issuer_told}
+use Rattle.dubp_people_count.proofs.standing.StandingWeb.next_issuer.Goals as goal
 
 pub returns : goal.returns
 returns c = λ keys pairs shown.
