@@ -31,7 +31,7 @@ use Rattle.dubp_money_steps.proofs.Transacted.{spends_and_makes}
 use Rattle.dubp_money.specs.Texts.{Grows, Fits}
 use Rattle.dubp_money.specs.Writing.{without_inputs}
 use Rattle.dubp_money.specs.Making.{CanFollow, with_made}
-use Rattle.dubp_money.specs.Transactions.{all_outputs, all_written}
+use Rattle.dubp_money.specs.Transactions.{all_written}
 use Rattle.dubp_money.proofs.Growing.{grows_on, has_more}
 use Rattle.dubp_money.proofs.Units.{units_made}
 use Rattle.dubp_money.proofs.Made.{map-both, same_flip}

@@ -56,12 +56,7 @@ fn count_paid(payment: Option<Payment>, members: &[Key]) -> usize
 }
 
 /// How many sources the chain with the block has made, where the chain made so many, and these are at most 2^63.
-pub(crate) fn count_made(
-    block: &Block,
-    payment: Option<Payment>,
-    members: &[Key],
-    made: u64,
-) -> u64
+pub(crate) fn count_made(block: &Block, payment: Option<Payment>, members: &[Key], made: u64) -> u64
     ensures { (time : ℕ) → made + length (all_outputs time block.now.currency block.now.transactions) + length (paid payment members.now) ≤ 2 ^ 63 → result ≡ made + length (all_outputs time block.now.currency block.now.transactions) + length (paid payment members.now) }
 {
     place_behind(
