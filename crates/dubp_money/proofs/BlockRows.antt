@@ -23,7 +23,8 @@ use Rattle.dubp_money_steps.proofs.Names.{same_name, each_once-same}
 use Rattle.dubp_money_steps.proofs.Entries.{names_of, without_numbers}
 use Rattle.dubp_money_steps.proofs.Numbering.{sources_stay}
 use Rattle.dubp_money_steps.proofs.Ranges.{sources_are_rows, made_are_small, sources_are_rows_before_clearing}
-use Rattle.dubp_money_steps.proofs.Bounds.{made_stay_few, places_are_there, units_fit, units_left}
+use Rattle.dubp_money_steps.proofs.Bounds.{made_stay_few, places_are_there}
+use Rattle.dubp_money_steps.proofs.Units.{units_fit, units_left}
 use Rattle.dubp_money_steps.proofs.Cleared.{clears_rows}
 use Rattle.dubp_money_steps.specs.Clearing.{kept, taken, clear_record}
 use Rattle.dubp_validity.specs.Records.{clearing_records}

@@ -7,7 +7,7 @@ use Rattle.dubp_atoms.specs.Same.{Text}
 use Rattle.dubp_chain.specs.Money.{Source, units_of}
 use Rattle.dubp_sindex.specs.Rows.{Entry, units_of_entry}
 use Rattle.dubp_money_steps.specs.Left.{account_in, entries_of}
-use Rattle.dubp_money_steps.proofs.Bounds.{units_of_entries}
+use Rattle.dubp_money_steps.proofs.Units.{units_of_entries}
 use Rattle.dubp_money.specs.Making.{with_made}
 
 pub units_filter : (p : Entry → Bool) (rows : List Entry) → sum_by units_of_entry (filter p rows) ≤ sum_by units_of_entry rows
