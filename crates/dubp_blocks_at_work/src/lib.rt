@@ -11,4 +11,6 @@ mod conditions;
 #[cfg(test)]
 mod documents;
 #[cfg(test)]
+mod heads;
+#[cfg(test)]
 mod rules;
