@@ -9,7 +9,7 @@ use Rattle.dubp_block.specs.declared.block.Block.{Block}
 use Rattle.dubp_block.specs.Text.{stamp_of}
 use Rattle.dubp_rules.specs.declared.rule.Rule.TheVariants.{G51}
 use Rattle.dubp_chain.specs.Chains.{Chain}
-use Rattle.dubp_validity.specs.Rules.{IsSound}
+use Rattle.dubp_rows.specs.OfValidity.{IsSound}
 use Rattle.dubp_people_views.proofs.OfLists.{same_text_is, same_text_own}
 
 -- of two stamps

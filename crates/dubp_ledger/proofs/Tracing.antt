@@ -8,7 +8,7 @@ use Rattle.dubp_block.specs.declared.block.Block.{Block}
 use Rattle.dubp_chain.specs.declared.head.Head.{Head}
 use Rattle.dubp_chain.specs.Chains.{Chain, block_of_number}
 use Rattle.dubp_chain.specs.Heads.{head_of, heads_of}
-use Rattle.dubp_validity.specs.Records.{records, records_at}
+use Rattle.dubp_rows.specs.OfValidity.{records, records_at}
 use Rattle.dubp_rows.specs.OfKept.{KeptChain, Out, IsHeldBy, IsAsHeld, IsAsBefore, with_block}
 use Rattle.dubp_rows.specs.OfKept.{left_behind}
 use Rattle.dubp_rows.specs.OfKept.{LeftBehind}

@@ -1,7 +1,7 @@
 -- What the blocks of a chain left behind, block by block. Protocol: records.
 use Rattle.std.specs.Prelude.{◌≡◌, ◌≤◌, ℕ, List, [], ◌∷◌, length, take, Option, Some, None, ⊤}
 use Rattle.std.specs.List.{AllByRecursion}
-pub use Rattle.dubp_validity.specs.Rules.{IsShort}
+pub use Rattle.dubp_rows.specs.OfValidity.{IsShort}
 use Rattle.dubp_chain.specs.Chains.{Chain}
 use Rattle.dubp_rows.specs.OfKept.{KeptChain, Out}
 use Rattle.dubp_rows.specs.OfKept.{left_behind}

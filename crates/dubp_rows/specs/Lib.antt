@@ -1,2 +1,3 @@
 pub mod OfKept
 pub mod OfLocal
+pub mod OfValidity

@@ -15,5 +15,7 @@ mod lines;
 mod money;
 mod rows;
 
+pub use dubp_docs::TxHashes;
 pub use dubp_kept::{Held, Kept, LeftBehind, check_local};
+pub use dubp_validity::Record;
 pub use rows::put_records;

@@ -1,5 +1,5 @@
 use Rattle.std.proofs.Common.{subst}
-use Rattle.dubp_validity.specs.Rules.{Holds}
+use Rattle.dubp_rows.specs.OfValidity.{Holds}
 use Rattle.dubp_rows.specs.OfKept.{local_rules}
 use Rattle.dubp_rows.specs.OfKept.{IsKnown}
 use Rattle.dubp_ledger.proofs.Difficulties.{before_the_rest, may_count, no_params_here, params_here}

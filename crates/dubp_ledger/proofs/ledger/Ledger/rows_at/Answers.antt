@@ -2,8 +2,7 @@ use Rattle.std.proofs.Common.{◌∙◌, ◌++◌, Some, ap, subst, sym}
 use Rattle.std.specs.List.{AllByRecursion}
 use Rattle.dubp_block.specs.Text.{IsBlock}
 use Rattle.dubp_people_views.specs.OfFacts.facts_tables_block as facts
-use Rattle.dubp_validity.specs.Records.{records}
-use Rattle.dubp_validity.specs.Rules.{IsSound}
+use Rattle.dubp_rows.specs.OfValidity.{IsSound, records}
 use Rattle.dubp_ledger.proofs.Tracing.{beyond, rows_written}
 use Rattle.dubp_ledger.proofs.ledger.Ledger.rows_at.Goals as goal
 

@@ -1,0 +1,5 @@
+use Rattle.dubp_money_at_work.proofs.first.a_first_block_keeps_the_rules_on_money_and_is_written.Given as goal
+
+-- the steps are those of the blank
+abbrev pub ghosts-is_kept : goal.ghosts-is_kept
+ghosts-is_kept g a = record { name = a.blank.name; parts = a.blank.parts }
