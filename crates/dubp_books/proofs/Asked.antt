@@ -18,7 +18,7 @@ use Rattle.dubp_judge.specs.OfLocal.{all_hashes}
 use Rattle.dubp_judge.specs.Judged.{IsToJudge}
 use Rattle.dubp_judge.specs.Parts.{people_rules, money_rules, table_parts}
 
-abbrev next_to : Head → Params → Next
+abbrev pub next_to : Head → Params → Next
 next_to h p = record { params = p; time = h.median_time }
 
 time_by : (c : Chain) (b : Block) (h : Head) → head_of (b ∷ c) ≡ Some h → h.median_time ≡ time_of (b ∷ c)

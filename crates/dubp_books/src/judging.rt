@@ -7,7 +7,7 @@ use dubp_judge::Judges;
 use dubp_money_checks::first_broken_of_money;
 use dubp_params::Params;
 use dubp_people::Next;
-use dubp_people_checks::first_broken_of_people;
+use dubp_people_checks::people_rules;
 use dubp_people_count::members_with;
 use dubp_rules::Rule;
 use dubp_undo::Tables;
@@ -33,13 +33,13 @@ impl Judges for Books {
         hashes: &[TxHashes],
         verdicts: &Verdicts,
     ) -> Result<Option<Rule>, NoMemory> {
+        if let Some(rule) = people_rules(alloc, self.people(), head, block, verdicts)? {
+            return Ok(Some(rule));
+        }
         let next = Next {
             params: *params,
             time: head.median_time,
         };
-        if let Some(rule) = first_broken_of_people(alloc, self.people(), block, &next, verdicts)? {
-            return Ok(Some(rule));
-        }
         let found = first_broken_of_money(alloc, self.money(), head, &next, block, hashes)?;
         Ok(found)
     }
