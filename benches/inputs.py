@@ -19,6 +19,8 @@ REVERSIBLE, STORED = 100, 1024
 QUERIES = ["HEAD", "MONEY", "IDENTITY", "UID", "CERTS", "BALANCE", "SOURCES", "DISTANCE", "DIFF", "RECORDS", "SHOW"]
 QUERY_COUNT, STATEMENT_COUNT, SWITCH_COUNT = 100_000, 10_000, 200
 GENERATED_BLOCKS, GENERATED_ISSUERS = 5_000, 40
+WEB_MEMBERS, WEB_CERTIFICATIONS, JOINERS = 2_000, 50, 100
+WEB_PARAMETERS = "0.1:100:1000:0:1000:1000000:1000000000:0:1000:1000:0.8:1000000000:5:5:60:10:0.67:1000000000000:1000000000000:1000"
 
 
 @dataclass
@@ -207,6 +209,61 @@ def blocks_stored() -> list[Workload]:
     """Offered blocks of a megabyte, of conditions that take much room, and of others."""
     nested, key = "(" * 63 + "CSV(0)" + ")" * 63, blocks.key(1)
     return [Workload(f"stored_{name}", lambda given=given: stored(given)) for name, given in [("nested", nested), ("short", "CSV(0)"), ("signed", f"SIG({key})")]]
+
+
+class Web:
+    """A chain whose members certify one another: each certifies so many others, one in each block behind the first."""
+
+    def __init__(self, count: int, certifications: int) -> None:
+        self.members, self.certifications, self.chain = [blocks.Member(number) for number in range(count)], certifications, blocks.Chain()
+
+    def next(self, lines: str, verdicts: Iterable[str], members: int) -> bytes:
+        """The next block with these lines, behind the verdicts on them; there are so many members with it."""
+        issuer = self.members[self.chain.length() % 3].key
+        block = blocks.next_block(self.chain, issuer, members, lines, WEB_PARAMETERS)
+        return "".join([*verdicts, block.verdict, block.command()]).encode()
+
+    def commands(self) -> Iterator[bytes]:
+        """All its blocks, in pieces."""
+        members, count = self.members, len(self.members)
+        yield self.next(blocks.sections_of_members(members), blocks.verdicts_of(members), count)
+        for number in range(1, self.certifications + 1):
+            lines, verdicts, step = [], [], number * (number + 1) // 2
+            for at, member in enumerate(members):
+                other = members[(at + step) % count]
+                line, signed = blocks.certification(member.key, other.key, other.uid, blocks.EMPTY, number - 1, self.chain.stamp())
+                lines.append(line)
+                verdicts.append(blocks.verdict(member.key, signed))
+            yield self.next(blocks.sections(Certifications="".join(lines)), verdicts, count)
+
+    def joined(self, joiners: int = JOINERS) -> bytes:
+        """One block more, with which so many join: how near each is to the sentries is asked of the whole web."""
+        count, stamp = len(self.members), self.chain.stamp()
+        lines: dict[str, list[str]] = {"Identities": [], "Joiners": [], "Certifications": []}
+        verdicts = []
+        for number in range(joiners):
+            key, uid, certifier = blocks.key(count + number), f"new{number}", self.members[number]
+            issuer = f"Issuer: {key}"
+            identity = blocks.document("Identity", issuer, f"UniqueID: {uid}", f"Timestamp: {stamp}")
+            membership = blocks.document("Membership", issuer, f"Block: {stamp}", "Membership: IN", f"UserID: {uid}", f"CertTS: {stamp}")
+            line, signed = blocks.certification(certifier.key, key, uid, stamp, self.chain.length() - 1, stamp)
+            lines["Identities"].append(f"{key}:{blocks.SIGNATURE}:{stamp}:{uid}\n")
+            lines["Joiners"].append(f"{key}:{blocks.SIGNATURE}:{stamp}:{stamp}:{uid}\n")
+            lines["Certifications"].append(line)
+            verdicts += [blocks.verdict(key, identity), blocks.verdict(key, membership), blocks.verdict(certifier.key, signed)]
+        return self.next(blocks.sections(**{name: "".join(each) for name, each in lines.items()}), verdicts, count + joiners)
+
+    def and_joined(self) -> Iterator[bytes]:
+        """All its blocks, and that one."""
+        yield from self.commands()
+        yield self.joined()
+
+
+def webs() -> list[Workload]:
+    """A dense web, and a block with which many join it."""
+    name = f"web_{WEB_MEMBERS}_{WEB_CERTIFICATIONS}"
+    whole, joined = (lambda: Web(WEB_MEMBERS, WEB_CERTIFICATIONS).commands()), (lambda: Web(WEB_MEMBERS, WEB_CERTIFICATIONS).and_joined())
+    return [Workload(name, whole), Workload("joiners_of_a_web", joined, name)]
 
 
 def chains() -> list[Workload]:
