@@ -1,6 +1,7 @@
 ghost use Rattle.std.specs.Prelude.{◌≡◌, ◌<◌};
 ghost use Rattle.dubp_block.specs.Text.{IsBlock};
 
+use crate::blocks::FIRST_BLOCK;
 use dubp_atoms::{Hash, Steps};
 use dubp_block::{Block, read_block};
 use dubp_chain::Head;
@@ -10,32 +11,6 @@ use std::marker::Brand;
 use std::mem::forget;
 use std::sync::ledger::{Blank, Ledger as StepBook};
 use std::test::Fail;
-
-const FIRST_BLOCK: &[u8] = b"Version: 10\n\
-Type: Block\n\
-Currency: test_currency\n\
-Number: 0\n\
-PoWMin: 0\n\
-Time: 1488987127\n\
-MedianTime: 1488987127\n\
-UnitBase: 0\n\
-Issuer: 1111111111111111111111111111111111111111111\n\
-IssuersFrame: 1\n\
-IssuersFrameVar: 0\n\
-DifferentIssuersCount: 0\n\
-Parameters: 0.0488:86400:1000:432000:100:5259600:63115200:5:5259600:5259600:0.8:31557600:5:24:300:12:0.67:1488970800:1490094000:15778800\n\
-MembersCount: 0\n\
-Identities:\n\
-Joiners:\n\
-Actives:\n\
-Leavers:\n\
-Revoked:\n\
-Excluded:\n\
-Certifications:\n\
-Transactions:\n\
-InnerHash: 9880AB695793A40B4291DC5A5FB6FB082B901AFAD5E758E3B1B90168CFFB80B0\n\
-Nonce: 0\n\
-AAAAAAAAAAAAAAAAAAAAAAAAAAAAAAAAAAAAAAAAAAAAAAAAAAAAAAAAAAAAAAAAAAAAAAAAAAAAAAAAAAAAAA==\n";
 
 // The head of the first block, whose hash was computed by another program.
 fn first_head(block: &Block) -> Option<Head> {
