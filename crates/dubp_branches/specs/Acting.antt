@@ -1,12 +1,10 @@
 -- What a command does to the branches, by what is handed of the frame. Protocol: the input; commands and answers.
 use Rattle.std.specs.Prelude.{◌≡◌, ◌⊎◌, ℕ, ◌≤◌, List, [], length}
 use Rattle.std.specs.Option.{MatchOption}
-use Rattle.dubp_atoms.specs.Same.{Text}
 use Rattle.dubp_validity.specs.Rules.{longest_block}
 use Rattle.dubp_replay.specs.Answers.{no_memory_answer}
 use Rattle.dubp_replay.specs.declared.command.Command.{Command}
-use Rattle.dubp_replay.specs.OfForging.{Doc}
-use Rattle.dubp_replay.specs.Turns.{Branches, BranchesTurn, IsForgeAnswer, Only, TakesMemory, frame_of}
+use Rattle.dubp_replay.specs.Turns.{Branches, BranchesTurn, Only, TakesMemory, frame_of}
 
 -- Behind the line of this command these raw bytes may stand, of which the node is handed those: all of them, or none where they are
 -- more than a block has.
@@ -22,9 +20,3 @@ BranchesTurnOrLack old command frame answer new =
 -- the command takes its turn: whatever the bytes are of which these were handed
 abbrev pub BranchesActs : Branches → Command → List ℕ → List ℕ → Branches → Type 0
 BranchesActs old command frame answer new = (bytes : List ℕ) → IsHanded command bytes frame → BranchesTurnOrLack old command bytes answer new
-
--- FORGE by this key at this time, of these documents, is answered so, or memory ran out
-abbrev pub Forges : Branches → List Doc → Text → ℕ → List ℕ → Type 0
-Forges b pool key time answer =
-    IsForgeAnswer (record { verdicts = b.verdicts; chain = b.chain; issuer = key; time = time; pool = pool }) b.chain answer
-    ⊎ (answer ≡ no_memory_answer)

@@ -1,4 +1,3 @@
 pub mod Acting
 pub mod Deciding
 pub mod OfForks
-pub mod OfQuery

@@ -1,8 +1,8 @@
 ghost use Rattle.std.specs.Prelude.{◌≡◌, length, ◌≤◌, ◌<◌, ℕ, List, [], ◌∷◌, None, Some, OnOk, OnErr, slice_get};
 ghost use Rattle.std.specs.List.{list_any};
 ghost use Rattle.dubp_atoms.specs.Spelling.{IsNumber};
-ghost use Rattle.dubp_branches.specs.Acting.{BranchesActs, Forges};
-ghost use Rattle.dubp_query.specs.AnswerBytes.{answer_bytes};
+ghost use Rattle.dubp_branches.specs.Acting.{BranchesActs};
+ghost use Rattle.dubp_replay.specs.AnswerBytes.{answer_bytes};
 ghost use Rattle.dubp_block.specs.Text.{IsBlock, block_text, stamp_of as block_stamp};
 ghost use Rattle.dubp_block.specs.declared.block.Block.{Block as BlockValue};
 ghost use Rattle.dubp_validity.specs.Rules.{IsSound, IsValid, longest_block};
@@ -24,7 +24,7 @@ use dubp_block::{Block, ReadRefusal, read_block};
 use dubp_forks::{
     Ledger, OfferRefusal, PeopleAndMoney, Store, SubmitRefusal, SwitchRefusal, TooDeep,
 };
-use dubp_query::{Answer, CondText, Pool, Query, answer, forge_answer, statement_answer};
+use dubp_query::{Answer, CondText, Query, answer, statement_answer};
 use dubp_verdict::Verdicts;
 use std::alloc::Global;
 use std::marker::Model;
@@ -88,6 +88,13 @@ impl<T: PeopleAndMoney> Branches<T> {
         &self.ledger
     }
 
+    /// The verdicts that were given. It takes no memory.
+    pub fn verdicts(&self) -> &Verdicts
+        ensures { result.now ≡ self.now.verdicts }
+    {
+        &self.verdicts
+    }
+
     /// Does nothing. Its clauses say what holds of the chain and of the stored blocks at any time.
     pub fn laws(&self)
         ensures valid { IsValid self.now.verdicts self.now.chain }
@@ -137,17 +144,6 @@ impl<T: PeopleAndMoney> Branches<T> {
         ensures { (frame : List ℕ) → BranchesActs self.now (StatementCommand cond.now) frame (answer_bytes result) self.now }
     {
         match statement_answer(self.alloc, &self.ledger, cond) {
-            Ok(answer) => answer,
-            Err(_) => no_memory(),
-        }
-    }
-
-    /// The answer to FORGE: the block that this key can issue at this time, of the documents that wait; nothing changes. The time is below 2^53.
-    pub fn forge(&self, pool: &Pool, key: Key, time: u64) -> Answer
-        requires { IsNumber time }
-        ensures { Forges self.now pool.now key time (answer_bytes result) }
-    {
-        match forge_answer(self.alloc, &self.ledger, pool, &self.verdicts, key, time) {
             Ok(answer) => answer,
             Err(_) => no_memory(),
         }

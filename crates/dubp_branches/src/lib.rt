@@ -14,7 +14,7 @@ mod texts;
 
 pub use branches::{Branches, LONGEST_BLOCK};
 pub use dubp_forks::{Ledger, OfferRefusal, PeopleAndMoney, SwitchRefusal};
-pub use dubp_query::{Answer, CondText, Pool, Query, head_line, money_line};
+pub use dubp_query::{Answer, CondText, Query, head_line, money_line};
 pub use texts::{
     forgotten, full, no_memory, numbered, offer_answer, one, refused, switch_answer, unknown,
 };

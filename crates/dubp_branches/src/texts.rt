@@ -1,6 +1,6 @@
 ghost use Rattle.std.specs.Prelude.{◌≡◌, ◌++◌, ◌≤◌, decimal, length};
 ghost use Rattle.dubp_atoms.specs.Spelling.{stamp_text};
-ghost use Rattle.dubp_query.specs.AnswerBytes.{answer_bytes};
+ghost use Rattle.dubp_replay.specs.AnswerBytes.{answer_bytes};
 ghost use Rattle.dubp_replay.specs.Answers.{accepted_answer, answer_line, branch_refused_answer, forgotten_answer, full_answer, no_memory_answer, noted_answer, refused_answer, reverted_answer, too_deep_answer, unknown_answer, unread_answer};
 ghost use Rattle.dubp_branches.specs.Deciding.{offer_text, refusal_text, switch_text};
 ghost use Rattle.dubp_rules.specs.Table.{code_text};

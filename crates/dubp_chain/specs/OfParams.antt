@@ -1,3 +1,3 @@
 -- What those above take from here of the definitions of dubp_params.
-pub use Rattle.dubp_params.specs.declared.params.Params.{Params}
-pub use Rattle.dubp_params.specs.Ranges.{IsInRange, greatest_acceleration}
+pub use Rattle.dubp_block.specs.OfParams.{Params}
+pub use Rattle.dubp_pow.specs.OfParams.{IsInRange, greatest_acceleration}

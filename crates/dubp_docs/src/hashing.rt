@@ -1,7 +1,8 @@
-ghost use Rattle.std.specs.Prelude.{◌≡◌, List, ℕ};
+ghost use Rattle.std.specs.Prelude.{◌≡◌, All, IfOk, List, map, ℕ};
 ghost use Rattle.dubp_atoms.specs.Hashing.{hash_of};
 ghost use Rattle.dubp_cond.specs.Transactions.{IsTx};
 ghost use Rattle.dubp_docs.specs.Fields.{identity_of, revocation_of, certification_of, membership_of};
+ghost use Rattle.dubp_docs.specs.Hashes.{hashes_of};
 ghost use Rattle.dubp_docs.specs.Spelling.{signed_text, signed_tx, tx_hash as hash_of_tx};
 ghost use Rattle.dubp_docs.specs.declared.doc.Doc.TheVariants.{Identity, Revocation, Certification, Membership};
 
@@ -126,4 +127,23 @@ pub fn tx_hash(_alloc: Global, currency: &Currency, tx: &Tx) -> Result<Hash, NoM
     ensures { result ≡ Ok (hash_of_tx currency.now tx.now) }
 {
     Ok(tx_hashes(currency, tx).whole)
+}
+
+/// Both hashes of each of these transactions of this currency, in order. The transactions are in range.
+///
+/// `NoMemory` where there is no room for the list.
+pub fn all_tx_hashes(
+    alloc: Global,
+    currency: &Currency,
+    txs: &[Tx],
+) -> Result<Vec<TxHashes>, NoMemory>
+    requires { All IsTx txs.now }
+    ensures { IfOk result (λ hashes. hashes.items ≡ map (hashes_of currency.now) txs.now) }
+{
+    let mut hashes = Vec::new(alloc);
+    for tx in txs {
+        let both = tx_hashes(currency, tx);
+        hashes.push(both).map_err(|_| NoMemory)?;
+    }
+    Ok(hashes)
 }

@@ -26,8 +26,8 @@ mod writing;
 
 pub use doc::{CertificationDoc, Doc, IdentityDoc, MembershipDoc, RevocationDoc, TxDoc};
 pub use hashing::{
-    TxHashes, certification_hash, identity_hash, membership_hash, revocation_hash, tx_hash,
-    tx_hashes,
+    TxHashes, all_tx_hashes, certification_hash, identity_hash, membership_hash, revocation_hash,
+    tx_hash, tx_hashes,
 };
 pub use read::read_doc;
 pub use writing::{put_doc, signed_text, signed_tx};

@@ -9,3 +9,4 @@ pub mod Trying
 pub mod Growing
 pub mod TakenRuns
 pub mod RunSteps
+pub mod Told

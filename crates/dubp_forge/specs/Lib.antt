@@ -2,3 +2,4 @@ pub mod Forgings
 pub mod Steps
 pub mod OfLedger
 pub mod Runs
+pub mod Telling

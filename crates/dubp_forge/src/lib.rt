@@ -7,10 +7,12 @@
 //! ```text
 //! let forged = forge(alloc, &ledger, &pool, &verdicts, issuer, time)?;
 //! let text = put_block(alloc, &forged.block)?;
+//! let answer = forge_answer(alloc, &ledger, &pool, &verdicts, issuer, time)?;
 //! ```
 #![tactic(auto)]
 
 mod adding;
+mod answering;
 mod asking;
 mod draft;
 mod forged;
@@ -18,6 +20,7 @@ mod forging;
 mod lines;
 mod runs;
 
+pub use answering::forge_answer;
 pub use dubp_ledger::{Ledger, PeopleAndMoney};
 pub use dubp_pool::Pool;
 pub use forged::{ForgeRefusal, Forged};

@@ -10,7 +10,8 @@ use Rattle.dubp_docs.specs.declared.hashing.TxHashes.{TxHashes}
 use Rattle.dubp_block.specs.declared.block.Block.{Block}
 use Rattle.dubp_verdict.specs.Verdicts.{Verdicts}
 use Rattle.dubp_validity.specs.LocalRules.{IsSignedByAll, TransactionsAreSigned}
-use Rattle.dubp_local.specs.Local.{hashes_of, all_hashes}
+use Rattle.dubp_docs.specs.Hashes.{hashes_of}
+use Rattle.dubp_local.specs.Local.{all_hashes}
 use Rattle.dubp_local.specs.Parts.{IsSignedOver}
 use Rattle.dubp_local.proofs.Every.{every_more}
 

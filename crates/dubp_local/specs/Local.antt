@@ -1,11 +1,8 @@
 -- The rules that a block is checked against by itself, in the order in which they are read, and the first that fails. Protocol:
 -- rules.
 use Rattle.std.specs.Prelude.{◌≡◌, Bool, true, false, not, List, [], ◌∷◌, map, filter, Option, None, Some}
-use Rattle.dubp_atoms.specs.Same.{Text}
-use Rattle.dubp_atoms.specs.Hashing.{hash_of}
 use Rattle.dubp_params.specs.declared.params.Params.{Params}
-use Rattle.dubp_cond.specs.declared.tx.Tx.{Tx}
-use Rattle.dubp_docs.specs.Spelling.{signed_tx, tx_hash}
+use Rattle.dubp_docs.specs.Hashes.{hashes_of}
 use Rattle.dubp_docs.specs.declared.hashing.TxHashes.{TxHashes}
 use Rattle.dubp_block.specs.declared.block.Block.{Block}
 use Rattle.dubp_rules.specs.declared.rule.Rule.{Rule}
@@ -38,8 +35,5 @@ abbrev pub FirstLocal : List Rule → Verdicts → Option Params → Block → O
 FirstLocal rules v p b broken = (c : Chain) → AreParamsOf p c → IsFirst (Holds v c b) rules broken
 
 -- the two hashes of each transaction, in order
-abbrev pub hashes_of : Text → Tx → TxHashes
-hashes_of currency tx = record { signed = hash_of (signed_tx currency tx); whole = tx_hash currency tx }
-
 abbrev pub all_hashes : Block → List TxHashes
 all_hashes b = map (hashes_of b.currency) b.transactions

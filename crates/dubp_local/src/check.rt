@@ -25,7 +25,7 @@ use crate::transactions::{
 use crate::unlocks::{inputs_are_unlocked_once, senders_stand_once, sources_stand_once};
 use dubp_atoms::{Items, NoMemory};
 use dubp_block::Block;
-use dubp_docs::{TxHashes, tx_hashes};
+use dubp_docs::{TxHashes, all_tx_hashes};
 use dubp_params::Params;
 use dubp_rules::{Rule, first_of};
 use dubp_verdict::Verdicts;
@@ -125,24 +125,11 @@ fn check_asked(
     if let Some(rule) = first_before_l24(alloc, block, verdicts, params, asked)? {
         return Ok(Checked::Breaks(rule));
     }
-    let hashes = all_tx_hashes(alloc, block)?;
+    let hashes = all_tx_hashes(alloc, &block.currency, block.transactions.as_slice())?;
     if !transactions_are_signed(block, hashes.as_slice(), verdicts) {
         return Ok(Checked::Breaks(Rule::L24));
     }
     Ok(Checked::Keeps(Items::from_vec(hashes)))
-}
-
-/// The two hashes of each transaction of the block, in order.
-pub fn all_tx_hashes(alloc: Global, block: &Block) -> Result<Vec<TxHashes>, NoMemory>
-    requires { IsBlock block.now }
-    ensures { IfOk result (λ hashes. hashes.items ≡ all_hashes block.now) }
-{
-    let mut hashes = Vec::new(alloc);
-    for tx in block.transactions.as_slice() {
-        let both = tx_hashes(&block.currency, tx);
-        hashes.push(both).map_err(|_| NoMemory)?;
-    }
-    Ok(hashes)
 }
 
 // The first rule before L24 that the block breaks.

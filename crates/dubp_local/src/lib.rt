@@ -16,4 +16,4 @@ mod signatures;
 mod transactions;
 mod unlocks;
 
-pub use check::{Asked, Checked, all_tx_hashes, check_local, check_local_hashed, check_unsigned};
+pub use check::{Asked, Checked, check_local, check_local_hashed, check_unsigned};

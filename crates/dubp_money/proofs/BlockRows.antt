@@ -12,8 +12,8 @@ use Rattle.dubp_chain.specs.Heads.{time_of}
 use Rattle.dubp_chain.specs.Money as money
 use Rattle.dubp_chain.specs.Money.{Source, named_by, is_left, outputs_made, made_by, made_sources, cleared, unspent}
 use Rattle.dubp_validity.specs.Rules.{IsSound, IsShort}
-use Rattle.dubp_local.proofs.OfLists.{in_all, all_from_in, all_append, in_filter}
-use Rattle.dubp_local.proofs.OfLists.{each_once-map}
+use Rattle.dubp_lists.proofs.Elements.{in_all, all_from_in, all_append, in_filter}
+use Rattle.dubp_lists.proofs.Once.{each_once-map}
 use Rattle.dubp_money_steps.proofs.OfLaws.{SourcesApart, sources-filter}
 use Rattle.dubp_money_steps.proofs.OfLaws.{pays, at_hand-is}
 use Rattle.dubp_sindex.specs.Rows.{Entry, units_of_entry, same_source, is_named, each_once, AreRows}

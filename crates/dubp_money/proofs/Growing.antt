@@ -5,7 +5,7 @@ use Rattle.dubp_atoms.specs.Same.{Text, same_text}
 use Rattle.dubp_cond.specs.Conditions.{cond_text}
 use Rattle.dubp_chain.specs.Chains.{Chain}
 use Rattle.dubp_chain.specs.Money.{Source, made_sources}
-use Rattle.dubp_local.proofs.OfLists.{all_more, any_left}
+use Rattle.dubp_lists.proofs.Elements.{all_more, any_left}
 use Rattle.dubp_undo.specs.States.{states}
 use Rattle.dubp_sindex.specs.States.{States}
 use Rattle.dubp_money_steps.specs.Left.{sources_left, HasTexts}

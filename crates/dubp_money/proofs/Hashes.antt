@@ -3,7 +3,7 @@ use Rattle.std.proofs.Common.{◌≡◌, List, [], ◌∷◌, map, refl, ap}
 use Rattle.dubp_atoms.specs.Same.{Text}
 use Rattle.dubp_cond.specs.declared.tx.Tx.{Tx}
 use Rattle.dubp_docs.specs.Spelling.{tx_hash}
-use Rattle.dubp_local.specs.Local.{hashes_of}
+use Rattle.dubp_docs.specs.Hashes.{hashes_of}
 
 pub whole_hashes-all : (currency : Text) (txs : List Tx) → map (λ h. h.whole) (map (hashes_of currency) txs) ≡ map (tx_hash currency) txs
 whole_hashes-all currency [] = refl

@@ -7,5 +7,4 @@ pub mod Blocks
 pub mod Tables
 pub mod Applied
 pub mod OfMoneySteps
-pub mod OfLocal
 pub mod OfValidity

@@ -11,8 +11,7 @@ use crate::writing::write_all;
 use dubp_atoms::{Key, NoMemory, Steps};
 use dubp_block::Block;
 use dubp_chain::Head;
-use dubp_docs::TxHashes;
-use dubp_local::all_tx_hashes;
+use dubp_docs::{TxHashes, all_tx_hashes};
 use dubp_undo::Tables;
 use dubp_validity::Record;
 use std::alloc::Global;
@@ -53,7 +52,7 @@ impl Money {
         ensures steps { OnOk result ((c : Chain) → IsApplied c block.now head.now → ArePaid (block.now ∷ c) head.now members.now → ⟦<Money as Tables<Block>>⟧.at self.old c → steps.new ≤ steps.old + (8 * length (money_records c block.now) + 8)) }
         ensures refused { OnErr result (out.new.items ≡ out.old.items) }
     {
-        let hashes = all_tx_hashes(alloc, block)?;
+        let hashes = all_tx_hashes(alloc, &block.currency, block.transactions.as_slice())?;
         self.apply_hashed(alloc, block, head, members, hashes.as_slice(), out, steps)?;
         Ok(())
     }

@@ -32,7 +32,6 @@ pub use blocks::{clear_block, pay, spend_and_make};
 pub use clearing::{clear_accounts, put_clears};
 pub use dubp_atoms::Secret;
 pub use dubp_facts::Facts;
-pub use dubp_local::all_tx_hashes;
 pub use making::{NewSource, make_outputs, put_makes};
 pub use money::{Money, Totals, TotalsOf, TransactionsOf};
 pub use paying::{Payment, pay_dividends, put_dividends};

@@ -4,6 +4,7 @@ use Rattle.std.proofs.Common.{◌≡◌, false, true≢false, List, [], ◌∷�
 use Rattle.std.specs.Option.{MatchOption}
 use Rattle.dubp_atoms.specs.Same.{Text, same_text}
 use Rattle.dubp_cond.specs.declared.tx.Tx.{Tx}
+use Rattle.dubp_docs.specs.Hashes.{hashes_of}
 use Rattle.dubp_docs.specs.Spelling.{tx_hash}
 use Rattle.dubp_block.specs.declared.block.Block.{Block}
 use Rattle.dubp_chain.specs.Words.{each_once}
@@ -16,7 +17,6 @@ use Rattle.dubp_rules.specs.First.{FirstOf, IsFirst}
 use Rattle.dubp_rules.proofs.FirstLaws.{IsFirst_from_FirstOf}
 use Rattle.dubp_money_rules.specs.OfValidity.{Holds}
 use Rattle.dubp_money_rules.specs.OfValidity.{TransactionsAreNew}
-use Rattle.dubp_money_rules.specs.OfLocal.{hashes_of}
 use Rattle.dubp_money_rules.specs.Lines.{whole_hashes}
 use Rattle.dubp_money_checks.specs.Judging.{money_rules, rules_behind_hashes}
 

@@ -17,8 +17,8 @@ use crate::earlier::Earlier;
 use dubp_atoms::NoMemory;
 use dubp_block::Block;
 use dubp_chain::Head;
-use dubp_docs::TxHashes;
-use dubp_money_rules::{Money, Next, all_tx_hashes, next_of, transactions_are_new, tx_numbers};
+use dubp_docs::{TxHashes, all_tx_hashes};
+use dubp_money_rules::{Money, Next, next_of, transactions_are_new, tx_numbers};
 use dubp_rules::Rule;
 use dubp_undo::Tables;
 use std::alloc::Global;
@@ -62,7 +62,7 @@ pub fn money_rules(
     requires block { IsBlock block.now }
     ensures { IfOk result (λ found. (v : Verdicts) (c : Chain) (next : NextValue) → ⟦<Money as Tables<Block>>⟧.at money.now c → IsAsked c block.now next → head_of (block.now ∷ c) ≡ Some head.now → AreBlocks c → IsFirst (Holds v c block.now) money_rules found) }
 {
-    let hashes = all_tx_hashes(alloc, block)?;
+    let hashes = all_tx_hashes(alloc, &block.currency, block.transactions.as_slice())?;
     let next = next_of(money.facts(), block, head);
     let found = first_broken_of_money(alloc, money, head, &next, block, hashes.as_slice())?;
     Ok(found)

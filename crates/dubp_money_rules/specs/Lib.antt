@@ -2,5 +2,4 @@ pub mod Lines
 pub mod Spending
 pub mod OfLeft
 pub mod OfMoney
-pub mod OfLocal
 pub mod OfValidity

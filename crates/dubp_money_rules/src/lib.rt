@@ -18,7 +18,7 @@ mod times;
 
 pub use conditions::conditions_are_true;
 pub use dubp_left::{Next, next_of};
-pub use dubp_money::{Money, all_tx_hashes};
+pub use dubp_money::Money;
 pub use hashes::{Transactions, transactions_are_new, tx_numbers};
 pub use inputs::{inputs_are_there, locktimes_have_ended};
 pub use outputs::output_bases_fit;

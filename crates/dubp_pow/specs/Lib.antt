@@ -3,3 +3,4 @@ pub mod LeastDifficulty
 pub mod Ladder
 pub mod Difficulty
 pub mod Meeting
+pub mod OfParams

@@ -1,4 +1,3 @@
 pub mod Heads
 pub mod Queries
-pub mod ForgeAnswers
 pub mod Records

@@ -4,7 +4,7 @@ use Rattle.dubp_atoms.specs.Same.{Text}
 use Rattle.dubp_chain.specs.Chains.{Chain}
 use Rattle.dubp_chain.specs.Members.{member}
 use Rattle.dubp_chain.specs.Heads.{difficulty}
-use Rattle.dubp_statement.specs.OfForge.{IsDifficulty}
+use Rattle.dubp_statement.specs.OfLedger.{IsDifficulty}
 use Rattle.dubp_replay.specs.Answers.{diff_answer, diff_answer_of, none_answer}
 
 module _ (c : Chain) (k : Text) (line : List ℕ) where

@@ -5,8 +5,8 @@ use Rattle.dubp_chain.specs.Chains.{Chain}
 use Rattle.dubp_replay.specs.Answers.{IsAnswered}
 use Rattle.dubp_replay.specs.Turns.{AskingTakesMemory}
 use Rattle.dubp_replay.specs.declared.query.Query.{Query}
-use Rattle.dubp_query.specs.AnswerBytes.{answer_bytes}
-use Rattle.dubp_query.specs.declared.bytes.Answer.{Answer}
+use Rattle.dubp_replay.specs.AnswerBytes.{answer_bytes}
+use Rattle.dubp_replay.specs.declared.answer.Answer.{Answer}
 
 -- answered, unless it takes memory and that ran out
 abbrev pub IsAnswer : Chain → Query → Result Answer NoMemory → Type 0

@@ -1,3 +1,1 @@
-pub mod AnswerBytes
 pub mod Asked
-pub mod Forged

@@ -3,14 +3,13 @@ ghost use Rattle.dubp_replay.specs.Answers.{diff_answer, records_answer, show_an
 ghost use Rattle.dubp_replay.specs.declared.query.Query.TheVariants as asked;
 ghost use Rattle.dubp_query.specs.Asked.{IsAnswer};
 
-use crate::bytes::Answer;
 use crate::lines::head_line;
 use dubp_answers::{
     balance_line, certs_text, diff_line, distance_line, identity_line, money_line, records_text,
     show_text, sources_text, uid_line,
 };
 use dubp_atoms::{Key, Line, NoMemory, Uid};
-use dubp_replay::Query;
+use dubp_replay::{Answer, Query};
 use dubp_statement::{CondText, Ledger, PeopleAndMoney};
 use std::alloc::Global;
 

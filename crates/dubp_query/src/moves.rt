@@ -1,10 +1,10 @@
 ghost use Rattle.std.specs.Prelude.{◌≡◌, IfOk};
 ghost use Rattle.dubp_replay.specs.Answers.{statement_answer as answer_of};
-ghost use Rattle.dubp_query.specs.AnswerBytes.{answer_bytes};
+ghost use Rattle.dubp_replay.specs.AnswerBytes.{answer_bytes};
 
-use crate::bytes::Answer;
 use dubp_answers::statement_text;
 use dubp_atoms::NoMemory;
+use dubp_replay::Answer;
 use dubp_statement::{CondText, Ledger, PeopleAndMoney, statement};
 use std::alloc::Global;
 

@@ -1,3 +1,4 @@
+pub mod AnswerBytes
 pub mod Answers
 pub mod OfForging
 pub mod OfMoves

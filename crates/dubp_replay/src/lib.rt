@@ -9,10 +9,12 @@
 //! ```
 #![tactic(auto)]
 
+mod answer;
 mod command;
 mod failure;
 mod query;
 
+pub use answer::Answer;
 pub use command::Command;
 pub use dubp_chain::Head;
 pub use dubp_moves::{Kind, Move, laws as move_laws};

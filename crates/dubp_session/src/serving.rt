@@ -6,7 +6,7 @@ ghost use Rattle.dubp_session.specs.Entries.{Entry, Frame as frame_entry, HeadsF
 ghost use Rattle.dubp_session.specs.Turns.{EntryServed, EntryTurn};
 ghost use Rattle.dubp_script.specs.Framed.{framed_command, framed_len};
 ghost use Rattle.dubp_script.specs.Spelling.{Says};
-ghost use Rattle.dubp_turns.specs.OfQuery.{answer_bytes};
+ghost use Rattle.dubp_replay.specs.AnswerBytes.{answer_bytes};
 ghost use Rattle.dubp_replay.specs.Turns.{State};
 ghost use Rattle.dubp_session.specs.Session.{Broke};
 ghost use Rattle.dubp_session.specs.Reading.{Shows, Stands, most_at_hand};

@@ -5,7 +5,8 @@ use Rattle.std.proofs.Math.Seq.{drop-append_seam}
 use Rattle.dubp_chain.specs.OfBlock.{Block}
 use Rattle.dubp_chain.specs.declared.head.Head.{Head}
 use Rattle.dubp_chain.specs.Chains.{Chain}
-use Rattle.dubp_forge.specs.OfLedger.{IsWrittenAt, LeftBehind}
+use Rattle.dubp_ledger.specs.OfKept.{LeftBehind}
+use Rattle.dubp_ledger.specs.Written.{IsWrittenAt}
 use Rattle.dubp_statement.specs.Fronts.{first_blocks}
 
 pub none_first : (c : Chain) → first_blocks 0 c ≡ []

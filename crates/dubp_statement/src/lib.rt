@@ -13,5 +13,5 @@ mod moves;
 
 pub use dubp_account::{Kind, Move};
 pub use dubp_cond::CondText;
-pub use dubp_forge::{ForgeRefusal, Forged, Ledger, PeopleAndMoney, Pool, forge};
+pub use dubp_ledger::{Ledger, PeopleAndMoney};
 pub use moves::statement;

@@ -10,7 +10,7 @@ use dubp_account::move_laws::{
 use dubp_account::{Move, Tally, add_block};
 use dubp_atoms::NoMemory;
 use dubp_cond::CondText;
-use dubp_forge::{Ledger, PeopleAndMoney};
+use dubp_ledger::{Ledger, PeopleAndMoney};
 use std::alloc::Global;
 
 /// The moves of the condition of this text on the chain of the ledger, block by block, each with the units that the condition has behind it.

@@ -3,7 +3,6 @@ use Rattle.std.proofs.Common.{◌≡◌, ◌∙◌, ◌<◌, ◌≤◌, ◌||◌
 use Rattle.std.specs.Prelude.{MatchBool, Result, Some, codes, nat_le}
 use Rattle.std.proofs.lemmas.Bool.Decides.{nat_tests}
 use Rattle.dubp_atoms.specs.Same.{Text}
-use Rattle.dubp_branches.specs.Acting.{Forges}
 use Rattle.dubp_pool.specs.Pools.{Pends, has_hash, is_pending, most_pending, without}
 use Rattle.dubp_pool.specs.declared.refusal.PendRefusal.{PendRefusal}
 use Rattle.dubp_pool.specs.declared.refusal.PendRefusal.TheVariants.{Unread, Known, Full, NoMemory}
@@ -12,7 +11,7 @@ use Rattle.dubp_replay.specs.Answers.{forgotten_answer, known_document_answer, p
 use Rattle.dubp_replay.specs.OfForging.{Doc}
 use Rattle.dubp_replay.specs.declared.command.Command.TheVariants as command
 use Rattle.dubp_replay.specs.Turns.{IsServed, State, UnpendTurn, branches_of}
-use Rattle.dubp_turns.specs.Acting.{Acts, PendActs}
+use Rattle.dubp_turns.specs.Acting.{Acts, Forges, PendActs}
 use Rattle.dubp_turns.specs.Texts.{pend_text}
 
 in_true : (x : Bool) (P Q : Type 0) → x ≡ true → P → MatchBool x P Q

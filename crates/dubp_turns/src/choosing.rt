@@ -3,7 +3,7 @@ ghost use Rattle.dubp_choosing.specs.States.{IsTipOf, choosing};
 ghost use Rattle.dubp_replay.specs.Answers.{failed_line, stored_answer};
 ghost use Rattle.dubp_replay.specs.Turns.{Chooses, left_over};
 ghost use Rattle.dubp_turns.specs.Choosing.{AreTried, ChoosesBehind, TriedOne};
-ghost use Rattle.dubp_turns.specs.OfQuery.{answer_bytes};
+ghost use Rattle.dubp_replay.specs.AnswerBytes.{answer_bytes};
 
 use crate::seeing::find_tip;
 use crate::texts::{add, failed_text, switched_text};

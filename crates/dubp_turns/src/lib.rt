@@ -11,6 +11,7 @@
 #![tactic(auto)]
 
 mod choosing;
+mod forging;
 mod node;
 mod seeing;
 mod texts;

@@ -1,7 +1,7 @@
 ghost use Rattle.std.specs.Prelude.{◌≡◌, length, ◌≤◌, ℕ, List, [], ◌∷◌, None, OnOk, OnErr, true};
 ghost use Rattle.dubp_atoms.specs.Spelling.{IsNumber};
 ghost use Rattle.dubp_turns.specs.Acting.{Acts, OfferActs, PendActs};
-ghost use Rattle.dubp_turns.specs.OfQuery.{answer_bytes};
+ghost use Rattle.dubp_replay.specs.AnswerBytes.{answer_bytes};
 ghost use Rattle.dubp_block.specs.Text.{IsBlock, block_text};
 ghost use Rattle.dubp_validity.specs.Rules.{IsValid, longest_block};
 ghost use Rattle.dubp_turns.specs.Given.{IsGivenAll, block_given, verdict_given};
@@ -9,6 +9,7 @@ ghost use Rattle.dubp_replay.specs.Turns.{IsTimely, left_over, start};
 ghost use Rattle.dubp_replay.specs.declared.command.Command.TheVariants.{Ask as AskCommand, Auto as AutoCommand, Block as BlockCommand, Failures as FailuresCommand, Forge as ForgeCommand, Forget as ForgetCommand, Offer as OfferCommand, Pend as PendCommand, Revert as RevertCommand, Statement as StatementCommand, Switch as SwitchCommand, Unpend as UnpendCommand, Verdict as VerdictCommand};
 
 use crate::choosing::{choose_behind, let_go, resolve};
+use crate::forging::forge_on;
 use crate::texts::{failures_text, pend_answer};
 use dubp_atoms::{Hash, Key, NoMemory, Secret, Sig, Stamp, Steps};
 use dubp_block::Block;
@@ -281,7 +282,7 @@ impl<T: PeopleAndMoney> Node<T> {
         requires { IsNumber time }
         ensures { (frame : List ℕ) → Acts self.now (ForgeCommand key time) frame (answer_bytes result) self.now }
     {
-        self.branches.forge(&self.pool, key, time)
+        forge_on(self.alloc, &self.branches, &self.pool, key, time)
     }
 
     fn act_offer<L: StepBook>(&mut self, len: u64, frame: &[u8], steps: &mut Steps<L>) -> Answer

@@ -1,7 +1,7 @@
 ghost use Rattle.std.specs.Prelude.{◌≡◌, ◌++◌, ◌≤◌, Err, IfOk, OnOk, length};
 ghost use Rattle.dubp_atoms.specs.Spelling.{stamp_text};
 ghost use Rattle.dubp_replay.specs.Answers.{answer_line, ended, failed_line, failures_answer, switched_answer};
-ghost use Rattle.dubp_turns.specs.OfQuery.{answer_bytes};
+ghost use Rattle.dubp_replay.specs.AnswerBytes.{answer_bytes};
 ghost use Rattle.dubp_turns.specs.Texts.{failed_lines, pend_text};
 
 use arrayvec::ArrayVec;

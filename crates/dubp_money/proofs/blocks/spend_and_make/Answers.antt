@@ -4,7 +4,7 @@ use Rattle.dubp_atoms.specs.Same.{same_text}
 use Rattle.dubp_cond.specs.Conditions.{cond_text}
 use Rattle.dubp_chain.specs.Heads.{time_of}
 use Rattle.dubp_chain.specs.Money.{Source, made_sources}
-use Rattle.dubp_local.proofs.OfLists.{all_append}
+use Rattle.dubp_lists.proofs.Elements.{all_append}
 use Rattle.dubp_sindex.specs.Accounts.{accounts}
 use Rattle.dubp_sindex.specs.Rows.{Entry, AreRows}
 use Rattle.dubp_money_steps.specs.Steps.{outputs_of, dividends_of}

@@ -1,5 +1,5 @@
 use Rattle.std.proofs.Common.{◌∙◌, ap, inl, sym, subst}
-use Rattle.dubp_query.specs.AnswerBytes.{answer_bytes}
+use Rattle.dubp_replay.specs.AnswerBytes.{answer_bytes}
 use Rattle.dubp_replay.specs.Turns.{Branches, ForgetTurn}
 use Rattle.dubp_forks.specs.Stores.{AreOutside, state_of}
 use Rattle.dubp_branches.proofs.Stored.{forgotten_turn, unknown_turn}

@@ -1,4 +1,4 @@
-use Rattle.dubp_query.specs.AnswerBytes.{answer_bytes}
+use Rattle.dubp_replay.specs.AnswerBytes.{answer_bytes}
 use Rattle.dubp_branches.proofs.Decisions.{said_ok, said_err}
 use Rattle.dubp_branches.proofs.branches.Branches.submit.Goals as goal
 

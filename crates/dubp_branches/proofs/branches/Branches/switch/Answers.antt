@@ -1,4 +1,4 @@
-use Rattle.dubp_query.specs.AnswerBytes.{answer_bytes}
+use Rattle.dubp_replay.specs.AnswerBytes.{answer_bytes}
 use Rattle.dubp_branches.proofs.Stored.{switched_acts}
 use Rattle.dubp_branches.proofs.branches.Branches.switch.Goals as goal
 

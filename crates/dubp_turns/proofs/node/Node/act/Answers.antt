@@ -1,7 +1,7 @@
 use Rattle.std.proofs.Common.{sym, subst}
 use Rattle.dubp_replay.specs.declared.command.Command.{Command}
 use Rattle.dubp_turns.specs.Acting.{Acts}
-use Rattle.dubp_turns.specs.OfQuery.{answer_bytes}
+use Rattle.dubp_replay.specs.AnswerBytes.{answer_bytes}
 use Rattle.dubp_replay.specs.Turns.{IsTimely}
 use Rattle.dubp_turns.proofs.node.Node.act.Goals as goal
 

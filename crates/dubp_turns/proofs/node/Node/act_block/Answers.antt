@@ -3,7 +3,7 @@ use Rattle.dubp_replay.specs.declared.command.Command.TheVariants.{Block}
 use Rattle.dubp_replay.specs.Turns.{State}
 use Rattle.dubp_choosing.specs.States.{state_with}
 use Rattle.dubp_turns.specs.Acting.{Acts}
-use Rattle.dubp_turns.specs.OfQuery.{answer_bytes}
+use Rattle.dubp_replay.specs.AnswerBytes.{answer_bytes}
 use Rattle.dubp_turns.proofs.Turns.{acts_on, held_left}
 use Rattle.dubp_turns.proofs.node.Node.act_block.Goals as goal
 

@@ -4,7 +4,7 @@ use Rattle.dubp_replay.specs.Turns.{State}
 use Rattle.dubp_choosing.specs.States.{state_with}
 use Rattle.dubp_choosing.proofs.Turns.{held_same}
 use Rattle.dubp_turns.specs.Acting.{Acts}
-use Rattle.dubp_turns.specs.OfQuery.{answer_bytes}
+use Rattle.dubp_replay.specs.AnswerBytes.{answer_bytes}
 use Rattle.dubp_turns.proofs.Turns.{acts_aside}
 use Rattle.dubp_turns.proofs.node.Node.note.Goals as goal
 

@@ -2,7 +2,7 @@ use Rattle.std.proofs.Common.{subst}
 use Rattle.dubp_replay.specs.Turns.{State}
 use Rattle.dubp_choosing.specs.States.{state_with}
 use Rattle.dubp_turns.specs.Acting.{OfferActs}
-use Rattle.dubp_turns.specs.OfQuery.{answer_bytes}
+use Rattle.dubp_replay.specs.AnswerBytes.{answer_bytes}
 use Rattle.dubp_turns.proofs.Turns.{held_behind, kept_behind, offer_chooses, offer_quietly, offer_refused}
 use Rattle.dubp_turns.proofs.node.Node.offer.Goals as goal
 

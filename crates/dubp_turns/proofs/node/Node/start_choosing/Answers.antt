@@ -3,7 +3,7 @@ use Rattle.dubp_replay.specs.Answers.{auto_on_answer}
 use Rattle.dubp_replay.specs.Turns.{AutoTurn, Chooses, State}
 use Rattle.dubp_choosing.specs.States.{choosing, state_with}
 use Rattle.dubp_choosing.proofs.Waiting.{chooses_waiting}
-use Rattle.dubp_turns.specs.OfQuery.{answer_bytes}
+use Rattle.dubp_replay.specs.AnswerBytes.{answer_bytes}
 use Rattle.dubp_turns.proofs.node.Node.start_choosing.Goals as goal
 
 pub returns-in-Ok : goal.returns-in-Ok

@@ -1,7 +1,7 @@
 use Rattle.std.proofs.Common.{◌∙◌, ap, inl, subst}
 use Rattle.dubp_replay.specs.Turns.{State, UnpendTurn}
 use Rattle.dubp_choosing.specs.States.{state_with}
-use Rattle.dubp_turns.specs.OfQuery.{answer_bytes}
+use Rattle.dubp_replay.specs.AnswerBytes.{answer_bytes}
 use Rattle.dubp_turns.proofs.Pending.{absent_turn, gone_turn}
 use Rattle.dubp_turns.proofs.node.Node.unpend.Goals as goal
 use Rattle.dubp_turns.proofs.node.Node.unpend.Goals.{then-remove, else-remove}

@@ -1,7 +1,7 @@
 -- The bytes of an answer.
 use Rattle.std.specs.Prelude.{ℕ, List}
-use Rattle.dubp_query.specs.declared.bytes.Answer.{Answer}
-use Rattle.dubp_query.specs.declared.bytes.Answer.TheVariants.{One, Many}
+use Rattle.dubp_replay.specs.declared.answer.Answer.{Answer}
+use Rattle.dubp_replay.specs.declared.answer.Answer.TheVariants.{One, Many}
 
 abbrev pub answer_bytes : Answer → List ℕ
 answer_bytes (One line) = line.items

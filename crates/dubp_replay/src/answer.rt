@@ -1,5 +1,5 @@
 ghost use Rattle.std.specs.Prelude.{◌≡◌};
-ghost use Rattle.dubp_query.specs.AnswerBytes.{answer_bytes};
+ghost use Rattle.dubp_replay.specs.AnswerBytes.{answer_bytes};
 
 use dubp_atoms::Line;
 

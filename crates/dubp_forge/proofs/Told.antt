@@ -10,11 +10,13 @@ use Rattle.dubp_replay.specs.Answers.{forged_answer, none_answer, refused_answer
 use Rattle.dubp_replay.specs.OfForging.{Forging, IsForged, IsTried}
 use Rattle.dubp_replay.specs.Turns.{IsForgeAnswer, IsForgedAnswer}
 use Rattle.dubp_atoms.specs.declared.no_memory.NoMemory.{NoMemory}
-use Rattle.dubp_statement.specs.OfForge.{ForgeRefusal, Forged, IsForging}
-use Rattle.dubp_statement.specs.OfForge.forge_refusal_variants as refusal
-use Rattle.dubp_query.specs.AnswerBytes.{answer_bytes}
-use Rattle.dubp_query.specs.Forged.{Tells}
-use Rattle.dubp_query.specs.declared.bytes.Answer.{Answer}
+use Rattle.dubp_forge.specs.Forgings.{IsForging}
+use Rattle.dubp_forge.specs.declared.forged.Forged.{Forged}
+use Rattle.dubp_forge.specs.declared.forged.ForgeRefusal.{ForgeRefusal}
+use Rattle.dubp_forge.specs.declared.forged.ForgeRefusal.TheVariants as refusal
+use Rattle.dubp_replay.specs.AnswerBytes.{answer_bytes}
+use Rattle.dubp_forge.specs.Telling.{Tells}
+use Rattle.dubp_replay.specs.declared.answer.Answer.{Answer}
 
 behind : (f : Forging) (c : Chain) (answer : List ℕ) → c ≢ [] → IsForgedAnswer f answer → IsForgeAnswer f c answer
 behind f [] answer some is = absurd (some refl)

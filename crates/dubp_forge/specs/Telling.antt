@@ -7,10 +7,10 @@ use Rattle.dubp_rules.specs.declared.rule.Rule.{Rule}
 use Rattle.dubp_rules.specs.Table.{code_text}
 use Rattle.dubp_atoms.specs.declared.no_memory.NoMemory.{NoMemory}
 use Rattle.dubp_replay.specs.Answers.{left_line, none_answer, refused_answer}
-use Rattle.dubp_statement.specs.OfForge.{ForgeRefusal}
-use Rattle.dubp_statement.specs.OfForge.forge_refusal_variants as refusal
-use Rattle.dubp_query.specs.AnswerBytes.{answer_bytes}
-use Rattle.dubp_query.specs.declared.bytes.Answer.{Answer}
+use Rattle.dubp_forge.specs.declared.forged.ForgeRefusal.{ForgeRefusal}
+use Rattle.dubp_forge.specs.declared.forged.ForgeRefusal.TheVariants as refusal
+use Rattle.dubp_replay.specs.AnswerBytes.{answer_bytes}
+use Rattle.dubp_replay.specs.declared.answer.Answer.{Answer}
 
 -- the lines of these, one behind the other
 abbrev pub left_lines : List (Text × Rule) → List ℕ

@@ -1,6 +1,6 @@
 use Rattle.dubp_replay.specs.OfForging.{Forging}
-use Rattle.dubp_query.proofs.ForgeAnswers.{told_block, told_refusal}
-use Rattle.dubp_query.proofs.forging.forge_answer.Goals as goal
+use Rattle.dubp_forge.proofs.Told.{told_block, told_refusal}
+use Rattle.dubp_forge.proofs.answering.forge_answer.Goals as goal
 
 pub block_answer-requires : goal.block_answer-requires
 block_answer-requires g c = c.in-Ok.ensures.1

@@ -5,15 +5,18 @@ ghost use Rattle.dubp_block.specs.Text.{IsBlock};
 ghost use Rattle.dubp_rules.specs.Table.{code_text};
 ghost use Rattle.dubp_replay.specs.Answers.{forged_answer, left_line, none_answer, refused_answer};
 ghost use Rattle.dubp_replay.specs.Turns.{IsForgeAnswer};
-ghost use Rattle.dubp_query.specs.AnswerBytes.{answer_bytes};
-ghost use Rattle.dubp_query.specs.Forged.{Tells, left_lines};
+ghost use Rattle.dubp_replay.specs.AnswerBytes.{answer_bytes};
+ghost use Rattle.dubp_forge.specs.Telling.{Tells, left_lines};
 
-use crate::bytes::Answer;
+use crate::forged::{ForgeRefusal, Forged};
+use crate::forging::forge;
 use arrayvec::ArrayVec;
 use dubp_atoms::{Hash, Key, Line, NoMemory, put_bytes};
 use dubp_block::put_block;
+use dubp_ledger::{Ledger, PeopleAndMoney};
+use dubp_pool::Pool;
+use dubp_replay::Answer;
 use dubp_rules::{Rule, code};
-use dubp_statement::{ForgeRefusal, Forged, Ledger, PeopleAndMoney, Pool, forge};
 use dubp_verdict::Verdicts;
 use std::alloc::Global;
 

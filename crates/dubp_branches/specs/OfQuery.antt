@@ -1,2 +1,0 @@
--- What those above take from here of the definitions of dubp_query.
-pub use Rattle.dubp_query.specs.AnswerBytes.{answer_bytes}
