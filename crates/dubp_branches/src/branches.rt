@@ -25,13 +25,11 @@ use dubp_forks::{
     Ledger, OfferRefusal, PeopleAndMoney, Store, SubmitRefusal, SwitchRefusal, TooDeep,
 };
 use dubp_query::{Answer, CondText, Query, answer, statement_answer};
+use dubp_replay::LONGEST_BLOCK;
 use dubp_verdict::Verdicts;
 use std::alloc::Global;
 use std::marker::Model;
 use std::sync::ledger::Ledger as StepBook;
-
-/// The raw bytes that a block has at most: rule `X01`.
-pub const LONGEST_BLOCK: usize = 1_048_576;
 
 /// What blocks are judged by and stand in: the verdicts, the ledger, and the stored blocks of branches.
 ///

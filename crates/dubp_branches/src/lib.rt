@@ -12,7 +12,7 @@
 mod branches;
 mod texts;
 
-pub use branches::{Branches, LONGEST_BLOCK};
+pub use branches::Branches;
 pub use dubp_forks::{Ledger, OfferRefusal, PeopleAndMoney, SwitchRefusal};
 pub use dubp_query::{Answer, CondText, Query, head_line, money_line};
 pub use texts::{

@@ -23,8 +23,8 @@ use Rattle.dubp_validity.specs.Records.{records, membership_time, input_of, make
 use Rattle.dubp_validity.specs.declared.record.Record.{Record}
 use Rattle.dubp_validity.specs.declared.record.Record.TheVariants.{Create, Enter, Exit, Join, Active, Leave, Revoke, Expire, ExpireRev, Cert, CertExpire, Spend, Dividend, Clear}
 use Rattle.dubp_validity.specs.Rules.{IsSound}
-use Rattle.dubp_lists.proofs.Elements.{IsIn, in_left, in_right, in_append, in_filter, all_more, filter_twice, list_any-map}
-use Rattle.dubp_lists.proofs.Once.{each_once-map}
+use Rattle.dubp_laws.proofs.OfLists.{IsIn, in_left, in_right, in_append, in_filter, all_more, filter_twice, list_any-map}
+use Rattle.dubp_laws.proofs.OfLists.{each_once-map}
 use Rattle.dubp_chain.specs.Words.{each_once}
 use Rattle.dubp_laws.proofs.Conservation.{conserves}
 use Rattle.dubp_laws.proofs.Sources.{SourcesApart, sources-filter, sum_small}

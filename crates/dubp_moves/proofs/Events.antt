@@ -8,7 +8,7 @@ use Rattle.dubp_chain.specs.OfCond.{Input}
 use Rattle.dubp_chain.specs.Money.{Source, same_source, units_of}
 use Rattle.dubp_validity.specs.LocalRules.{input_units}
 use Rattle.dubp_validity.specs.Records.{input_of}
-use Rattle.dubp_lists.proofs.Elements.{IsIn, in_left, in_right, in_append, in_filter}
+use Rattle.dubp_laws.proofs.OfLists.{IsIn, in_left, in_right, in_append, in_filter}
 use Rattle.dubp_laws.proofs.Sources.{SourcesApart, sources-append, sources-filter}
 use Rattle.dubp_moves.specs.declared.moves.Kind.{Kind}
 use Rattle.dubp_moves.specs.declared.moves.Kind.TheVariants.{Made, Spent, Cleared}

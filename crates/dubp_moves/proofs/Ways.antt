@@ -14,7 +14,7 @@ use Rattle.dubp_chain.specs.Money.{Source, same_source, units_of, named_by, amon
 use Rattle.dubp_validity.specs.LocalRules.{input_units}
 use Rattle.dubp_validity.specs.MoneyRules.{EachMay, is_spent_by, spent}
 use Rattle.dubp_validity.specs.Records.{input_of}
-use Rattle.dubp_lists.proofs.Elements.{and_left, and_right, IsIn, in_left, in_right, in_append, kept_in, none_in, any_in, is_false, filter_on, filter_true, filter_twice}
+use Rattle.dubp_laws.proofs.OfLists.{and_left, and_right, IsIn, in_left, in_right, in_append, kept_in, none_in, any_in, is_false, filter_on, filter_true, filter_twice}
 use Rattle.dubp_laws.proofs.Sources.{same_source_is, same_source_own, SourcesApart, sources-append, sources-filter}
 use Rattle.dubp_laws.proofs.Spending.{AreThere, found_any}
 use Rattle.dubp_laws.proofs.SourceRows.{apart_first, apart_last}

@@ -5,8 +5,8 @@ use Rattle.std.proofs.lemmas.List.Sums.{sum_by-cons, sum_by-append}
 use Rattle.dubp_verdict.specs.OfAtoms.{Text, same_text}
 use Rattle.dubp_chain.specs.OfCond.{cond_text}
 use Rattle.dubp_chain.specs.Money.{Source, same_source, units_of, units_of_cond}
-use Rattle.dubp_lists.proofs.Elements.{IsIn, in_any, any_in, in_filter, kept_in, is_false, list_any-map}
-use Rattle.dubp_lists.proofs.Once.{sum_of_one}
+use Rattle.dubp_laws.proofs.OfLists.{IsIn, in_any, any_in, in_filter, kept_in, is_false, list_any-map}
+use Rattle.dubp_laws.proofs.OfLists.{sum_of_one}
 use Rattle.dubp_laws.proofs.Sources.{same_source_is, same_source_own, SourcesApart, sources_tail, sources_head}
 use Rattle.dubp_moves.specs.Moves.{names_with}
 

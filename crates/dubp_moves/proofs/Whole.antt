@@ -8,7 +8,7 @@ use Rattle.dubp_chain.specs.Chains.{Chain}
 use Rattle.dubp_chain.specs.Heads.{issued}
 use Rattle.dubp_chain.specs.Money.{Source, units_of, is_left, made_by, made_sources, cleared, unspent, unspent_units, cleared_units, balance}
 use Rattle.dubp_validity.specs.Rules.{IsSound}
-use Rattle.dubp_lists.proofs.Elements.{in_left, in_filter}
+use Rattle.dubp_laws.proofs.OfLists.{in_left, in_filter}
 use Rattle.dubp_laws.proofs.Conservation.{conserves}
 use Rattle.dubp_laws.proofs.MadeOnce.{made_sources-once}
 use Rattle.dubp_laws.proofs.Sources.{SourcesApart, sources-filter}

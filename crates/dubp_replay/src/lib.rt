@@ -12,6 +12,7 @@
 mod answer;
 mod command;
 mod failure;
+mod limits;
 mod query;
 
 pub use answer::Answer;
@@ -20,4 +21,5 @@ pub use dubp_chain::Head;
 pub use dubp_moves::{Kind, Move, laws as move_laws};
 pub use dubp_validity::{Record, put_record};
 pub use failure::Failure;
+pub use limits::LONGEST_BLOCK;
 pub use query::Query;

@@ -12,13 +12,13 @@ use Rattle.dubp_rules.specs.declared.rule.Rule.{Rule}
 use Rattle.dubp_rules.specs.Table.{code_text}
 use Rattle.dubp_replay.specs.Answers.{answer_line}
 use Rattle.dubp_gen.specs.declared.chain.GenRefusal.TheVariants.{NoNonce, Invalid}
-use Rattle.dubp_session.specs.Run.{at}
+use Rattle.dubp_entries.specs.Run.{at}
 use Rattle.dubp_session.specs.Forms.{GenEnds, IsWritten}
 use Rattle.dubp_session.specs.declared.generating.GenEnding.{GenEnding}
 use Rattle.dubp_session.specs.declared.generating.GenEnding.TheVariants.{Written, WriteFault, NoRoom}
 use Rattle.dubp_turns.specs.Given.{GivenTurn, IsGivenAll, block_given, verdict_given}
 use Rattle.dubp_session.specs.Generating.{Generates, IsGivenFront, NamesEnd}
-use Rattle.dubp_session.proofs.Sessions.{runs-append}
+use Rattle.dubp_entries.proofs.Sessions.{runs-append}
 
 pub given_none : (s : State) → IsGivenAll [] s s
 given_none s = record { answers = []; run = refl }

@@ -12,12 +12,12 @@ use Rattle.dubp_script.specs.Spelling.{IsCommand, Says}
 use Rattle.dubp_script.specs.Framed.{framed_command}
 use Rattle.dubp_script.specs.declared.framed.Framed.{Framed}
 use Rattle.dubp_script.specs.declared.framed.Framed.TheVariants as framed
-use Rattle.dubp_session.proofs.Wholes.{heads_framed}
-use Rattle.dubp_session.specs.Entries.{Line, Frame, IsWhole, IsBad, HeadsFrame, longest_line}
+use Rattle.dubp_entries.proofs.Wholes.{heads_framed}
+use Rattle.dubp_entries.specs.Entries.{Line, Frame, IsWhole, IsBad, HeadsFrame, longest_line}
 use Rattle.dubp_turns.specs.Acting.{IsHanded, Acts}
 use Rattle.dubp_turns.proofs.Long.{long_block_turn, long_offer_turn}
 use Rattle.dubp_turns.proofs.Pending.{long_pend_turn}
-use Rattle.dubp_session.specs.Turns.{EntryServed}
+use Rattle.dubp_entries.specs.Turns.{EntryServed}
 
 -- the time of a command that has a line is a number
 pub timely : (c : Command) → IsCommand c → IsTimely c

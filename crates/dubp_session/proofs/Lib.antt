@@ -1,13 +1,2 @@
-pub mod Buffers
-pub mod Cuts
-pub mod Exists
-pub mod Gatherings
 pub mod Givens
 pub mod Items
-pub mod Lines
-pub mod Questions
-pub mod RunSteps
-pub mod Serves
-pub mod Sessions
-pub mod Taking
-pub mod Wholes

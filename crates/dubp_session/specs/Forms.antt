@@ -4,7 +4,7 @@ use Rattle.std.specs.Borrow.{Bor}
 use Rattle.std.specs.Io.KnownBytes.{Appends}
 use Rattle.dubp_outside.specs.Causes.{Rose}
 use Rattle.dubp_outside.specs.Parts.{AppendsPart}
-use Rattle.dubp_session.specs.Run.{IsRun, Situation}
+use Rattle.dubp_entries.specs.Run.{IsRun, Situation}
 use Rattle.dubp_session.specs.Generating.{AsksFor, GeneratedAll, GeneratedNone, GeneratedPart}
 use Rattle.dubp_session.specs.declared.form.Form.{Form}
 use Rattle.dubp_session.specs.declared.form.Form.TheVariants.{Run, Gen, Other}

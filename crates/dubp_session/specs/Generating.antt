@@ -15,7 +15,7 @@ use Rattle.dubp_turns.specs.Given.{IsGivenAll, block_given, verdict_given}
 use Rattle.dubp_gen.specs.Generated.{Ends, IsMade, Made}
 use Rattle.dubp_gen.specs.declared.chain.GenRefusal.{GenRefusal}
 use Rattle.dubp_gen.specs.declared.chain.GenRefusal.TheVariants.{NoNonce, Invalid, NoMemory}
-use Rattle.dubp_session.specs.Run.{Situation}
+use Rattle.dubp_entries.specs.Run.{Situation}
 
 -- the words are `gen`, how many blocks, from 1 to 5,000, and the number with which the run of numbers begins
 abbrev pub AsksFor : List (Bor (List ℕ)) → ℕ → ℕ → Type 0

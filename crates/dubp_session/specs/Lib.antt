@@ -1,13 +1,3 @@
-pub mod Entries
-pub mod Cut
-pub mod Turns
-pub mod Session
-pub mod Serving
-pub mod Asking
-pub mod Gathering
-pub mod Run
-pub mod Ends
-pub mod Reading
 pub mod Statuses
 pub mod Generating
 pub mod Forms

@@ -4,7 +4,7 @@ ghost use Rattle.dubp_block.specs.Text.{IsBlock};
 ghost use Rattle.dubp_gen.specs.OfLedger.{IsShort};
 ghost use Rattle.dubp_gen.specs.Generated.{IsMade};
 ghost use Rattle.dubp_gen.specs.Making.{made_of};
-ghost use Rattle.dubp_session.specs.Run.{at};
+ghost use Rattle.dubp_entries.specs.Run.{at};
 ghost use Rattle.dubp_session.specs.Forms.{GenEnds, GenFaults, IsWritten};
 ghost use Rattle.dubp_turns.specs.Given.{IsGivenAll, block_given, verdict_given};
 ghost use Rattle.dubp_session.specs.Generating.{IsGivenFront, commands_of, shown_text};

@@ -10,21 +10,15 @@
 //! ```
 #![tactic(auto)]
 
-mod asking;
-mod buffer;
 mod form;
-mod gathered;
 mod generating;
-mod item;
-mod laws;
-mod reading;
 mod running;
 mod serving;
 mod texts;
 
 pub use dubp_atoms::Secret;
+pub use dubp_entries::cutting;
 pub use dubp_gen::PeopleAndMoney;
 pub use dubp_outside::{MemSink, MemSource, ReadSource, WriteSink};
 pub use dubp_turns::Node;
-pub use laws::cutting;
 pub use running::{NO_ROOM, USAGE, run};

@@ -2,23 +2,22 @@ ghost use Rattle.std.specs.Prelude.{◌≡◌, ◌⊎◌, ◌↔◌, ◌<◌, �
 ghost use Rattle.dubp_outside.specs.Causes.{HasCause};
 ghost use Rattle.dubp_laws.specs.Laws.{IsConserved};
 ghost use Rattle.dubp_validity.specs.Rules.{IsValid};
-ghost use Rattle.dubp_session.specs.Ends.{Ends, Faults, LastEnds};
-ghost use Rattle.dubp_session.specs.Run.{at, AnsweredSome, AnsweredMost, AnsweredToEnd, BrokeOff, IsRun};
-ghost use Rattle.dubp_session.specs.Cut.{BeginsNone};
-ghost use Rattle.dubp_session.specs.Session.{Broke};
-ghost use Rattle.dubp_session.specs.Reading.{Stands, most_at_hand};
-ghost use Rattle.dubp_session.specs.Serving.{ServedAll};
+ghost use Rattle.dubp_entries.specs.Ends.{Ends, Faults, LastEnds};
+ghost use Rattle.dubp_entries.specs.Run.{at, AnsweredSome, AnsweredMost, AnsweredToEnd, BrokeOff, IsRun};
+ghost use Rattle.dubp_entries.specs.Cut.{BeginsNone};
+ghost use Rattle.dubp_entries.specs.Session.{Broke};
+ghost use Rattle.dubp_entries.specs.Reading.{Stands, most_at_hand};
+ghost use Rattle.dubp_entries.specs.Serving.{ServedAll};
 ghost use Rattle.dubp_session.specs.Statuses.{GenStatus, IsStatus, StatusFaults};
 ghost use Rattle.dubp_session.specs.Forms.{GenEnds, GenFaults};
 ghost use Rattle.dubp_session.specs.Generating.{AsksFor, GeneratedAll, GeneratedNone, GeneratedPart, IsGen};
-ghost use Rattle.dubp_session.specs.declared.serving.InputEnd.TheVariants.{OnBoundary, InsideFrame};
+ghost use Rattle.dubp_entries.specs.declared.ends.InputEnd.TheVariants.{OnBoundary, InsideFrame};
 
-use crate::buffer::Buffer;
 use crate::form::{Form, form_of};
 use crate::generating::{GenEnding, generate};
-use crate::reading::Phase;
-use crate::serving::{InputEnd, finish, serve};
+use crate::serving::{finish, serve};
 use dubp_atoms::Steps;
+use dubp_entries::{Buffer, Ending, InputEnd, Phase};
 use dubp_gen::PeopleAndMoney;
 use dubp_laws::conserved;
 use dubp_outside::{Failed, Sink, Source};
@@ -47,17 +46,6 @@ pub const NO_ROOM: u8 = 6;
 
 /// The status where as many bytes were taken as a run takes at most, and more would be needed.
 pub const TOO_MUCH: u8 = 7;
-
-/// How a session ends.
-#[derive(Clone, Copy, PartialEq, Eq)]
-pub enum Ending {
-    /// The input was read to its end.
-    Ended(InputEnd),
-    ReadFault,
-    WriteFault,
-    /// As many bytes were taken as a run takes at most, and more would be needed.
-    TooMuch,
-}
 
 /// How many bytes a run takes at most.
 const MOST_TAKEN: u64 = 1 << 40;

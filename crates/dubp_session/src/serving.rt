@@ -1,25 +1,25 @@
 ghost use Rattle.std.specs.Prelude.{◌≡◌, ◌+◌, ◌-◌, ◌≤◌, ◌++◌, List, ℕ, length, drop, IfOk, OnOk, OnErr, ◌<◌, MatchOption};
 ghost use Rattle.dubp_outside.specs.Causes.{HasCause};
-ghost use Rattle.dubp_session.specs.Cut.{BeginsNone, lacking};
+ghost use Rattle.dubp_entries.specs.Cut.{BeginsNone, lacking};
 ghost use Rattle.dubp_validity.specs.Rules.{longest_block};
-ghost use Rattle.dubp_session.specs.Entries.{Entry, Frame as frame_entry, HeadsFrame, IsWhole, Line as line_entry};
-ghost use Rattle.dubp_session.specs.Turns.{EntryServed, EntryTurn};
+ghost use Rattle.dubp_entries.specs.Entries.{Entry, Frame as frame_entry, HeadsFrame, IsWhole, Line as line_entry};
+ghost use Rattle.dubp_entries.specs.Turns.{EntryServed, EntryTurn};
 ghost use Rattle.dubp_script.specs.Framed.{framed_command, framed_len};
 ghost use Rattle.dubp_script.specs.Spelling.{Says};
 ghost use Rattle.dubp_replay.specs.AnswerBytes.{answer_bytes};
 ghost use Rattle.dubp_replay.specs.Turns.{State};
-ghost use Rattle.dubp_session.specs.Session.{Broke};
-ghost use Rattle.dubp_session.specs.Reading.{Shows, Stands, most_at_hand};
-ghost use Rattle.dubp_session.specs.Asking.{ShowsQuestion};
-ghost use Rattle.dubp_session.specs.Gathering.{TurnOwed, TurnOwedBroke};
-ghost use Rattle.dubp_session.specs.Serving.{TurnWritten, TurnBroke, ServedAll, Finished};
+ghost use Rattle.dubp_entries.specs.Session.{Broke};
+ghost use Rattle.dubp_entries.specs.Reading.{Shows, Stands, most_at_hand};
+ghost use Rattle.dubp_entries.specs.Asking.{ShowsQuestion};
+ghost use Rattle.dubp_entries.specs.Gathering.{TurnOwed, TurnOwedBroke};
+ghost use Rattle.dubp_entries.specs.Serving.{TurnWritten, TurnBroke, ServedAll, Finished};
 
-use crate::asking::is_question;
-use crate::gathered::{Gathered, flush, keep};
-use crate::item::Item;
-use crate::reading::{Found, LONGEST_LINE, Phase, frame_head, line_end, take_one};
 use crate::texts::bad;
 use dubp_atoms::Steps;
+use dubp_entries::{
+    Found, Gathered, InputEnd, Item, LONGEST_LINE, Phase, flush, frame_head, is_question, keep,
+    line_end, take_one,
+};
 use dubp_gen::PeopleAndMoney;
 use dubp_laws::conserved;
 use dubp_outside::{Failed, Sink, write_whole};
@@ -201,15 +201,6 @@ pub fn serve<T: PeopleAndMoney, K: Sink, L: StepBook>(
             }
         }
     }
-}
-
-/// Where the input ended.
-#[derive(Clone, Copy, Debug, PartialEq, Eq)]
-pub enum InputEnd {
-    /// On the boundary of an entry: no frame was begun.
-    OnBoundary,
-    /// Inside a frame.
-    InsideFrame,
 }
 
 /// Answers the last line where it lacks its LF, at the end of the input.

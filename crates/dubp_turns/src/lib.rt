@@ -16,5 +16,5 @@ mod node;
 mod seeing;
 mod texts;
 
-pub use dubp_branches::{Answer, LONGEST_BLOCK, head_line, money_line, numbered, one, refused};
+pub use dubp_branches::{Answer, head_line, money_line, numbered, one, refused};
 pub use node::Node;

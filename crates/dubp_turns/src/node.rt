@@ -14,11 +14,11 @@ use crate::texts::{failures_text, pend_answer};
 use dubp_atoms::{Hash, Key, NoMemory, Secret, Sig, Stamp, Steps};
 use dubp_block::Block;
 use dubp_branches::{
-    Answer, Branches, CondText, LONGEST_BLOCK, Ledger, PeopleAndMoney, Query, forgotten, no_memory,
-    offer_answer, one, refused, unknown,
+    Answer, Branches, CondText, Ledger, PeopleAndMoney, Query, forgotten, no_memory, offer_answer,
+    one, refused, unknown,
 };
 use dubp_pool::Pool;
-use dubp_replay::{Command, Failure};
+use dubp_replay::{Command, Failure, LONGEST_BLOCK};
 use std::alloc::Global;
 use std::marker::Model;
 use std::sync::ledger::Ledger as StepBook;

@@ -1,5 +1,5 @@
 use Rattle.std.proofs.Common.{arith}
-use Rattle.dubp_session.proofs.Serves.{on_err}
+use Rattle.dubp_entries.proofs.Serves.{on_err}
 use Rattle.dubp_session.proofs.Givens.{given_none, verdicts_front, verdicts_more}
 use Rattle.dubp_session.proofs.generating.give_verdicts.Goals as goal
 

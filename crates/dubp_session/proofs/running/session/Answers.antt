@@ -1,5 +1,5 @@
 use Rattle.std.proofs.Common.{arith, ◌∙◌, refl, sym}
-use Rattle.dubp_session.proofs.RunSteps.{so_far_nothing, pauses, reads_on, breaks, answered, answered_most, ends, read_nothing, quiet_end}
+use Rattle.dubp_entries.proofs.RunSteps.{so_far_nothing, pauses, reads_on, breaks, answered, answered_most, ends, read_nothing, quiet_end}
 use Rattle.dubp_session.proofs.running.session.Goals as goal
 
 pub reads-init : goal.reads-init

@@ -1,5 +1,5 @@
 use Rattle.std.proofs.Common.{◌≡◌, ◌≤◌, ◌-◌, ◌^◌}
-use Rattle.dubp_session.specs.Run.{SoFar}
+use Rattle.dubp_entries.specs.Run.{SoFar}
 use Rattle.dubp_session.proofs.running.session.Given as goal
 
 abbrev pub invariant-reads : goal.invariant-reads

@@ -1,9 +1,9 @@
 use Rattle.std.proofs.Common.{refl, subst, arith}
-use Rattle.dubp_session.specs.Cut.{BeginsNone}
-use Rattle.dubp_session.specs.Reading.{Stands}
-use Rattle.dubp_session.proofs.Serves.{finished_frame, finished_line, broke_line, long_line_open}
-use Rattle.dubp_session.proofs.Wholes.{whole_line}
-use Rattle.dubp_session.proofs.Taking.{long_no_head}
+use Rattle.dubp_entries.specs.Cut.{BeginsNone}
+use Rattle.dubp_entries.specs.Reading.{Stands}
+use Rattle.dubp_entries.proofs.Serves.{finished_frame, finished_line, broke_line, long_line_open}
+use Rattle.dubp_entries.proofs.Wholes.{whole_line}
+use Rattle.dubp_entries.proofs.Taking.{long_no_head}
 use Rattle.dubp_session.proofs.serving.finish.Goals as goal
 
 pub returns-in-LongFrame-clause-finished : goal.returns-in-LongFrame-clause-finished

@@ -1,4 +1,4 @@
-use Rattle.dubp_session.proofs.Serves.{finished_line, broke_line}
+use Rattle.dubp_entries.proofs.Serves.{finished_line, broke_line}
 use Rattle.dubp_session.proofs.serving.finish_item.Goals as goal
 
 pub returns-in-Err-clause-broke : goal.returns-in-Err-clause-broke

@@ -1,8 +1,8 @@
 use Rattle.std.proofs.Common.{◌≡◌, [], subst, arith}
 use Rattle.std.proofs.lemmas.List.{nil_from_length}
-use Rattle.dubp_session.specs.Cut.{BeginsNone}
-use Rattle.dubp_session.proofs.Wholes.{heads_len}
-use Rattle.dubp_session.proofs.Serves.{finished_empty, finished_frame, finished_head}
+use Rattle.dubp_entries.specs.Cut.{BeginsNone}
+use Rattle.dubp_entries.proofs.Wholes.{heads_len}
+use Rattle.dubp_entries.proofs.Serves.{finished_empty, finished_frame, finished_head}
 use Rattle.dubp_session.proofs.serving.finish_line.Goals as goal
 
 pub returns-then-is_empty-clause-finished : goal.returns-then-is_empty-clause-finished

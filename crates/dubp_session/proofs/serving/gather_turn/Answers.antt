@@ -1,5 +1,5 @@
-use Rattle.dubp_session.proofs.Gatherings.{on_ok_then, on_err_then, turn_asked, turn_asked_broke}
-use Rattle.dubp_session.proofs.Questions.{asks_same}
+use Rattle.dubp_entries.proofs.Gatherings.{on_ok_then, on_err_then, turn_asked, turn_asked_broke}
+use Rattle.dubp_entries.proofs.Questions.{asks_same}
 use Rattle.dubp_session.proofs.serving.gather_turn.Goals as goal
 
 pub returns-clause-owed : goal.returns-clause-owed

@@ -1,5 +1,5 @@
 use Rattle.dubp_script.specs.Framed.{framed_len}
-use Rattle.dubp_session.proofs.Wholes.{framed_heads}
+use Rattle.dubp_entries.proofs.Wholes.{framed_heads}
 use Rattle.dubp_session.proofs.serving.last_item.Goals as goal
 
 pub returns-in-Some : goal.returns-in-Some

@@ -1,5 +1,5 @@
 use Rattle.std.proofs.Common.{sym, ◌∙◌, refl, ◌≡◌, ap, length, drop, length-drop, ◌-◌, arith}
-use Rattle.dubp_session.proofs.Serves.{owed_nothing, owed_got, owed_broke, rest_more}
+use Rattle.dubp_entries.proofs.Serves.{owed_nothing, owed_got, owed_broke, rest_more}
 use Rattle.dubp_session.proofs.serving.serve.Goals as goal
 
 pub commands-init : goal.commands-init

@@ -1,6 +1,6 @@
 use Rattle.std.proofs.Common.{◌≡◌, ◌-◌, ◌≤◌, ℕ, List, length, drop}
-use Rattle.dubp_session.specs.Gathering.{OwedTo}
-use Rattle.dubp_session.specs.Reading.{Stands}
+use Rattle.dubp_entries.specs.Gathering.{OwedTo}
+use Rattle.dubp_entries.specs.Reading.{Stands}
 use Rattle.dubp_session.proofs.serving.serve.Given as goal
 
 abbrev pub invariant-commands : goal.invariant-commands

@@ -1,4 +1,4 @@
-use Rattle.dubp_session.proofs.Gatherings.{on_ok_then, on_err_then, turn_written, turn_broke}
+use Rattle.dubp_entries.proofs.Gatherings.{on_ok_then, on_err_then, turn_written, turn_broke}
 use Rattle.dubp_session.proofs.serving.take_turn.Goals as goal
 
 pub returns-clause-owed : goal.returns-clause-owed

@@ -1,0 +1,11 @@
+pub mod Buffers
+pub mod Cuts
+pub mod Exists
+pub mod Gatherings
+pub mod Lines
+pub mod Questions
+pub mod RunSteps
+pub mod Serves
+pub mod Sessions
+pub mod Taking
+pub mod Wholes

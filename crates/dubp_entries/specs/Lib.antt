@@ -1,0 +1,10 @@
+pub mod Entries
+pub mod Cut
+pub mod Turns
+pub mod Session
+pub mod Serving
+pub mod Asking
+pub mod Gathering
+pub mod Run
+pub mod Ends
+pub mod Reading

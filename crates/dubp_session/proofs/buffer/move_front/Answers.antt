@@ -1,5 +1,0 @@
-use Rattle.dubp_session.proofs.Buffers.{moved_front}
-use Rattle.dubp_session.proofs.buffer.move_front.Goals as goal
-
-pub returns : goal.returns
-returns c = moved_front _ _ _ _ c.requires.order c.requires.within c.copy_within.ensures.after

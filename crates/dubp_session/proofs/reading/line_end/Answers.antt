@@ -1,5 +1,0 @@
-use Rattle.dubp_session.proofs.Lines.{line_found}
-use Rattle.dubp_session.proofs.reading.line_end.Goals as goal
-
-pub returns : goal.returns
-returns c = line_found _ _ c.memchr.ensures

@@ -1,9 +1,0 @@
-//! Laws of how bytes are cut into entries: the function does nothing, and its contract is the laws.
-ghost use Rattle.dubp_session.specs.Cut.{CutOnce, CutExists, CutGoesOn};
-
-/// Any bytes can be cut into whole entries, in one way, whatever pieces they come in.
-pub fn cutting()
-    ensures once { CutOnce }
-    ensures exists { CutExists }
-    ensures goes_on { CutGoesOn }
-{}
