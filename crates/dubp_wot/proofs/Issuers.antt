@@ -1,15 +1,94 @@
--- The issuers of one key, in order.
-use Rattle.std.proofs.Common.{◌≡◌, ◌≤◌, Bool, true, false, List, [], ◌∷◌, ◌++◌, if◌then◌else◌, Option, Some, length, Contains, refl, sym, subst, arith}
+-- The issuers of one key: as a web says them, in order, and as a list of them comes into a set.
+use Rattle.std.proofs.Common.{◌≡◌, ℕ, ◌+◌, ◌<◌, ◌≤◌, ◌⊎◌, inl, inr, Bool, true, false, List, [], ◌∷◌, ◌++◌, if◌then◌else◌, cond, Vec, Global, Option, Some, None, IfSome, length, get_or, Contains, refl, sym, ap, subst, ◌∙◌, true≢false, arith}
 use Rattle.std.specs.List.{list_any}
 use Rattle.std.proofs.Math.ListN.{length-append}
+use Rattle.std.proofs.lemmas.List.Elements.{Contains-append_left, Contains-append_right, Contains-append_cases}
+use Rattle.std.proofs.lemmas.Bool.{cases_lt}
+use Rattle.std.proofs.lemmas.Option.{slice_get-get_or, same_Some}
 use Rattle.indexmap.specs.IndexSet.{insert_key}
 use Rattle.dubp_atoms.specs.Same.{Text, same_text}
+use Rattle.dubp_wot.specs.Known.{AreIssuersOf}
 use Rattle.dubp_wot.specs.Order.{less, is_above, IsNextIssuer}
 use Rattle.dubp_wot.specs.Search.{In, Grows}
 use Rattle.dubp_wot.proofs.KeyOrder.{less-meets}
-use Rattle.dubp_wot.proofs.Levels.{Grows-none, Grows-then, text_same, In-kept, In-insert, Grows-insert}
+use Rattle.dubp_wot.proofs.Levels.{Grows-then, slice_get-append, text_same, In-insert, Grows-insert}
+use Rattle.dubp_wot.proofs.Members.{Contains-cases, Contains-none}
 
--- ---- what was seen
+-- ---- as a web says them
+
+-- up to the last that was taken, the members who certify the key stand in the list, and no one else
+pub record Taken (members : List Text) (pairs : List (Text × Text)) (to : Text) (after : Option Text) (keys : List Text) : Type 0 where
+  pub only : (a : Text) → Contains keys a → Contains members a × Contains pairs (a, to)
+  pub all : (a : Text) → Contains members a → Contains pairs (a, to) → is_above after a ≡ false → Contains keys a
+
+module _ (members : List Text) (pairs : List (Text × Text)) (to : Text) where
+  pub Taken-none : (keys : List Text) → keys ≡ [] → Taken members pairs to None keys
+  Taken-none keys none = record {
+    only = λ a m. absurd (Contains-none a (subst (λ ks. Contains ks a) none m));
+    all = λ a m pair low. absurd (true≢false low);
+  }
+
+  module _ (after : Option Text) (keys : List Text) (before : Taken members pairs to after keys) where
+    -- where there is no next issuer, all were taken
+    pub Taken-all : IsNextIssuer pairs to after None → AreIssuersOf members pairs to keys
+    Taken-all none a = (before.only a, λ m. before.all a m.0 m.1 (none a m.1))
+
+    module _ (k : Text) (next : IsNextIssuer pairs to after (Some k)) where
+      up_to_next : (a : Text) → Contains pairs (a, to) → less k a ≡ false → (k ≡ a) ⊎ (is_above after a ≡ false)
+      up_to_next a pair low = by (is_above after a) refl
+        where
+          by : (t : Bool) → is_above after a ≡ t → (k ≡ a) ⊎ (is_above after a ≡ false)
+          by true e = inl (less-meets k a low (next.2 a pair e))
+          by false e = inr e
+
+      -- a member is put
+      pub Taken-put : (new : List Text) → new ≡ keys ++ k ∷ [] → Contains members k → Taken members pairs to (Some k) new
+      Taken-put new put in' = subst (Taken members pairs to (Some k)) (sym put) (record { only = only; all = all })
+        where
+          only : (a : Text) → Contains (keys ++ k ∷ []) a → Contains members a × Contains pairs (a, to)
+          only a m = elim (Contains-append_cases keys (k ∷ []) a m) [
+            | inl old ↦ before.only a old
+            | inr last ↦ elim (Contains-cases k a [] last) [
+              | inl e ↦ (subst (Contains members) e in', subst (λ z. Contains pairs (z, to)) e next.0)
+              | inr none ↦ absurd (Contains-none a none)
+            ]
+          ]
+
+          all : (a : Text) → Contains members a → Contains pairs (a, to) → less k a ≡ false → Contains (keys ++ k ∷ []) a
+          all a m pair low = elim (up_to_next a pair low) [
+            | inl e ↦ subst (Contains (keys ++ k ∷ [])) e (Contains-append_right keys (k ∷ []) k (0, omega arith, refl))
+            | inr down ↦ Contains-append_left keys (k ∷ []) a (before.all a m pair down)
+          ]
+
+      -- one who is no member is passed over
+      pub Taken-pass : (Contains members k → ⊥) → Taken members pairs to (Some k) keys
+      Taken-pass out = record {
+        only = before.only;
+        all = λ a m pair low. elim (up_to_next a pair low) [
+          | inl e ↦ absurd (out (subst (Contains members) (sym e) m))
+          | inr down ↦ before.all a m pair down
+        ];
+      }
+
+-- what holds of the value that is there
+pub if_there : {X : Type 0} (P : X → Type 0) (found : Option X) (x : X) → found ≡ Some x → IfSome found P → P x
+if_there {X = X} P found x is h = subst (λ (o : Option X). IfSome o P) is h
+
+-- those of one key more are known
+module _ (members : List Text) (pairs : List (Text × Text)) (to : Text) (keys : Vec Text Global) (old new : Text → Option (Vec Text Global)) where
+  abbrev AreKnown : (Text → Option (Vec Text Global)) → Type 0
+  AreKnown known = (k : Text) → IfSome (known k) (λ found. AreIssuersOf members pairs k found.items)
+
+  pub known-put : AreKnown old → ((k : Text) → new k ≡ cond (same_text to k) (Some keys) (old k)) → AreIssuersOf members pairs to keys.items → AreKnown new
+  known-put before put mine k =
+      let P : Vec Text Global → Type 0 = λ found. AreIssuersOf members pairs k found.items in
+      subst (λ (o : Option (Vec Text Global)). IfSome o P) (sym (put k))
+      (elim (same_text to k) as (λ t. same_text to k ≡ t → IfSome (cond t (Some keys) (old k)) P) [
+        | true ↦ λ same. subst (λ z. AreIssuersOf members pairs z keys.items) (text_same to k same) mine
+        | false ↦ λ _. before k
+      ] refl)
+
+-- ---- as they come into a set
 
 pub longer-insert : (eq : Text → Text → Bool) (keys : List Text) (k : Text) → length keys ≤ length (insert_key eq keys k)
 longer-insert eq keys k = by (list_any (eq k) keys)
@@ -18,32 +97,29 @@ longer-insert eq keys k = by (list_any (eq k) keys)
     by true = omega arith
     by false = omega (arith, length-append keys (k ∷ []))
 
--- what the loop keeps: keys were added, and each issuer up to the last that was taken stands in the list if it is a member
-pub record Seen (members : List Text) (pairs : List (Text × Text)) (to : Text) (after : Option Text) (old keys : List Text) : Type 0 where
-  pub grows : Grows members pairs (λ b. b ≡ to) old keys
-  pub seen : (a : Text) → Contains members a → Contains pairs (a, to) → is_above after a ≡ false → In keys a
+In-insert_old : (eq : Text → Text → Bool) (keys : List Text) (k a : Text) → In keys a → In (insert_key eq keys k) a
+In-insert_old eq keys k a m = by (list_any (eq k) keys)
+  where
+    by : (t : Bool) → In (if t then keys else keys ++ k ∷ []) a
+    by true = m
+    by false = (m.0, slice_get-append keys (k ∷ []) m.0 a m.1)
 
-module _ (members : List Text) (pairs : List (Text × Text)) (to : Text) (after : Option Text) (k : Text) (old keys : List Text)
-    (next : IsNextIssuer pairs to after (Some k)) (before : Seen members pairs to after old keys) where
-  seen-after : (new : List Text) → Grows members pairs (λ b. b ≡ to) keys new → (Contains members k → In new k)
-      → (a : Text) → Contains members a → Contains pairs (a, to) → less k a ≡ false → In new a
-  seen-after new g here a in' pair low = by (is_above after a) refl
-    where
-      by : (t : Bool) → is_above after a ≡ t → In new a
-      by false e = In-kept members pairs (λ b. b ≡ to) keys new g a (before.seen a in' pair e)
-      by true e =
-          let same = less-meets k a low (next.2 a pair e) in
-          subst (In new) same (here (subst (Contains members) (sym same) in'))
+-- one issuer more is in the set
+module _ (issuers : List Text) (i : ℕ) (k : Text) (within : i < length issuers) (at : k ≡ get_or issuers i k) (old keys new : List Text) (put : new ≡ insert_key same_text keys k) where
+  pub Grows-put : (members : List Text) (pairs : List (Text × Text)) (to : Text) → AreIssuersOf members pairs to issuers
+      → Grows members pairs (λ b. b ≡ to) old keys → Grows members pairs (λ b. b ≡ to) old new
+  Grows-put members pairs to are before =
+      let m = (are k).0 (i, within, sym at) in
+      Grows-then members pairs (λ b. b ≡ to) old keys new before
+      (subst (Grows members pairs (λ b. b ≡ to) keys) (sym put) (Grows-insert members pairs same_text (λ b. b ≡ to) keys k to m.0 refl m.1))
 
-  -- a member is inserted
-  pub Seen-put : (new : List Text) → new ≡ insert_key same_text keys k → Contains members k → Seen members pairs to (Some k) old new
-  Seen-put new put in' =
-      let g = subst (Grows members pairs (λ b. b ≡ to) keys) (sym put) (Grows-insert members pairs same_text (λ b. b ≡ to) keys k to in' refl next.0) in
-      record {
-        grows = Grows-then members pairs (λ b. b ≡ to) old keys new before.grows g;
-        seen = seen-after new g (λ _. subst (λ z. In z k) (sym put) (In-insert same_text text_same keys k));
-      }
-
-  -- one who is no member is passed over
-  pub Seen-skip : (Contains members k → ⊥) → Seen members pairs to (Some k) old keys
-  Seen-skip out = record { grows = before.grows; seen = seen-after keys (Grows-none members pairs (λ b. b ≡ to) keys) (λ in'. absurd (out in')) }
+  pub In-put : ((a : Text) (j : ℕ) → j < i → get_or issuers j a ≡ a → In keys a) → (a : Text) (j : ℕ) → j < i + 1 → get_or issuers j a ≡ a → In new a
+  In-put before a j low here =
+      subst (λ ks. In ks a) (sym put) (elim (cases_lt j i) [
+        | inl below ↦ In-insert_old same_text keys k a (before a j below here)
+        | inr past ↦
+            let j_is : j ≡ i = omega arith in
+            let mine = slice_get-get_or issuers i k within ∙ ap Some (sym at) in
+            let its = slice_get-get_or issuers i a within ∙ ap Some (subst (λ n. get_or issuers n a ≡ a) j_is here) in
+            subst (In (insert_key same_text keys k)) (same_Some k a (sym mine ∙ its)) (In-insert same_text text_same keys k)
+      ])

@@ -1,2 +1,3 @@
+pub mod Known
 pub mod Order
 pub mod Search

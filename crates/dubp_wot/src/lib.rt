@@ -6,18 +6,21 @@
 //!
 //! ```text
 //! let sentries = sentries(alloc, &web, steps_max)?;
+//! let mut known = KnownIssuers::new(alloc, web.secret());
 //! for target in joiners {
-//!     let (reached, all) = reaches_among(alloc, &web, &sentries, target, steps_max)?;
+//!     let (reached, all) = reaches_among_known(alloc, &web, &mut known, &sentries, target, steps_max)?;
 //!     let is_far = u128::from(reached) * 100 < u128::from(all) * u128::from(percent);
 //! }
 //! let (reached, all) = reaches(alloc, &web, target, steps_max)?;
 //! ```
 #![tactic(auto)]
 
+mod known;
 mod reaching;
 mod sentry;
 mod web;
 
-pub use reaching::{reaches, reaches_among};
+pub use known::KnownIssuers;
+pub use reaching::{reaches, reaches_among, reaches_among_known};
 pub use sentry::{d_sen, sentries};
 pub use web::Web;

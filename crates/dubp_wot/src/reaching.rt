@@ -2,8 +2,10 @@ ghost use Rattle.std.specs.Prelude.{◌≡◌, ◌≤◌, ◌<◌, ◌↔◌, �
 ghost use Rattle.indexmap.specs.IndexSet.{contains, insert_key};
 ghost use Rattle.dubp_atoms.specs.Same.{Text, same_text};
 ghost use Rattle.dubp_atoms.specs.Walks.{Reaches, IsCountOf, IsReachedBy, others, sentries_of};
+ghost use Rattle.dubp_wot.specs.Known.{AreIssuersOf, KnowIssuers};
 ghost use Rattle.dubp_wot.specs.Search.{Grows, Closed, In};
 
+use crate::known::KnownIssuers;
 use crate::sentry::sentries;
 use crate::web::Web;
 use dubp_atoms::{Key, NoMemory, Secret};
@@ -41,7 +43,27 @@ pub fn reaches_among<W: Web>(
     ensures reached { IfOk result (λ r. (members : List Text) (pairs : List (Text × Text)) → W.shows web.now members pairs → IsCountOf (λ s. Reaches members pairs steps_max s target) (others sentries.now target) r.0) }
     ensures count { IfOk result (λ r. r.1 ≡ length (others sentries.now target)) }
 {
-    let found = find_reaching(alloc, web, target, steps_max)?;
+    let mut known = KnownIssuers::new(alloc, web.secret());
+    reaches_among_known(alloc, web, &mut known, sentries, target, steps_max)
+}
+
+/// The same with what is known of the web, which is asked only for what is not: for many targets in one web.
+///
+/// `NoMemory` where there is no memory for the search, or for what it came to know; what is known is true then, too.
+pub fn reaches_among_known<W: Web>(
+    alloc: Global,
+    web: &W,
+    known: &mut KnownIssuers,
+    sentries: &[Key],
+    target: Key,
+    steps_max: u64,
+) -> Result<(u64, u64), NoMemory>
+    requires known { (members : List Text) (pairs : List (Text × Text)) → W.shows web.now members pairs → KnowIssuers members pairs known.old }
+    ensures known { (members : List Text) (pairs : List (Text × Text)) → W.shows web.now members pairs → KnowIssuers members pairs known.new }
+    ensures reached { IfOk result (λ r. (members : List Text) (pairs : List (Text × Text)) → W.shows web.now members pairs → IsCountOf (λ s. Reaches members pairs steps_max s target) (others sentries.now target) r.0) }
+    ensures count { IfOk result (λ r. r.1 ≡ length (others sentries.now target)) }
+{
+    let found = find_reaching(alloc, web, known, target, steps_max)?;
     let reached = count_found(sentries, target, &found);
     let all = count_others(sentries, target);
     Ok((reached as u64, all as u64))
@@ -51,10 +73,13 @@ pub fn reaches_among<W: Web>(
 fn find_reaching<W: Web>(
     alloc: Global,
     web: &W,
+    known: &mut KnownIssuers,
     target: Key,
     steps_max: u64,
 ) -> Result<IndexSet<Key, Secret>, NoMemory>
-    ensures { IfOk result (λ s. (members : List Text) (pairs : List (Text × Text)) → W.shows web.now members pairs → (a : Text) → IsTrue (contains same_text s a) ↔ Reaches members pairs steps_max a target) }
+    requires known { (members : List Text) (pairs : List (Text × Text)) → W.shows web.now members pairs → KnowIssuers members pairs known.old }
+    ensures known { (members : List Text) (pairs : List (Text × Text)) → W.shows web.now members pairs → KnowIssuers members pairs known.new }
+    ensures reaching { IfOk result (λ s. (members : List Text) (pairs : List (Text × Text)) → W.shows web.now members pairs → (a : Text) → IsTrue (contains same_text s a) ↔ Reaches members pairs steps_max a target) }
 {
     let mut found = IndexSet::with_hasher(alloc, web.secret());
     if !web.is_member(&target) {
@@ -67,7 +92,7 @@ fn find_reaching<W: Web>(
         if start == end {
             return Ok(found);
         }
-        add_level(web, start, &mut found)?;
+        add_level(alloc, web, known, start, &mut found)?;
         start = end;
     }
     Ok(found)
@@ -75,38 +100,35 @@ fn find_reaching<W: Web>(
 
 /// Adds the next level: the members who certify a key from `start` on.
 fn add_level<W: Web>(
+    alloc: Global,
     web: &W,
+    known: &mut KnownIssuers,
     start: usize,
     found: &mut IndexSet<Key, Secret>,
 ) -> Result<(), NoMemory>
+    requires known { (members : List Text) (pairs : List (Text × Text)) → W.shows web.now members pairs → KnowIssuers members pairs known.old }
+    ensures known { (members : List Text) (pairs : List (Text × Text)) → W.shows web.now members pairs → KnowIssuers members pairs known.new }
     ensures grows { OnOk result ((members : List Text) (pairs : List (Text × Text)) → W.shows web.now members pairs → Grows members pairs (In found.old.keys) found.old.keys found.new.keys) }
     ensures closed { OnOk result ((members : List Text) (pairs : List (Text × Text)) → W.shows web.now members pairs → Closed members pairs start found.old.keys → Closed members pairs (length found.old.keys) found.new.keys) }
 {
     for i in start..found.len() {
         let to = found[i];
-        add_issuers(web, to, found)?;
+        known.ask(alloc, web, to)?;
+        add_issuers(known.of(&to), found)?;
     }
     Ok(())
 }
 
-/// Adds the members who certify `to`.
-fn add_issuers<W: Web>(web: &W, to: Key, found: &mut IndexSet<Key, Secret>) -> Result<(), NoMemory>
+/// Adds the members who certify a key.
+fn add_issuers(issuers: &[Key], found: &mut IndexSet<Key, Secret>) -> Result<(), NoMemory>
     ensures longer { OnOk result (length found.old.keys ≤ length found.new.keys) }
-    ensures grows { OnOk result ((members : List Text) (pairs : List (Text × Text)) → W.shows web.now members pairs → Grows members pairs (λ b. b ≡ to) found.old.keys found.new.keys) }
-    ensures all { OnOk result ((members : List Text) (pairs : List (Text × Text)) → W.shows web.now members pairs → (a : Text) → Contains members a → Contains pairs (a, to) → In found.new.keys a) }
+    ensures grows { OnOk result ((members : List Text) (pairs : List (Text × Text)) (to : Text) → AreIssuersOf members pairs to issuers.now → Grows members pairs (λ b. b ≡ to) found.old.keys found.new.keys) }
+    ensures all { OnOk result ((a : Text) → Contains issuers.now a → In found.new.keys a) }
 {
-    let mut after = None;
-    // what a web shows is no value, so no measure speaks of it; there are fewer issuers than turns
-    'issuers: for _ in 0..u64::MAX {
-        let Some(from) = web.next_issuer(to, after) else {
-            return Ok(());
-        };
-        if web.is_member(&from) {
-            insert(found, from)?;
-        }
-        after = Some(from);
+    for from in issuers {
+        insert(found, *from)?;
     }
-    Err(NoMemory)
+    Ok(())
 }
 
 /// Adds the key, unless the set has it.

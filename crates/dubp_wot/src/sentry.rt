@@ -81,7 +81,7 @@ fn has_issued_and_received_least<W: Web>(web: &W, key: &Key, least: u64) -> bool
 }
 
 /// Appends the key.
-fn push(found: &mut Vec<Key>, key: Key) -> Result<(), NoMemory>
+pub(crate) fn push(found: &mut Vec<Key>, key: Key) -> Result<(), NoMemory>
     ensures { OnOk result (found.new.items ≡ found.old.items ++ key ∷ []) }
 {
     found.push(key).map_err(|_| NoMemory)

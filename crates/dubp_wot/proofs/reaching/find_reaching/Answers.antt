@@ -4,8 +4,8 @@ use Rattle.indexmap.specs.IndexSet.{insert_key}
 use Rattle.dubp_wot.proofs.Levels.{Level, Level-first, Level-next, Level-end, Level-test, nobody, text_same, text_own, Closed-less, Closed-none}
 use Rattle.dubp_wot.proofs.reaching.find_reaching.Goals as goal
 
-pub returns-then-not-is_member : goal.returns-then-not-is_member
-returns-then-not-is_member g c = λ members pairs shown.
+pub returns-then-not-is_member-clause-reaching : goal.returns-then-not-is_member-clause-reaching
+returns-then-not-is_member-clause-reaching g c = λ members pairs shown.
     nobody members pairs c.args.target same_text c.args.steps_max c.with_hasher-found.result.keys c.with_hasher-found.ensures.empty
     (λ h. true≢false (sym ((c.is_member.ensures members pairs shown).1 h) ∙ c.if-not-is_member.true))
 
@@ -14,14 +14,15 @@ loop-level-init g c =
     let target = c.args.target in
     let e : c.insert.new.found.keys ≡ target ∷ [] = c.in_ok-insert.ensures ∙ ap (λ ks. insert_key same_text ks target) c.with_hasher-found.ensures.empty in
     record {
+      known = c.requires.known;
       closed = λ members pairs shown. Closed-none members pairs c.insert.new.found.keys;
       level = λ members pairs shown.
           subst (Level members pairs target 0) (sym e)
           (Level-first members pairs target ((c.is_member.ensures members pairs shown).0 c.if-not-is_member.false));
     }
 
-pub returns-then-start-end : goal.returns-then-start-end
-returns-then-start-end g c = λ members pairs shown.
+pub returns-then-start-end-clause-reaching : goal.returns-then-start-end-clause-reaching
+returns-then-start-end-clause-reaching g c = λ members pairs shown.
     let target = c.args.target in
     let keys = c.loop-level.found.keys in
     Level-test members pairs target same_text text_same text_own c.args.steps_max keys
@@ -33,6 +34,7 @@ loop-level-preserved g c =
     let old = c.loop-level.found.keys in
     let new = c.add_level.new.found.keys in
     record {
+      known = c.add_level.ensures.known;
       closed = λ members pairs shown.
           Closed-less members pairs c.len-end.result (length old) new (omega arith)
           (c.in_ok-add_level.ensures.closed members pairs shown (c.loop-level.invariant.closed members pairs shown));
@@ -42,8 +44,8 @@ loop-level-preserved g c =
           (c.in_ok-add_level.ensures.closed members pairs shown (c.loop-level.invariant.closed members pairs shown));
     }
 
-pub returns : goal.returns
-returns g c = λ members pairs shown.
+pub returns-clause-reaching : goal.returns-clause-reaching
+returns-clause-reaching g c = λ members pairs shown.
     let keys = c.loop-level.found.keys in
     let all : c.loop-level.level ≡ c.args.steps_max = omega arith in
     Level-test members pairs c.args.target same_text text_same text_own c.args.steps_max keys
