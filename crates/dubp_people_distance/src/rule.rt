@@ -1,5 +1,6 @@
-ghost use Rattle.std.specs.Prelude.{◌≡◌, ◌↔◌, [], ◌∷◌, ◌<◌, ◌≤◌, ◌^◌, ◌*◌, length, IfOk, IsTrue};
+ghost use Rattle.std.specs.Prelude.{◌≡◌, ◌↔◌, List, [], ◌∷◌, ◌<◌, ◌≤◌, ◌^◌, ◌*◌, length, IfOk, IsTrue};
 ghost use Rattle.std.specs.List.{AllByRecursion};
+ghost use Rattle.dubp_atoms.specs.Same.{Text};
 ghost use Rattle.dubp_chain.specs.Chains.{Chain, params as params_of};
 ghost use Rattle.dubp_chain.specs.Distance.{sentries as sentries_on};
 ghost use Rattle.dubp_chain.specs.Live.{live_pairs};
@@ -7,6 +8,7 @@ ghost use Rattle.dubp_chain.specs.Members.{members};
 ghost use Rattle.dubp_people_after.specs.OfLeft.{IsAsked};
 ghost use Rattle.dubp_people_after.specs.OfValidity.{ComersPass};
 ghost use Rattle.dubp_people_distance.specs.Webs.{HasPassed};
+ghost use Rattle.dubp_wot.specs.Known.{KnowIssuers};
 
 use crate::next_web::NextWeb;
 use crate::two_chains::{Judged, TwoChains};
@@ -15,7 +17,7 @@ use dubp_block::{Block, MemberLine};
 use dubp_params::Params;
 use dubp_people_after::{After, Next, Registry, WithBlock};
 use dubp_undo::Tables;
-use dubp_wot::{Web, reaches_among, sentries};
+use dubp_wot::{KnownIssuers, Web, reaches_among_known, sentries};
 use std::alloc::Global;
 
 /// Each key of Joiners and Actives passes the distance rule in the new chain: rule `G76`.
@@ -73,7 +75,7 @@ fn has_no_steps(params: &Params) -> bool
     params.step_max == 0
 }
 
-/// Whether each key of Joiners and Actives is near enough to the sentries of the web.
+/// Whether each key of Joiners and Actives is near enough to the sentries of the web, which is asked for the issuers of a key once.
 fn both_pass<W: Web>(
     alloc: Global,
     web: &W,
@@ -83,11 +85,14 @@ fn both_pass<W: Web>(
 ) -> Result<bool, NoMemory>
     ensures { IfOk result (λ holds. (c : Chain) → W.shows web.now (members (block.now ∷ c)) (live_pairs (block.now ∷ c)) → params.now ≡ params_of (block.now ∷ c) → sentries.now ≡ sentries_on (block.now ∷ c) → (IsTrue holds ↔ ComersPass c block.now)) }
 {
-    let joiners = lines_pass(alloc, web, sentries, params, block.joiners.as_slice())?;
+    let mut known = KnownIssuers::new(alloc, web.secret());
+    let lines = block.joiners.as_slice();
+    let joiners = lines_pass(alloc, web, &mut known, sentries, params, lines)?;
     if !joiners {
         return Ok(false);
     }
-    let actives = lines_pass(alloc, web, sentries, params, block.actives.as_slice())?;
+    let lines = block.actives.as_slice();
+    let actives = lines_pass(alloc, web, &mut known, sentries, params, lines)?;
     Ok(actives)
 }
 
@@ -95,14 +100,17 @@ fn both_pass<W: Web>(
 fn lines_pass<W: Web>(
     alloc: Global,
     web: &W,
+    known: &mut KnownIssuers,
     sentries: &[Key],
     params: &Params,
     lines: &[MemberLine],
 ) -> Result<bool, NoMemory>
-    ensures { IfOk result (λ holds. (d : Chain) → W.shows web.now (members d) (live_pairs d) → params.now ≡ params_of d → sentries.now ≡ sentries_on d → (IsTrue holds ↔ AllByRecursion (HasPassed d) lines.now)) }
+    requires known { (keys : List Text) (pairs : List (Text × Text)) → W.shows web.now keys pairs → KnowIssuers keys pairs known.old }
+    ensures known { (keys : List Text) (pairs : List (Text × Text)) → W.shows web.now keys pairs → KnowIssuers keys pairs known.new }
+    ensures pass { IfOk result (λ holds. (d : Chain) → W.shows web.now (members d) (live_pairs d) → params.now ≡ params_of d → sentries.now ≡ sentries_on d → (IsTrue holds ↔ AllByRecursion (HasPassed d) lines.now)) }
 {
     for line in lines {
-        if !line_passes(alloc, web, sentries, params, line)? {
+        if !line_passes(alloc, web, known, sentries, params, line)? {
             return Ok(false);
         }
     }
@@ -113,13 +121,17 @@ fn lines_pass<W: Web>(
 fn line_passes<W: Web>(
     alloc: Global,
     web: &W,
+    known: &mut KnownIssuers,
     sentries: &[Key],
     params: &Params,
     line: &MemberLine,
 ) -> Result<bool, NoMemory>
-    ensures { IfOk result (λ holds. (d : Chain) → W.shows web.now (members d) (live_pairs d) → params.now ≡ params_of d → sentries.now ≡ sentries_on d → (IsTrue holds ↔ HasPassed d line.now)) }
+    requires known { (keys : List Text) (pairs : List (Text × Text)) → W.shows web.now keys pairs → KnowIssuers keys pairs known.old }
+    ensures known { (keys : List Text) (pairs : List (Text × Text)) → W.shows web.now keys pairs → KnowIssuers keys pairs known.new }
+    ensures passes { IfOk result (λ holds. (d : Chain) → W.shows web.now (members d) (live_pairs d) → params.now ≡ params_of d → sentries.now ≡ sentries_on d → (IsTrue holds ↔ HasPassed d line.now)) }
 {
-    let (reached, count) = reaches_among(alloc, web, sentries, line.key, params.step_max)?;
+    let steps_max = params.step_max;
+    let (reached, count) = reaches_among_known(alloc, web, known, sentries, line.key, steps_max)?;
     Ok(is_near(params.xpercent, reached, count))
 }
 

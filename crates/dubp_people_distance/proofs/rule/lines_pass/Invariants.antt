@@ -1,11 +1,16 @@
-use Rattle.std.proofs.Common.{◌≡◌}
+use Rattle.std.proofs.Common.{◌≡◌, List}
+use Rattle.dubp_atoms.specs.Same.{Text}
 use Rattle.dubp_chain.specs.Chains.{Chain, params}
 use Rattle.dubp_chain.specs.Distance.{sentries}
 use Rattle.dubp_chain.specs.Live.{live_pairs}
 use Rattle.dubp_chain.specs.Members.{members}
 use Rattle.dubp_people_after.proofs.Rests.{Rests}
 use Rattle.dubp_people_distance.specs.Webs.{HasPassed}
+use Rattle.dubp_wot.specs.Known.{KnowIssuers}
 use Rattle.dubp_people_distance.proofs.rule.lines_pass.Given as goal
 
 abbrev pub invariant-loop-line : goal.invariant-loop-line
-invariant-loop-line g l = (d : Chain) → g.W.Web.shows l.web (members d) (live_pairs d) → l.params ≡ params d → l.sentries ≡ sentries d → Rests (HasPassed d) l.lines l.line-index
+invariant-loop-line g l = record {
+  known : (keys : List Text) (pairs : List (Text × Text)) → g.W.Web.shows l.web keys pairs → KnowIssuers keys pairs l.known;
+  rests : (d : Chain) → g.W.Web.shows l.web (members d) (live_pairs d) → l.params ≡ params d → l.sentries ≡ sentries d → Rests (HasPassed d) l.lines l.line-index;
+}
