@@ -1,20 +1,16 @@
 -- What the code knows of `item_at` in each case of a front.
 use Rattle.std.proofs.Common.{◌≡◌, ◌≢◌, ℕ, zero, suc, ◌-◌, Bool, true, false, List, codes, Option, Some, None, option_map, refl, sym, ap, ◌∙◌, arith, if◌then◌else◌}
-use Rattle.std.specs.declared.boxed.Box.{Box}
-use Rattle.std.specs.declared.alloc.Global.{Global}
 use Rattle.dubp_cond.specs.Tree.{CondTree, group}
 use Rattle.dubp_cond.specs.Conditions.{item_text, all_text}
 use Rattle.dubp_cond.specs.View.{item_tree}
 use Rattle.dubp_cond.specs.Separated.{after}
 use Rattle.dubp_cond.specs.Reading.{front_at, item_at, all_at, cond_at, group_with}
-use Rattle.dubp_cond.specs.Gives.{Gives, left_of, Passes, front_view}
+use Rattle.dubp_cond.specs.Gives.{left_of, Passes, front_view}
 use Rattle.dubp_cond.specs.declared.tree.Item.{Item}
-use Rattle.dubp_cond.specs.declared.tree.Item.TheVariants.{Group as group_item}
-use Rattle.dubp_cond.specs.declared.tree.Cond.{Cond}
 use Rattle.dubp_cond.specs.declared.front.Front.{Front}
 use Rattle.dubp_cond.specs.declared.front.Front.TheVariants.{Leaf}
 use Rattle.dubp_cond.proofs.Turns.{Shrinks, shrinks}
-use Rattle.dubp_cond.proofs.Loops.{word_absent, word_there, given_none, given_some, no_value, a_value}
+use Rattle.dubp_cond.proofs.Loops.{no_value, a_value}
 use Rattle.dubp_cond.proofs.Items.{GoodItem}
 use Rattle.dubp_cond.proofs.Conditions.{GoodAll, item_at_finds, all_with_finds}
 
@@ -38,25 +34,10 @@ module _ (groups : ℕ) (at rest : List ℕ) (f : Front) (h : Some (front_view f
   unfolding item_at
   item_shut z e = rw (z, ← h, e) refl
 
-opens : (groups : ℕ) (at rest : List ℕ) (f : Front) → groups ≢ 0 → Some (front_view f, rest) ≡ front_at at → f ≡ Front.Group → item_at groups at ≡ group_with (cond_at (groups - 1)) rest
+pub opens : (groups : ℕ) (at rest : List ℕ) (f : Front) → groups ≢ 0 → Some (front_view f, rest) ≡ front_at at → f ≡ Front.Group → item_at groups at ≡ group_with (cond_at (groups - 1)) rest
 unfolding item_at
 opens zero at rest f z h e = absurd (z refl)
 opens (suc n) at rest f z h e = let i : suc n - 1 ≡ n = omega arith in rw (← h, e, i) refl
-
--- a group is read
-module _ (groups : ℕ) (at rest : List ℕ) (f : Front) (some : groups ≢ 0) (h : Some (front_view f, rest) ≡ front_at at) (e : f ≡ Front.Group) (left : List ℕ) (o : Option Cond)
-    (g : Gives (λ (c : CondTree). c) o left (cond_at (groups - 1) rest)) where
-  pub group_no_cond : o ≡ None → item_at groups at ≡ None
-  group_no_cond n = opens groups at rest f some h e ∙ rw (given_none (λ (c : CondTree). c) o left (cond_at (groups - 1) rest) g n) refl
-
-  pub group_not_closed : (x : Cond) (next : List ℕ) (taken : Bool) → o ≡ Some x → (if taken then Some next else None) ≡ after (codes ")") left → taken ≡ false → item_at groups at ≡ None
-  group_not_closed x next taken n w no_word =
-      opens groups at rest f some h e ∙ rw (given_some (λ (c : CondTree). c) o x left (cond_at (groups - 1) rest) g n, word_absent taken next (after (codes ")") left) w no_word) refl
-
-  pub group_closed : (x : Cond) (next : List ℕ) (taken : Bool) (b : Box Cond Global) → o ≡ Some x → (if taken then Some next else None) ≡ after (codes ")") left → taken ≡ true → b.value ≡ x →
-      item_at groups at ≡ Some (item_tree (group_item b), next)
-  group_closed x next taken b n w word same =
-      opens groups at rest f some h e ∙ rw (given_some (λ (c : CondTree). c) o x left (cond_at (groups - 1) rest) g n, word_there taken next (after (codes ")") left) w word, ← same) refl
 
 -- a group is passed
 closing_left : (c : CondTree) (o : Option (List ℕ)) → left_of (option_map (λ rest. (group c, rest)) o) ≡ o

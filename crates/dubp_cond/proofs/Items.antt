@@ -10,7 +10,7 @@ use Rattle.dubp_cond.specs.Tree.{ItemTree, sig, xhx, csv, cltv, group, CondTree,
 use Rattle.dubp_cond.specs.Conditions.{and_word, or_word, item_text, cond_text, FitsItem, FitsCond}
 use Rattle.dubp_cond.specs.Separated.{Read, after, read_map, closed}
 use Rattle.dubp_cond.specs.Finding.{Finds, Again}
-use Rattle.dubp_cond.specs.Reading.{group_with, front_at, item_on, item_with}
+use Rattle.dubp_cond.specs.Reading.{group_with, leaf_at, front_at, item_on, item_with}
 use Rattle.dubp_cond.proofs.Readers.{map_some, either_some, after_found, Unparses, with_end, closed_finds, closed_again}
 
 -- no atom has a `)` in it
@@ -44,47 +44,53 @@ Fronts d text None rest = text ≡ codes "(" ++ rest
 
 tagged : {A : Type 0} (word : List ℕ) (read : Read A) (make : A → ItemTree) (spell : A → List ℕ) (Good : A → Type 0) (d : ℕ) → Finds read spell Good →
     ((x : A) → Good x → GoodItem d (make x)) → ((x : A) → word ++ spell x ≡ item_text (make x)) →
-    (text : List ℕ) (o : Option ItemTree) (rest : List ℕ) → (r : List ℕ) × (after word text ≡ Some r) × (read_map (λ x. Some (make x)) (read r) ≡ Some (o, rest)) →
-    Fronts d text o rest
-tagged {A} word read make spell Good d finds good spells text o rest a =
-    let m = map_some (λ (p : A × List ℕ). (Some (make p.0), p.1)) (read a.0) (o, rest) a.2 in
+    (text : List ℕ) (i : ItemTree) (rest : List ℕ) → (r : List ℕ) × (after word text ≡ Some r) × (read_map make (read r) ≡ Some (i, rest)) →
+    (text ≡ item_text i ++ rest) × GoodItem d i
+tagged {A} word read make spell Good d finds good spells text i rest a =
+    let m = map_some (λ (p : A × List ℕ). (make p.0, p.1)) (read a.0) (i, rest) a.2 in
     let f = finds a.0 m.0.0 m.0.1 m.1 in
     done m.0.0 a.0 m.0.1 (after_found word text a.0 a.1) f.0 f.1 (ap (λ p. p.0) m.2) (ap (λ p. p.1) m.2)
   where
-    done : (x : A) (r at : List ℕ) → text ≡ word ++ r → r ≡ spell x ++ at → Good x → Some (make x) ≡ o → at ≡ rest → Fronts d text o rest
+    done : (x : A) (r at : List ℕ) → text ≡ word ++ r → r ≡ spell x ++ at → Good x → make x ≡ i → at ≡ rest → (text ≡ item_text i ++ rest) × GoodItem d i
     done x r at w f g e s = rw (← e, ← s) (w ∙ ap (λ v. word ++ v) f ∙ sym (append_assoc word (spell x) at) ∙ ap (λ v. v ++ at) (spells x), good x g)
 
-module _ (d : ℕ) (text : List ℕ) (o : Option ItemTree) (rest : List ℕ) where
-  opens : option_map {U = Option ItemTree × List ℕ} (λ r. (None, r)) (after (codes "(") text) ≡ Some (o, rest) → Fronts d text o rest
-  opens h =
-      let none : Option ItemTree = None in
-      let m = map_some (λ (r : List ℕ). (none, r)) (after (codes "(") text) (o, rest) h in
-      let e : None ≡ o = ap (λ p. p.0) m.2 in
-      let s : m.0 ≡ rest = ap (λ p. p.1) m.2 in
-      rw (← e, ← s) (after_found (codes "(") text m.0 m.1)
-
-  pub front_found : front_at text ≡ Some (o, rest) → Fronts d text o rest
-  front_found h =
-      elim (either_some (after (codes "SIG(") text) _ _ (o, rest) h) [
+module _ (d : ℕ) (text : List ℕ) where
+  pub leaf_found : (i : ItemTree) (rest : List ℕ) → leaf_at text ≡ Some (i, rest) → (text ≡ item_text i ++ rest) × GoodItem d i
+  leaf_found i rest h =
+      elim (either_some (after (codes "SIG(") text) _ _ (i, rest) h) [
         | inl a ↦ tagged (codes "SIG(") (closed (text_if is_key)) sig (with_end itself) (λ k. is_key k ≡ true) d (closed_finds (text_if is_key) itself (λ k. is_key k ≡ true) (text_found is_key))
-            (λ k g. (g, omega arith)) (λ k. refl) text o rest a
+            (λ k g. (g, omega arith)) (λ k. refl) text i rest a
         | inr h ↦
-            elim (either_some (after (codes "XHX(") text) _ _ (o, rest) h) [
+            elim (either_some (after (codes "XHX(") text) _ _ (i, rest) h) [
               | inl a ↦ tagged (codes "XHX(") (closed (text_if is_hash)) xhx (with_end itself) (λ k. is_hash k ≡ true) d (closed_finds (text_if is_hash) itself (λ k. is_hash k ≡ true) (text_found is_hash))
-                  (λ k g. (g, omega arith)) (λ k. refl) text o rest a
+                  (λ k g. (g, omega arith)) (λ k. refl) text i rest a
               | inr h ↦
-                  elim (either_some (after (codes "CSV(") text) _ _ (o, rest) h) [
+                  elim (either_some (after (codes "CSV(") text) _ _ (i, rest) h) [
                     | inl a ↦ tagged (codes "CSV(") (closed number_of) csv (with_end decimal) IsNumber d (closed_finds number_of decimal IsNumber number_found)
-                        (λ k g. (g, omega arith)) (λ k. refl) text o rest a
+                        (λ k g. (g, omega arith)) (λ k. refl) text i rest a
                     | inr h ↦
-                        elim (either_some (after (codes "CLTV(") text) _ _ (o, rest) h) [
+                        elim (either_some (after (codes "CLTV(") text) _ None (i, rest) h) [
                           | inl a ↦ tagged (codes "CLTV(") (closed number_of) cltv (with_end decimal) IsNumber d (closed_finds number_of decimal IsNumber number_found)
-                              (λ k g. (g, omega arith)) (λ k. refl) text o rest a
-                          | inr h ↦ opens h
+                              (λ k g. (g, omega arith)) (λ k. refl) text i rest a
+                          | inr h ↦ absurd cc
                         ]
                   ]
             ]
       ]
+
+  pub front_found : (o : Option ItemTree) (rest : List ℕ) → front_at text ≡ Some (o, rest) → Fronts d text o rest
+  front_found o rest h =
+      elim (either_some (after (codes "(") text) _ _ (o, rest) h) [
+        | inl a ↦
+            let p : ◌≡◌ {A = Option ItemTree × List ℕ} (None, a.0) (o, rest) = cc in
+            rw (← ap (λ q. q.0) p, ← ap (λ q. q.1) p) (after_found (codes "(") text a.0 a.1)
+        | inr h ↦
+            let m = map_some (λ (p : ItemTree × List ℕ). (Some p.0, p.1)) (leaf_at text) (o, rest) h in
+            leaf m.0.0 m.0.1 (leaf_found m.0.0 m.0.1 m.1) (ap (λ q. q.0) m.2) (ap (λ q. q.1) m.2)
+      ]
+    where
+      leaf : (i : ItemTree) (at : List ℕ) → (text ≡ item_text i ++ at) × GoodItem d i → Some i ≡ o → at ≡ rest → Fronts d text o rest
+      leaf i at f e s = rw (← e, ← s) f
 
 module _ (inner : Read CondTree) (d : ℕ) where
   group_found : Finds inner cond_text (GoodInner d) → (text r : List ℕ) (i : ItemTree) (rest : List ℕ) → text ≡ codes "(" ++ r → group_with inner r ≡ Some (i, rest) →
@@ -113,9 +119,9 @@ module _ (inner : Read CondTree) (d : ℕ) where
 
   -- what follows a condition is neither of the words between its parts
   pub item_with_again : Again inner cond_text (GoodInner d) (λ rest. (after and_word rest ≡ None) × (after or_word rest ≡ None)) → Again (item_with inner) item_text (GoodItem d) (λ rest. Unit {0})
-  item_with_again again (sig k) rest good ends = ap (λ o. read_map (λ x. Some (sig x)) o >>= (λ p. item_on inner p.0 p.1)) (closed_again (text_if is_key) itself (λ t. is_key t ≡ true) key_unparses k rest good.0 tt)
-  item_with_again again (xhx k) rest good ends = ap (λ o. read_map (λ x. Some (xhx x)) o >>= (λ p. item_on inner p.0 p.1)) (closed_again (text_if is_hash) itself (λ t. is_hash t ≡ true) hash_unparses k rest good.0 tt)
-  item_with_again again (csv n) rest good ends = ap (λ o. read_map (λ x. Some (csv x)) o >>= (λ p. item_on inner p.0 p.1)) (closed_again number_of decimal IsNumber number_unparses n rest good.0 tt)
-  item_with_again again (cltv n) rest good ends = ap (λ o. read_map (λ x. Some (cltv x)) o >>= (λ p. item_on inner p.0 p.1)) (closed_again number_of decimal IsNumber number_unparses n rest good.0 tt)
+  item_with_again again (sig k) rest good ends = ap (λ o. read_map (λ i. Some i) (read_map (λ x. sig x) o) >>= (λ p. item_on inner p.0 p.1)) (closed_again (text_if is_key) itself (λ t. is_key t ≡ true) key_unparses k rest good.0 tt)
+  item_with_again again (xhx k) rest good ends = ap (λ o. read_map (λ i. Some i) (read_map (λ x. xhx x) o) >>= (λ p. item_on inner p.0 p.1)) (closed_again (text_if is_hash) itself (λ t. is_hash t ≡ true) hash_unparses k rest good.0 tt)
+  item_with_again again (csv n) rest good ends = ap (λ o. read_map (λ i. Some i) (read_map (λ x. csv x) o) >>= (λ p. item_on inner p.0 p.1)) (closed_again number_of decimal IsNumber number_unparses n rest good.0 tt)
+  item_with_again again (cltv n) rest good ends = ap (λ o. read_map (λ i. Some i) (read_map (λ x. cltv x) o) >>= (λ p. item_on inner p.0 p.1)) (closed_again number_of decimal IsNumber number_unparses n rest good.0 tt)
   item_with_again again (group c) rest good ends =
       ap (group_with inner) (append_assoc (cond_text c) (codes ")") rest) ∙ rw (again c (41 ∷ rest) good (refl, refl)) refl

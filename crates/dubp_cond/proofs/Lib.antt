@@ -10,6 +10,7 @@ pub mod Strips
 pub mod Exact
 pub mod Loops
 pub mod ItemSteps
+pub mod Groups
 pub mod UpToLoops
 pub mod Tails
 pub mod LineEnds

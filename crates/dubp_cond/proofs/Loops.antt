@@ -26,42 +26,49 @@ pub given_some : {X A : Type 0} (view : X → A) (o : Option X) (x : X) (rest : 
 given_some view None x rest r h e = absurd cc
 given_some view (Some y) x rest r h e = let i : y ≡ x = cc in rw (← i) h
 
--- what the loop has read, and what is left
-abbrev pub SoFar : {A : Type 0} → Read A → List ℕ → List A → List ℕ → List ℕ → Type 0
-SoFar read word front at self = read_map (λ xs. front ++ xs) (separated read word at) ≡ separated read word self
-
 pub joined_maps : {A : Type 0} (front : List A) (x : A) (r : Option (List A × List ℕ)) → read_map (λ xs. (front ++ x ∷ []) ++ xs) r ≡ read_map (λ xs. front ++ xs) (read_map (λ xs. x ∷ xs) r)
 joined_maps front x None = refl
 joined_maps front x (Some p) = ap (λ v. Some (v, p.1)) (append_assoc front (x ∷ []) p.0)
 
-module _ {A : Type 0} (read : Read A) (short : Shrinks read) (word : List ℕ) (long : 0 < length word) (front : List A) (at self : List ℕ) (so_far : SoFar read word front at self) where
-  fails : read at ≡ None → separated read word self ≡ None
-  fails none = sym so_far ∙ rw (separated_step read word short long at, none) refl
+-- the values in front, and those behind the word where it is next
+abbrev pub going_on : {A : Type 0} → Read (List A) → List A → Option (List ℕ) → Read (List A)
+going_on more front None rest = Some (front, rest)
+going_on more front (Some next) rest = read_map (λ xs. front ++ xs) (more next)
 
-  ends : (x : A) (rest : List ℕ) → read at ≡ Some (x, rest) → after word rest ≡ None → separated read word self ≡ Some (front ++ x ∷ [], rest)
-  ends x rest is none = sym so_far ∙ rw (separated_step read word short long at, is, none) refl
+pub one_in_front : {A : Type 0} (more : Read (List A)) (x : A) (o : Option (List ℕ)) (rest : List ℕ) → going_on more (x ∷ []) o rest ≡ go_on more x o rest
+one_in_front more x None rest = refl
+one_in_front more x (Some next) rest = refl
 
-  goes : (x : A) (rest next : List ℕ) → read at ≡ Some (x, rest) → after word rest ≡ Some next → SoFar read word (front ++ x ∷ []) next self
-  goes x rest next is more =
-      joined_maps front x (separated read word next) ∙ ap (read_map (λ xs. front ++ xs)) (sym (rw (separated_step read word short long at, is, more) refl)) ∙ so_far
+one_more : {A : Type 0} (more : Read (List A)) (front : List A) (x : A) (o : Option (List ℕ)) (rest : List ℕ) → going_on more (front ++ x ∷ []) o rest ≡ read_map (λ xs. front ++ xs) (go_on more x o rest)
+one_more more front x None rest = refl
+one_more more front x (Some next) rest = joined_maps front x (more next)
+
+-- what the loop has read, and what is left
+abbrev pub SoFar : {A : Type 0} → Read A → List ℕ → List A → List ℕ → Option (List A × List ℕ) → Type 0
+SoFar read word front at whole = going_on (separated read word) front (after word at) at ≡ whole
 
 -- the code's values are seen by a view, and their list is made into one value
-module _ {X A B : Type 0} (read : Read A) (short : Shrinks read) (word : List ℕ) (long : 0 < length word) (view : X → A) (make : List A → B) (items : List X) (at self : List ℕ) where
-  pub loop_fails : SoFar read word (map view items) at self → (o : Option X) (rest : List ℕ) → Gives view o rest (read at) → o ≡ None → read_map make (separated read word self) ≡ None
-  loop_fails so_far o rest gives none = ap (read_map make) (fails read short word long (map view items) at self so_far (given_none view o rest (read at) gives none))
+module _ {X A B : Type 0} (read : Read A) (short : Shrinks read) (word : List ℕ) (long : 0 < length word) (view : X → A) (make : List A → B) (items : List X) (at : List ℕ)
+    (whole : Option (List A × List ℕ)) (so_far : SoFar read word (map view items) at whole) (taken : Bool) (next : List ℕ) (word_is : (if taken then Some next else None) ≡ after word at) where
+  ended : taken ≡ false → (taken ≡ false → next ≡ at) → whole ≡ Some (map view items, next)
+  ended no_more kept = sym so_far ∙ rw (word_absent taken next (after word at) word_is no_more, kept no_more) refl
 
-  pub loop_ends : SoFar read word (map view items) at self → (o : Option X) (x : X) (rest next : List ℕ) (taken : Bool) (all : List X) → Gives view o rest (read at) → o ≡ Some x → all ≡ items ++ x ∷ [] →
-      (if taken then Some next else None) ≡ after word rest → taken ≡ false → (taken ≡ false → next ≡ rest) → read_map make (separated read word self) ≡ Some (make (map view all), next)
-  loop_ends so_far o x rest next taken all gives is listed word_is no_more kept =
-      let r = given_some view o x rest (read at) gives is in
-      ap (read_map make) (ends read short word long (map view items) at self so_far (view x) rest r (word_absent taken next (after word rest) word_is no_more))
-      ∙ rw (listed, map-append, kept no_more) refl
+  pub loop_ends : taken ≡ false → (taken ≡ false → next ≡ at) → read_map make whole ≡ Some (make (map view items), next)
+  loop_ends no_more kept = ap (read_map make) (ended no_more kept)
 
-  pub loop_goes : SoFar read word (map view items) at self → (o : Option X) (x : X) (rest next : List ℕ) (taken : Bool) (all : List X) → Gives view o rest (read at) → o ≡ Some x → all ≡ items ++ x ∷ [] →
-      (if taken then Some next else None) ≡ after word rest → taken ≡ true → SoFar read word (map view all) next self
-  loop_goes so_far o x rest next taken all gives is listed word_is more =
-      let r = given_some view o x rest (read at) gives is in
-      rw (listed, map-append) (goes read short word long (map view items) at self so_far (view x) rest next r (word_there taken next (after word rest) word_is more))
+  behind : taken ≡ true → whole ≡ read_map (λ xs. map view items ++ xs) (read next >>= (λ r. go_on (separated read word) r.0 (after word r.1) r.1))
+  behind more = sym so_far ∙ rw (word_there taken next (after word at) word_is more) (ap (read_map (λ xs. map view items ++ xs)) (separated_step read word short long next))
+
+  failed : taken ≡ true → (o : Option X) (rest : List ℕ) → Gives view o rest (read next) → o ≡ None → whole ≡ None
+  failed more o rest gives none = behind more ∙ rw (given_none view o rest (read next) gives none) refl
+
+  pub loop_fails : taken ≡ true → (o : Option X) (rest : List ℕ) → Gives view o rest (read next) → o ≡ None → read_map make whole ≡ None
+  loop_fails more o rest gives none = ap (read_map make) (failed more o rest gives none)
+
+  pub loop_goes : taken ≡ true → (o : Option X) (x : X) (rest : List ℕ) (all : List X) → Gives view o rest (read next) → o ≡ Some x → all ≡ items ++ x ∷ [] → SoFar read word (map view all) rest whole
+  loop_goes more o x rest all gives is listed =
+      rw (listed, map-append) (one_more (separated read word) (map view items) (view x) (after word rest) rest
+      ∙ sym (behind more ∙ rw (given_some view o x rest (read next) gives is) refl))
 
 -- ---- passing is reading without the value
 

@@ -11,7 +11,7 @@ use crate::front::{Front, take_front};
 pub const MAX_GROUPS: usize = 64;
 
 /// The most characters of a condition.
-const MAX_CHARACTERS: usize = 1000;
+pub const MAX_CHARACTERS: usize = 1000;
 
 /// Passes over an item, in which at most `groups` groups are open at once.
 #[cycle(pass)]

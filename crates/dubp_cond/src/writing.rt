@@ -28,6 +28,17 @@ pub fn put_number_function(word: &[u8], n: u64, out: &mut Line)
     put_function(word, buffer.format(n).as_bytes(), out);
 }
 
+/// Appends the word that stands between two parts, or nothing before the first.
+fn put_between(out: &mut Line, word: &[u8])
+    requires { array_vec_len out.old + length word.now ≤ 2048 }
+    ensures text { out.new.items ≡ out.old.items ++ word.now }
+    ensures room { array_vec_len out.new ≡ array_vec_len out.old + length word.now }
+{
+    if !word.is_empty() {
+        put_bytes(out, word);
+    }
+}
+
 #[cycle(put)]
 fn put_item(item: &Item, out: &mut Line)
     requires { array_vec_len out.old + length (item_text (item_tree item.now)) ≤ 2048 }
@@ -56,7 +67,7 @@ fn put_items(all: &All, out: &mut Line)
 {
     let mut before: &[u8] = b"";
     for item in &all.every {
-        put_bytes(out, before);
+        put_between(out, before);
         put_item(item, out);
         before = b" && ";
     }
@@ -71,7 +82,7 @@ fn put_alls(cond: &Cond, out: &mut Line)
 {
     let mut before: &[u8] = b"";
     for all in &cond.any {
-        put_bytes(out, before);
+        put_between(out, before);
         put_items(all, out);
         before = b" || ";
     }

@@ -14,9 +14,9 @@ put_items-loop-item-preserved t c =
     let whole = all_text (all_tree c.args.all.now) in
     record {
       text = text_turn texts text (λ x xs. refl) and_word c.loop-item.before.now c.deref-item-items.result.now c.loop-item.item-index c.item-item.result c.loop-item-test.true c.item-item.is
-          c.loop-item.out.items c.put_bytes.new.out.items c.put_item.new.out.items (c.args.out.now.items ++ whole) c.loop-item.invariant.text c.put_bytes.ensures.text c.put_item.ensures.text;
+          c.loop-item.out.items c.put_between.new.out.items c.put_item.new.out.items (c.args.out.now.items ++ whole) c.loop-item.invariant.text c.put_between.ensures.text c.put_item.ensures.text;
       room = room_turn texts text (λ x xs. refl) and_word c.loop-item.before.now c.deref-item-items.result.now c.loop-item.item-index c.item-item.result c.loop-item-test.true c.item-item.is
-          (array_vec_len c.loop-item.out) (array_vec_len c.put_bytes.new.out) (array_vec_len c.put_item.new.out) (array_vec_len c.args.out.now + length whole) c.loop-item.invariant.room c.put_bytes.ensures.room c.put_item.ensures.room;
+          (array_vec_len c.loop-item.out) (array_vec_len c.put_between.new.out) (array_vec_len c.put_item.new.out) (array_vec_len c.args.out.now + length whole) c.loop-item.invariant.room c.put_between.ensures.room c.put_item.ensures.room;
     }
 
 pub put_alls-loop-all-preserved : goal.put_alls-loop-all-preserved
@@ -26,7 +26,7 @@ put_alls-loop-all-preserved t c =
     let whole = cond_text c.args.cond.now in
     record {
       text = text_turn texts text (λ x xs. refl) or_word c.loop-all.before.now c.deref-all-items.result.now c.loop-all.all-index c.all-item.result c.loop-all-test.true c.all-item.is
-          c.loop-all.out.items c.put_bytes.new.out.items c.put_items.new.out.items (c.args.out.now.items ++ whole) c.loop-all.invariant.text c.put_bytes.ensures.text c.put_items.ensures.text;
+          c.loop-all.out.items c.put_between.new.out.items c.put_items.new.out.items (c.args.out.now.items ++ whole) c.loop-all.invariant.text c.put_between.ensures.text c.put_items.ensures.text;
       room = room_turn texts text (λ x xs. refl) or_word c.loop-all.before.now c.deref-all-items.result.now c.loop-all.all-index c.all-item.result c.loop-all-test.true c.all-item.is
-          (array_vec_len c.loop-all.out) (array_vec_len c.put_bytes.new.out) (array_vec_len c.put_items.new.out) (array_vec_len c.args.out.now + length whole) c.loop-all.invariant.room c.put_bytes.ensures.room c.put_items.ensures.room;
+          (array_vec_len c.loop-all.out) (array_vec_len c.put_between.new.out) (array_vec_len c.put_items.new.out) (array_vec_len c.args.out.now + length whole) c.loop-all.invariant.room c.put_between.ensures.room c.put_items.ensures.room;
     }
