@@ -5,7 +5,7 @@ use Rattle.std.specs.List.{list_any, AllByRecursion}
 use mathlib.Core.List.{reverse_aux}
 use Rattle.std.proofs.lemmas.List.Folds.{list_any-append}
 use Rattle.std.proofs.lemmas.List.Sorted.{list_any-IsPermutation, IsPermutation-reverse}
-use Rattle.dubp_forks.proofs.Marked.{is_keyed, is_one_of, AreApart, rest_of, first_of_two, same_some, none_keyed}
+use Rattle.dubp_forks.proofs.Keyed.{is_keyed, is_one_of, AreApart, rest_of, first_of_two, same_some, none_keyed}
 
 -- ---- of all of a list
 pub All-append : {X : Type 0} (P : X → Type 0) (xs ys : List X) → AllByRecursion P xs → AllByRecursion P ys → AllByRecursion P (xs ++ ys)
@@ -122,10 +122,10 @@ module _ {K B : Type 0} (eq : K → K → Bool) (key : B → K) where
       (sym (list_any-IsPermutation (is_keyed eq key (key x)) ys (reverse ys) (IsPermutation-reverse ys)) ∙ p.0, AreOff-reverse xs ys p.1)
 
   -- those whose key is not among these keep off them
-  pub AreOff-filter : (bs lent : List B) → AreOff (filter (λ b. not (is_one_of eq key lent b)) bs) lent
-  AreOff-filter bs lent =
-      All-imp (λ b. not (is_one_of eq key lent b) ≡ true) (λ b. is_one_of eq key lent b ≡ false) (λ b e. of_not (is_one_of eq key lent b) e)
-      (filter (λ b. not (is_one_of eq key lent b)) bs) (filter_passed (λ b. not (is_one_of eq key lent b)) bs)
+  pub AreOff-filter : (bs path : List B) → AreOff (filter (λ b. not (is_one_of eq key path b)) bs) path
+  AreOff-filter bs path =
+      All-imp (λ b. not (is_one_of eq key path b) ≡ true) (λ b. is_one_of eq key path b ≡ false) (λ b e. of_not (is_one_of eq key path b) e)
+      (filter (λ b. not (is_one_of eq key path b)) bs) (filter_passed (λ b. not (is_one_of eq key path b)) bs)
 
   -- what holds of all of them holds of those that are found
   pub All-AreFound : (P : B → Type 0) (bs xs : List B) → AllByRecursion P bs → AreFound bs xs → AllByRecursion P xs
@@ -182,28 +182,28 @@ module _ {K B : Type 0} (eq : K → K → Bool) (key : B → K) where
     AreApart-reverse xs p = AreApart-aux xs [] p tt (AreOff-symm [] xs tt)
 
     -- ---- how many are left
-    filter_others : (lent : List B) (b : B) (cs : List B) → is_one_of eq key cs b ≡ false → filter (λ c. not (is_one_of eq key (b ∷ lent) c)) cs ≡ filter (λ c. not (is_one_of eq key lent c)) cs
-    filter_others lent b [] e = refl
-    filter_others lent b (c ∷ cs) e =
-        ap (λ r. cond (not (r || is_one_of eq key lent c)) (c ∷ filter (λ c. not (is_one_of eq key (b ∷ lent) c)) cs) (filter (λ c. not (is_one_of eq key (b ∷ lent) c)) cs)) (laws.symm (key c) (key b) ∙ first_of_two (eq (key b) (key c)) _ e)
-        ∙ ap (λ l. cond (not (is_one_of eq key lent c)) (c ∷ l) l) (filter_others lent b cs (rest_of (eq (key b) (key c)) _ e))
+    filter_others : (path : List B) (b : B) (cs : List B) → is_one_of eq key cs b ≡ false → filter (λ c. not (is_one_of eq key (b ∷ path) c)) cs ≡ filter (λ c. not (is_one_of eq key path c)) cs
+    filter_others path b [] e = refl
+    filter_others path b (c ∷ cs) e =
+        ap (λ r. cond (not (r || is_one_of eq key path c)) (c ∷ filter (λ c. not (is_one_of eq key (b ∷ path) c)) cs) (filter (λ c. not (is_one_of eq key (b ∷ path) c)) cs)) (laws.symm (key c) (key b) ∙ first_of_two (eq (key b) (key c)) _ e)
+        ∙ ap (λ l. cond (not (is_one_of eq key path c)) (c ∷ l) l) (filter_others path b cs (rest_of (eq (key b) (key c)) _ e))
 
-    one_less : (lent : List B) (b : B) (bs : List B) → AreApart eq key bs → find (is_keyed eq key (key b)) bs ≡ Some b → is_one_of eq key lent b ≡ false
-        → length (filter (λ c. not (is_one_of eq key (b ∷ lent) c)) bs) + 1 ≡ length (filter (λ c. not (is_one_of eq key lent c)) bs)
-    one_less lent b [] a f n = cc
-    one_less lent b (c ∷ cs) a f n =
+    one_less : (path : List B) (b : B) (bs : List B) → AreApart eq key bs → find (is_keyed eq key (key b)) bs ≡ Some b → is_one_of eq key path b ≡ false
+        → length (filter (λ c. not (is_one_of eq key (b ∷ path) c)) bs) + 1 ≡ length (filter (λ c. not (is_one_of eq key path c)) bs)
+    one_less path b [] a f n = cc
+    one_less path b (c ∷ cs) a f n =
         elim (eq (key b) (key c)) as (λ r. eq (key b) (key c) ≡ r → cond r (Some c) (find (is_keyed eq key (key b)) cs) ≡ Some b
-        → length (cond (not (eq (key c) (key b) || is_one_of eq key lent c)) (c ∷ filter (λ c. not (is_one_of eq key (b ∷ lent) c)) cs) (filter (λ c. not (is_one_of eq key (b ∷ lent) c)) cs)) + 1
-        ≡ length (cond (not (is_one_of eq key lent c)) (c ∷ filter (λ c. not (is_one_of eq key lent c)) cs) (filter (λ c. not (is_one_of eq key lent c)) cs))) [
+        → length (cond (not (eq (key c) (key b) || is_one_of eq key path c)) (c ∷ filter (λ c. not (is_one_of eq key (b ∷ path) c)) cs) (filter (λ c. not (is_one_of eq key (b ∷ path) c)) cs)) + 1
+        ≡ length (cond (not (is_one_of eq key path c)) (c ∷ filter (λ c. not (is_one_of eq key path c)) cs) (filter (λ c. not (is_one_of eq key path c)) cs))) [
           | true ↦ λ e g.
               let here : eq (key c) (key b) ≡ true = laws.symm (key c) (key b) ∙ e in
-              let out : is_one_of eq key lent c ≡ false = subst (λ (x : B). is_one_of eq key lent x ≡ false) (sym (same_some c b g)) n in
-              let same = filter_others lent b cs (none_keyed eq key laws (key b) (key c) cs e ∙ a.0) in
+              let out : is_one_of eq key path c ≡ false = subst (λ (x : B). is_one_of eq key path x ≡ false) (sym (same_some c b g)) n in
+              let same = filter_others path b cs (none_keyed eq key laws (key b) (key c) cs e ∙ a.0) in
               rw (here, out) (rw same (omega arith))
           | false ↦ λ e g.
               let other : eq (key c) (key b) ≡ false = laws.symm (key c) (key b) ∙ e in
-              let less = one_less lent b cs a.1 g n in
-              rw other (by (is_one_of eq key lent c) c _ _ less)
+              let less = one_less path b cs a.1 g n in
+              rw other (by (is_one_of eq key path c) c _ _ less)
         ] refl f
       where
         by : (r : Bool) (c : B) (xs ys : List B) → length xs + 1 ≡ length ys → length (cond (not r) (c ∷ xs) xs) + 1 ≡ length (cond (not r) (c ∷ ys) ys)

@@ -1,7 +1,7 @@
 -- Blocks that are stored behind others, and what a switch leaves.
-use Rattle.std.proofs.Common.{◌≡◌, ℕ, zero, suc, ◌+◌, ◌-◌, ◌≤◌, Bool, true, false, not, List, [], ◌∷◌, ◌++◌, map, filter, find, length, min, take, drop, reverse, Option, Some, None, is_some, option_map, true≢false, refl, sym, ap, subst, ◌∙◌, arith, append_assoc, append-nil, length-append, take-append-drop}
+use Rattle.std.proofs.Common.{◌≡◌, ℕ, ◌+◌, ◌-◌, ◌≤◌, false, not, List, [], ◌∷◌, ◌++◌, filter, find, length, take, drop, reverse, Option, Some, None, is_some, true≢false, refl, sym, ap, subst, ◌∙◌, arith, append_assoc, length-append, take-append-drop}
 use Rattle.std.proofs.lemmas.List.{length-reverse}
-use Rattle.std.specs.List.{AllByRecursion, list_any}
+use Rattle.std.specs.List.{AllByRecursion}
 use Rattle.std.specs.Map.{lookup}
 use Rattle.indexmap.specs.IndexMap.{insert_entry}
 use Rattle.indexmap.proofs.MapLemmas.{absent_from_lookup, insert_entry-absent}
@@ -11,50 +11,51 @@ use Rattle.dubp_block.specs.declared.block.Block.{Block}
 use Rattle.dubp_block.specs.Text.{stamp_of}
 use Rattle.dubp_chain.specs.Chains.{Chain}
 use Rattle.dubp_validity.specs.Rules.{IsSound}
-use Rattle.dubp_replay.specs.Turns.{is_on, is_stamped, most_stored, stored}
-use Rattle.dubp_forks.specs.Entries.{Entries, entries_of}
+use Rattle.dubp_replay.specs.Turns.{is_on, most_stored}
+use Rattle.dubp_forks.specs.Entries.{Entries, entries_of, entry_of}
 use Rattle.dubp_forks.specs.Stores as stores
 use Rattle.dubp_forks.specs.Stores.{AreOutside, AreStored, IsStorable, has_stamp_of}
-use Rattle.dubp_forks.specs.Switching.{IsLaid}
-use Rattle.dubp_forks.proofs.Apart.{All-append, All-filter, All-front, All-imp, All-reverse, All-take, All-AreFound, AreApart-append, AreApart-filter, AreApart-front, AreApart-reverse, AreApart-split, AreFound, AreOff, AreOff-append, AreOff-back, AreOff-filter, AreOff-front, AreOff-reverse, AreOff-symm, find_any, length_left}
-use Rattle.dubp_forks.proofs.Marked.{AreApart, is_keyed, is_one_of, lookup-marked, marked}
+use Rattle.dubp_forks.proofs.Apart.{All-append, All-filter, All-reverse, All-take, All-AreFound, AreApart-append, AreApart-filter, AreApart-front, AreApart-reverse, AreApart-split, AreFound, AreOff, AreOff-append, AreOff-back, AreOff-filter, AreOff-front, AreOff-reverse, AreOff-symm, find_any, length_left}
+use Rattle.dubp_forks.proofs.Keyed.{AreApart, is_keyed, is_one_of, lookup-keyed}
 use Rattle.dubp_forks.proofs.Kept.{map_append}
 use Rattle.dubp_forks.proofs.Paths.{chain_apart}
 use Rattle.dubp_forks.proofs.Stamps.{apart_of, of_apart, stamps}
+use Rattle.dubp_forks.proofs.Cuts.{cut_at, length_take}
 
 none_found : {X : Type 0} (o : Option X) → is_some o ≡ false → o ≡ None
 none_found None e = refl
 none_found (Some x) e = absurd (true≢false e)
 
 -- ---- one block behind others
-absent : (bs : List Block) (b : Block) → is_one_of same_stamp stamp_of bs b ≡ false → lookup (same_stamp (stamp_of b)) (entries_of [] bs) ≡ None
+absent : (bs : List Block) (b : Block) → is_one_of same_stamp stamp_of bs b ≡ false → lookup (same_stamp (stamp_of b)) (entries_of bs) ≡ None
 absent bs b off =
-    lookup-marked same_stamp stamp_of (stamp_of b) bs
-    ∙ ap (option_map (λ x. Some x)) (none_found (find (is_keyed same_stamp stamp_of (stamp_of b)) bs) (find_any (is_keyed same_stamp stamp_of (stamp_of b)) bs ∙ off))
+    lookup-keyed same_stamp stamp_of (stamp_of b) bs
+    ∙ none_found (find (is_keyed same_stamp stamp_of (stamp_of b)) bs) (find_any (is_keyed same_stamp stamp_of (stamp_of b)) bs ∙ off)
 
 off_last : (bs : List Block) (b : Block) (rest : List Block) → stores.AreApart (bs ++ b ∷ rest) → is_one_of same_stamp stamp_of bs b ≡ false
 off_last bs b rest apart =
     let off = AreApart-split same_stamp stamp_of bs (b ∷ rest) (apart_of (bs ++ b ∷ rest) apart) in
     (AreOff-symm same_stamp stamp_of stamps bs (b ∷ rest) off).0
 
-pub one_last : (bs rest : List Block) (b : Block) (rows next : Entries) → rows ≡ entries_of [] bs → stores.AreApart (bs ++ b ∷ rest) → next ≡ insert_entry same_stamp rows (stamp_of b) (Some b) → next ≡ entries_of [] (bs ++ b ∷ [])
-one_last bs rest b rows next are apart is =
-    is
-    ∙ ap (λ es. insert_entry same_stamp es (stamp_of b) (Some b)) are
-    ∙ insert_entry-absent same_stamp (stamp_of b) (Some b) (entries_of [] bs) (absent_from_lookup (same_stamp (stamp_of b)) (entries_of [] bs) (absent bs b (off_last bs b rest apart)))
-    ∙ sym (map_append (marked same_stamp stamp_of []) bs (b ∷ []))
+one_last : (bs rest : List Block) (b : Block) → stores.AreApart (bs ++ b ∷ rest) → insert_entry same_stamp (entries_of bs) (stamp_of b) b ≡ entries_of bs ++ entry_of b ∷ []
+one_last bs rest b apart =
+    insert_entry-absent same_stamp (stamp_of b) b (entries_of bs) (absent_from_lookup (same_stamp (stamp_of b)) (entries_of bs) (absent bs b (off_last bs b rest apart)))
 
 -- one more of some that are put last
-pub more_last : (store all done rest : List Block) (b : Block) (rows next : Entries) → all ≡ done ++ b ∷ rest → rows ≡ entries_of [] (store ++ done) → stores.AreApart (store ++ all) → next ≡ insert_entry same_stamp rows (stamp_of b) (Some b) → next ≡ entries_of [] (store ++ (done ++ b ∷ []))
-more_last store all done rest b rows next parts are apart is =
-    let whole : store ++ all ≡ (store ++ done) ++ b ∷ rest = ap (λ l. store ++ l) parts ∙ sym (append_assoc store done (b ∷ rest)) in
-    one_last (store ++ done) rest b rows next are (subst stores.AreApart whole apart) is
-    ∙ ap (entries_of []) (append_assoc store done (b ∷ []))
-
-length_take : {X : Type 0} (n : ℕ) (xs : List X) → length (take n xs) ≤ n
-length_take zero xs = omega arith
-length_take (suc n) [] = omega arith
-length_take (suc n) (x ∷ xs) = omega (arith, length_take n xs)
+pub more_last : (store added : List Block) (done back rows next : Entries) (entry : Stamp × Block) → entries_of added ≡ done ++ entry ∷ back → stores.AreApart (store ++ added) → rows ≡ entries_of store ++ done → next ≡ insert_entry same_stamp rows entry.0 entry.1
+    → next ≡ entries_of store ++ (done ++ entry ∷ [])
+more_last store added done back rows next entry parts apart are is =
+    let cut = cut_at stamp_of added done entry back parts in
+    let b = cut.block in
+    let front : rows ≡ entries_of (store ++ cut.before) = are ∙ ap (λ l. entries_of store ++ l) cut.front_is ∙ sym (map_append entry_of store cut.before) in
+    let whole : store ++ added ≡ (store ++ cut.before) ++ b ∷ cut.after = ap (λ l. store ++ l) cut.parts ∙ sym (append_assoc store cut.before (b ∷ cut.after)) in
+    is
+    ∙ ap (λ (e : Stamp × Block). insert_entry same_stamp rows e.0 e.1) cut.entry_is
+    ∙ ap (λ es. insert_entry same_stamp es (stamp_of b) b) front
+    ∙ one_last (store ++ cut.before) cut.after b (subst stores.AreApart whole apart)
+    ∙ ap (λ es. es ++ entry_of b ∷ []) (sym front ∙ are)
+    ∙ append_assoc (entries_of store) done (entry_of b ∷ [])
+    ∙ ap (λ (e : Stamp × Block). entries_of store ++ (done ++ e ∷ [])) (sym cut.entry_is)
 
 -- ---- what a switch leaves
 module _ (store path : List Block) (c : Chain) (count : ℕ) (are : AreStored store) (sound : IsSound c) (out : AreOutside store c) where

@@ -1,4 +1,4 @@
-pub mod Marked
+pub mod Keyed
 pub mod Apart
 pub mod Stamps
 pub mod Offered
@@ -6,4 +6,5 @@ pub mod Paths
 pub mod Kept
 pub mod Onward
 pub mod Lasting
+pub mod Cuts
 pub mod Whole

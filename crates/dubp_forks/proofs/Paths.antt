@@ -14,7 +14,7 @@ use Rattle.dubp_replay.specs.Turns.{IsPath, is_stamped, previous_stamp, stored}
 use Rattle.dubp_forks.specs.Stores.{AreStored, IsStorable, has_stamp_of}
 use Rattle.dubp_forks.specs.Switching.{LeadsTo}
 use Rattle.dubp_forks.proofs.Apart.{AreFound, All-found, All-imp, found_passes}
-use Rattle.dubp_forks.proofs.Marked.{AreApart}
+use Rattle.dubp_forks.proofs.Keyed.{AreApart}
 use Rattle.dubp_forks.proofs.Stamps.{number_is, same_is}
 
 -- none of lesser numbers has the stamp

@@ -11,7 +11,7 @@ use Rattle.dubp_lists.proofs.Elements.{and_left, and_right}
 use Rattle.dubp_lists.proofs.InOrder.{same_text_is, same_text_own}
 use Rattle.dubp_forks.specs.Entries.{entries_of, blocks_in}
 use Rattle.dubp_forks.specs.Stores as stores
-use Rattle.dubp_forks.proofs.Marked as lists
+use Rattle.dubp_forks.proofs.Keyed as lists
 
 pub number_is : (s t : Stamp) → same_stamp s t ≡ true → s.number ≡ t.number
 number_is s t e = (Decides-eqb s.number t.number).0 (and_left (s.number == t.number) _ e)
@@ -53,7 +53,7 @@ pub of_apart : (bs : List Block) → lists.AreApart same_stamp stamp_of bs → s
 of_apart [] a = tt
 of_apart (b ∷ bs) a = (a.0, of_apart bs a.1)
 
-pub blocks_in-entries_of : (bs : List Block) → blocks_in (entries_of [] bs) ≡ bs
+pub blocks_in-entries_of : (bs : List Block) → blocks_in (entries_of bs) ≡ bs
 blocks_in-entries_of [] = refl
 blocks_in-entries_of (b ∷ bs) = ap (λ l. b ∷ l) (blocks_in-entries_of bs)
 

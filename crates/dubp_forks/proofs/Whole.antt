@@ -2,7 +2,6 @@
 use Rattle.std.proofs.Common.{◌≡◌, ℕ, ◌+◌, ◌-◌, ◌<◌, ◌≤◌, true, not, List, [], ◌∷◌, ◌++◌, map, filter, length, min, take, drop, reverse, Option, Some, None, is_some, Result, Ok, Err, IfErr, OnOk, OnErr, refl, sym, ap, subst, ◌∙◌, arith}
 use Rattle.std.proofs.lemmas.List.{length-map}
 use Rattle.std.specs.List.{AllByRecursion}
-use Rattle.dubp_atoms.specs.Same.{same_stamp}
 use Rattle.dubp_atoms.specs.declared.stamp.Stamp.{Stamp}
 use Rattle.dubp_block.specs.declared.block.Block.{Block}
 use Rattle.dubp_block.specs.Text.{IsBlock, stamp_of}
@@ -11,8 +10,8 @@ use Rattle.dubp_verdict.specs.Verdicts.{Verdicts}
 use Rattle.dubp_validity.specs.Rules.{IsSound}
 use Rattle.dubp_ledger.specs.OfKept.{KeptChain, steps_of_last}
 use Rattle.dubp_ledger.specs.Traces.{IsShort}
-use Rattle.dubp_replay.specs.Turns.{Branches, IsPath, blocks_behind, is_on, most_stored, stored, switched}
-use Rattle.dubp_forks.specs.Entries.{AreKept, Entries, blocks_in, entries_of}
+use Rattle.dubp_replay.specs.Turns.{IsPath, blocks_behind, is_on, most_stored, stored, switched}
+use Rattle.dubp_forks.specs.Entries.{AreKept, Entries, blocks_in}
 use Rattle.dubp_forks.specs.Stores.{AreOutside, AreStored, IsStorable, state_of}
 use Rattle.dubp_forks.specs.Switches.{BranchesOff, IsAlong, MayTry, Switched, TakesFew, stored_then}
 use Rattle.dubp_forks.specs.Switching.{HasSwitched, IsLaid, IsTooMuch, IsWhyNot, LeadsTo}
@@ -21,7 +20,6 @@ use Rattle.dubp_forks.specs.declared.refusals.SwitchRefusal.TheVariants.{Unknown
 use Rattle.dubp_forks.proofs.Kept.{kept_from, view_from}
 use Rattle.dubp_forks.proofs.Lasting.{left_apart, left_few, left_outside, left_storable}
 use Rattle.dubp_forks.proofs.Paths.{IsFalling, path_falls}
-use Rattle.dubp_forks.proofs.Stamps.{of_apart}
 
 -- blocks in range with short texts may be stored
 pub storable : (c : Chain) → AllByRecursion IsBlock c → AllByRecursion IsShort c → AllByRecursion IsStorable c
@@ -49,7 +47,7 @@ module _ (v : Verdicts) (s : KeptChain) (store : List Block) (stamp : Stamp) (ke
   falling = path_falls store are.each stamp leads.path end leads.is
 
   pub laid : IsLaid store keys leads.path
-  laid = record { stamps = leads.stamps; each = falling.each; apart = of_apart leads.path falling.apart }
+  laid = record { stamps = leads.stamps; each = falling.each }
 
   keys_are : length keys ≡ length leads.path
   keys_are = ap length leads.stamps ∙ length-map leads.path stamp_of

@@ -1,6 +1,7 @@
 pub mod Stores
 pub mod Offers
 pub mod Switches
+pub mod Texts
 pub mod Entries
 pub mod Offering
 pub mod Switching

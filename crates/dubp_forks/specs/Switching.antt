@@ -1,5 +1,5 @@
 -- The parts of what `switch` says, each of the function that does it.
-use Rattle.std.specs.Prelude.{◌≡◌, ℕ, ◌+◌, ◌-◌, ◌<◌, ◌≤◌, List, [], ◌++◌, drop, filter, length, map, min, not, reverse, take, Option, Some, None, ⊤}
+use Rattle.std.specs.Prelude.{◌≡◌, ℕ, ◌+◌, ◌-◌, ◌<◌, ◌≤◌, List, ◌++◌, drop, filter, length, map, min, not, reverse, take, Option, Some, None, ⊤}
 use Rattle.std.specs.List.{AllByRecursion}
 use Rattle.dubp_atoms.specs.declared.stamp.Stamp.{Stamp}
 use Rattle.dubp_block.specs.declared.block.Block.{Block}
@@ -9,7 +9,6 @@ use Rattle.dubp_verdict.specs.Verdicts.{Verdicts}
 use Rattle.dubp_validity.specs.Rules.{FirstBroken}
 use Rattle.dubp_ledger.specs.OfKept.{KeptChain}
 use Rattle.dubp_replay.specs.Turns.{BreaksAt, IsAcceptedOn, IsPath, is_on, most_stored, stored}
-use Rattle.dubp_forks.specs.Stores.{AreApart}
 use Rattle.dubp_forks.specs.Entries.{Entries, entries_of}
 use Rattle.dubp_forks.specs.declared.refusals.SwitchRefusal.{SwitchRefusal}
 use Rattle.dubp_forks.specs.declared.refusals.SwitchRefusal.TheVariants.{TooDeep, Full, Refused, NoMemory}
@@ -20,15 +19,13 @@ pub record LeadsTo (store : List Block) (stamp : Stamp) (keys : List Stamp) (end
   pub stamps : keys ≡ map stamp_of path
   pub is : IsPath store stamp path end
 
--- these are the stamps of stored blocks, of which no two have one
+-- these are the stamps of stored blocks
 pub record IsLaid (store : List Block) (keys : List Stamp) (path : List Block) : Type 0 where
   pub stamps : keys ≡ map stamp_of path
   pub each : AllByRecursion (λ b. stored store (stamp_of b) ≡ Some b) path
-  pub apart : AreApart path
 
--- these blocks, which are lent, were accepted one after another
-pub record IsOnward (v : Verdicts) (old : KeptChain) (store path : List Block) (rows : Entries) (new : KeptChain) : Type 0 where
-  pub entries : rows ≡ entries_of path store
+-- these blocks were accepted one after another
+pub record IsOnward (v : Verdicts) (old : KeptChain) (path : List Block) (new : KeptChain) : Type 0 where
   pub chain : new.chain ≡ path ++ old.chain
   pub kept : new.kept ≡ old.kept + length path
   pub out : new.out ≡ old.out
@@ -49,7 +46,7 @@ IsWhyNot v c path other = ⊥
 -- the path stands on what is left of the chain, and the blocks that were reversed go to the end of the store
 pub record HasSwitched (v : Verdicts) (old : KeptChain) (store path : List Block) (count : ℕ) (rows : Entries) (new : KeptChain) : Type 0 where
   pub passed : IsAcceptedOn v (drop count old.chain) path
-  pub entries : rows ≡ entries_of [] (filter (λ b. not (is_on path b)) store ++ reverse (take count old.chain))
+  pub entries : rows ≡ entries_of (filter (λ b. not (is_on path b)) store ++ reverse (take count old.chain))
   pub chain : new.chain ≡ path ++ drop count old.chain
   pub kept : new.kept ≡ min ((old.kept - count) + length path) 100
   pub out : new.out ≡ None

@@ -3,8 +3,8 @@ ghost use Rattle.dubp_forks.specs.Entries.{AreKept, blocks_in};
 ghost use Rattle.dubp_forks.specs.Switching.{LeadsTo};
 
 use crate::entries::before_stored;
+use crate::stored::Stored;
 use dubp_atoms::{NoMemory, Secret, Stamp};
-use dubp_block::Block;
 use indexmap::IndexMap;
 use std::alloc::Global;
 
@@ -22,7 +22,7 @@ pub(crate) struct Path {
 /// `NoMemory` where there is no room for its stamps.
 pub(crate) fn path_from(
     alloc: Global,
-    blocks: &IndexMap<Stamp, Option<Block>, Secret>,
+    blocks: &IndexMap<Stamp, Stored, Secret>,
     stamp: Stamp,
 ) -> Result<Path, NoMemory>
     requires { AreKept blocks.now.entries }

@@ -10,9 +10,10 @@ ghost use Rattle.dubp_forks.specs.Offers.{Offered};
 ghost use Rattle.dubp_forks.specs.Switches.{Switched, TakesFew};
 ghost use Rattle.dubp_forks.specs.Stores.{AreOutside, AreStored, state_of};
 
-use crate::entries::before_in;
+use crate::entries::put_text;
 use crate::path::path_from;
 use crate::refusals::{OfferRefusal, SwitchRefusal};
+use crate::stored::Stored;
 use crate::switching::{check_room, count_behind, replace};
 use dubp_atoms::{NoMemory, Secret, Stamp, Steps};
 use dubp_block::{Block, ReadRefusal, read_block, stamp_of};
@@ -29,11 +30,11 @@ pub const MOST_STORED: usize = 1024;
 /// The stored blocks of branches.
 ///
 /// Contracts see their list, in the order in which they came: at most 1,024, each of another stamp and with a text of at most 1,048,576
-/// bytes. No block that is stored is in the chain.
+/// bytes. No block that is stored is in the chain. Each is kept as its text.
 #[derive(Drop)]
 pub struct Store {
     pub(crate) alloc: Global,
-    pub(crate) blocks: IndexMap<Stamp, Option<Block>, Secret>,
+    pub(crate) blocks: IndexMap<Stamp, Stored, Secret>,
 }
 
 impl Model for Store {
@@ -100,8 +101,8 @@ impl Store {
         requires { place < length self.now }
         ensures { (b : BlockValue) → slice_get self.now place ≡ Some b → (result.0 ≡ block_stamp b) × (result.1 ≡ previous_stamp b) }
     {
-        let (stamp, block) = self.blocks.get_index(place).unwrap();
-        (*stamp, before_in(block).unwrap_or(None))
+        let (stamp, stored) = self.blocks.get_index(place).unwrap();
+        (*stamp, stored.previous())
     }
 
     /// Stores the block of these bytes, which are at most 1,048,576, and tells its stamp.
@@ -121,7 +122,7 @@ impl Store {
         ensures outside { AreOutside self.new ledger.now.chain }
     {
         match read_block(self.alloc, bytes) {
-            Ok(block) => self.check(block, ledger, verdicts),
+            Ok(block) => self.check(&block, bytes, ledger, verdicts),
             Err(ReadRefusal::NotABlock { line }) => Err(OfferRefusal::Unread { line }),
             Err(ReadRefusal::NoMemory) => Err(OfferRefusal::NoMemory),
         }
@@ -132,8 +133,8 @@ impl Store {
     ///
     /// `Unknown` where no stored block has the stamp; `Detached` where the branch begins behind a stamp that is neither stored nor in the
     /// chain; `TooDeep` where more blocks would be reversed than can be; `Full` where more than 1,024 would be stored then; `Refused` where a
-    /// block of the branch breaks a rule, of which the lowest and its first rule are named; `NoMemory` where there is no room. On each refusal
-    /// ledger and store are as before; the way back takes no memory. No block is held.
+    /// block of the branch breaks a rule, of which the lowest and its first rule are named; `NoMemory` where there is no room, for the texts
+    /// of the chain's last blocks too. On each refusal ledger and store are as before; the way back takes no memory. No block is held.
     pub fn switch<T: PeopleAndMoney, L: StepBook>(
         &mut self,
         stamp: Stamp,
@@ -168,6 +169,7 @@ impl Store {
             return Err(refusal);
         }
         replace(
+            self.alloc,
             &mut self.blocks,
             path.stamps.as_slice(),
             count,
@@ -177,39 +179,43 @@ impl Store {
         )
     }
 
-    // Stores the block, where it breaks no rule before `G51`.
+    // Stores the block of this text, where it breaks no rule before `G51`.
     fn check<T: PeopleAndMoney>(
         &mut self,
-        block: Block,
+        block: &Block,
+        text: &[u8],
         ledger: &Ledger<T>,
         verdicts: &Verdicts,
     ) -> Result<Stamp, OfferRefusal>
-        requires text { IsBlock block }
-        requires short { length (block_text block) ≤ longest_block }
+        requires range { IsBlock block.now }
+        requires text { text.now ≡ block_text block.now }
+        requires short { length text.now ≤ longest_block }
         requires outside { AreOutside self.old ledger.now.chain }
-        ensures checked { Checked (state_of verdicts.now ledger.now self.old) block result self.new }
+        ensures checked { Checked (state_of verdicts.now ledger.now self.old) block.now result self.new }
         ensures outside { AreOutside self.new ledger.now.chain }
     {
-        match ledger.first_local(&block, verdicts) {
-            Ok(None) => self.add(block, ledger),
+        match ledger.first_local(block, verdicts) {
+            Ok(None) => self.add(block, text, ledger),
             Ok(Some(rule)) => Err(OfferRefusal::Local(rule)),
             Err(NoMemory) => Err(OfferRefusal::NoMemory),
         }
     }
 
-    // Stores the block, unless it is known or the store is full.
+    // Stores the block of this text, unless it is known or the store is full.
     fn add<T: PeopleAndMoney>(
         &mut self,
-        block: Block,
+        block: &Block,
+        text: &[u8],
         ledger: &Ledger<T>,
     ) -> Result<Stamp, OfferRefusal>
-        requires text { IsBlock block }
-        requires short { length (block_text block) ≤ longest_block }
+        requires range { IsBlock block.now }
+        requires text { text.now ≡ block_text block.now }
+        requires short { length text.now ≤ longest_block }
         requires outside { AreOutside self.old ledger.now.chain }
-        ensures added { (v : VerdictsValue) → Added (state_of v ledger.now self.old) block result self.new }
+        ensures added { (v : VerdictsValue) → Added (state_of v ledger.now self.old) block.now result self.new }
         ensures outside { AreOutside self.new ledger.now.chain }
     {
-        let stamp = stamp_of(&block);
+        let stamp = stamp_of(block);
         if self.blocks.contains_key(&stamp) || ledger.place_of(&stamp).is_some() {
             return Err(OfferRefusal::Known(stamp));
         }
@@ -217,9 +223,9 @@ impl Store {
         if held >= MOST_STORED {
             return Err(OfferRefusal::Full { held });
         }
-        match self.blocks.insert(stamp, Some(block)) {
-            Ok(_) => Ok(stamp),
-            Err(_) => Err(OfferRefusal::NoMemory),
+        match put_text(self.alloc, &mut self.blocks, stamp, text, block) {
+            Ok(()) => Ok(stamp),
+            Err(NoMemory) => Err(OfferRefusal::NoMemory),
         }
     }
 }

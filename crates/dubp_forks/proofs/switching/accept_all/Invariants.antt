@@ -1,6 +1,5 @@
-use Rattle.std.proofs.Common.{◌≡◌, ◌≤◌, ◌+◌, ◌-◌, List, drop, length}
+use Rattle.std.proofs.Common.{◌≤◌, ◌+◌, ◌-◌, List, drop, length}
 use Rattle.dubp_block.specs.declared.block.Block.{Block}
-use Rattle.indexmap.specs.IndexMap.{spare}
 use Rattle.dubp_ledger.specs.OfKept.{steps_of_last}
 use Rattle.dubp_forks.specs.Entries.{blocks_in}
 use Rattle.dubp_forks.specs.Switching.{IsLaid, IsOnward}
@@ -9,10 +8,8 @@ use Rattle.dubp_forks.proofs.switching.accept_all.Given as goal
 abbrev pub invariant-loop-left : goal.invariant-loop-left
 invariant-loop-left g l = record {
   within : l.left ≤ length l.stamps;
-  room : spare l.blocks ≡ spare l.fn.blocks;
   steps : l.steps ≤ l.fn.steps + steps_of_last (length l.stamps - l.left) l.ledger.chain;
-  on :
-      (path : List Block) → IsLaid (blocks_in l.fn.blocks.entries) l.stamps path → IsOnward l.verdicts l.fn.ledger (blocks_in l.fn.blocks.entries) (drop l.left path) l.blocks.entries l.ledger;
+  on : (path : List Block) → IsLaid (blocks_in l.blocks.entries) l.stamps path → IsOnward l.verdicts l.fn.ledger (drop l.left path) l.ledger;
 }
 
 abbrev pub decreases-loop-left : goal.decreases-loop-left

@@ -1,4 +1,4 @@
-use Rattle.std.proofs.Common.{◌≡◌, ◌+◌, ◌≤◌, ◌<◌, ◌∙◌, Err, IfErr, OnOk, List, ap, drop, sym, subst, length, arith, refl}
+use Rattle.std.proofs.Common.{◌+◌, ◌≤◌, ◌<◌, ◌∙◌, Err, IfErr, OnOk, List, drop, sym, subst, length, arith, refl}
 use Rattle.dubp_block.specs.declared.block.Block.{Block}
 use Rattle.dubp_ledger.specs.OfKept.{steps_of_last}
 use Rattle.dubp_forks.specs.Entries.{blocks_in}
