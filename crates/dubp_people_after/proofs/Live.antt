@@ -11,7 +11,7 @@ use Rattle.dubp_chain.specs.Words.{last_of}
 use Rattle.dubp_chain.specs.Chains.{Chain, params}
 use Rattle.dubp_chain.specs.Live.{live, live_at}
 use Rattle.dubp_chain.specs.Tables.{CertificationRow, certification_row}
-use Rattle.dubp_people_count.proofs.OfLists.{and_left, and_right, IsIn, in_any, in_left, in_right, in_map, kept_in, last_in}
+use Rattle.dubp_people_count.proofs.OfLists.{and_left, IsIn, in_any, in_left, in_right, in_map, kept_in, last_in}
 use Rattle.dubp_people_count.proofs.OfLists.{same_text_own}
 use Rattle.dubp_people_count.proofs.OfLists.{time_of-rises}
 use Rattle.dubp_cindex.specs.declared.row.CertRow.{CertRow}
@@ -24,8 +24,8 @@ use Rattle.dubp_people_count.specs.OfLeft.{cert_entry, certification_left, certi
 use Rattle.dubp_people_count.proofs.OfLeft.{certifications-at}
 use Rattle.dubp_people_count.proofs.OfLeft.{newest-left}
 use Rattle.dubp_undo.specs.States.{newest, states}
-use Rattle.dubp_people_after.specs.Near.{HasIssuers, HasReceivers, is_end, is_end_of, is_end_near}
-use Rattle.dubp_people_count.proofs.Lists.{text_flip}
+use Rattle.dubp_people_after.specs.Keys.{is_between}
+use Rattle.dubp_people_after.specs.Near.{HasIssuers, HasReceivers, is_end_of}
 
 turned : {X : Type 0} (x : X) (xs : List X) → walked.IsIn x xs → IsIn x xs
 turned x [] there = there
@@ -65,16 +65,9 @@ second : (s t : Bool) → t ≡ true → (s || t) ≡ true
 second true t h = refl
 second false t h = h
 
--- a line that names the pair has both ends
-line_ends : (x y : Text) (line : CertLine) → of_pair x y line ≡ true → (is_end line.from line.to x ≡ true) × (is_end line.from line.to y ≡ true)
-line_ends x y line e = (
-  first (same_text line.from x) (same_text line.to x) (text_flip line.from x ∙ and_left (same_text x line.from) (same_text y line.to) e),
-  second (same_text line.from y) (same_text line.to y) (text_flip line.to y ∙ and_right (same_text x line.from) (same_text y line.to) e),
-)
-
 module _ (c : Chain) (b : Block) (key a : Text) where
   abbrev found : Bool
-  found = list_any (is_end_of a) (rows_about (certifications_left c) key) || list_any (is_end_near key a) b.certifications
+  found = list_any (is_end_of a) (rows_about (certifications_left c) key) || list_any (is_between key a) b.certifications
 
   row_found : (e : Entry) → IsIn e (entries (certifications_left c)) → (live_to key e ≡ true) ⊎ (live_from key e ≡ true) → is_end_of a (told e) ≡ true
       → list_any (is_end_of a) (rows_about (certifications_left c) key) ≡ true
@@ -89,11 +82,10 @@ module _ (c : Chain) (b : Block) (key a : Text) where
   pub issuer_found : live (b ∷ c) a key ≡ true → found ≡ true
   issuer_found alive = elim (lives_by c b a key alive) [
     | inl l ↦
-        let ends = line_ends a key l.0 l.2 in
-        second (list_any (is_end_of a) (rows_about (certifications_left c) key)) (list_any (is_end_near key a) b.certifications)
-        (in_any (is_end_near key a) b.certifications l.0 l.1 (both (is_end l.0.from l.0.to key) (is_end l.0.from l.0.to a) ends.1 ends.0))
+        second (list_any (is_end_of a) (rows_about (certifications_left c) key)) (list_any (is_between key a) b.certifications)
+        (in_any (is_between key a) b.certifications l.0 l.1 (second (of_pair key a l.0) (of_pair a key l.0) l.2))
     | inr r ↦
-        first (list_any (is_end_of a) (rows_about (certifications_left c) key)) (list_any (is_end_near key a) b.certifications)
+        first (list_any (is_end_of a) (rows_about (certifications_left c) key)) (list_any (is_between key a) b.certifications)
         (row_found ((a, key), r.0) (entry_there c b a key r.0 r.1) (inl (both (same_text key key) r.0.live (same_text_own key) r.2))
         (first (same_text a a) (same_text key a) (same_text_own a)))
   ]
@@ -101,24 +93,23 @@ module _ (c : Chain) (b : Block) (key a : Text) where
   pub receiver_found : live (b ∷ c) key a ≡ true → found ≡ true
   receiver_found alive = elim (lives_by c b key a alive) [
     | inl l ↦
-        let ends = line_ends key a l.0 l.2 in
-        second (list_any (is_end_of a) (rows_about (certifications_left c) key)) (list_any (is_end_near key a) b.certifications)
-        (in_any (is_end_near key a) b.certifications l.0 l.1 (both (is_end l.0.from l.0.to key) (is_end l.0.from l.0.to a) ends.0 ends.1))
+        second (list_any (is_end_of a) (rows_about (certifications_left c) key)) (list_any (is_between key a) b.certifications)
+        (in_any (is_between key a) b.certifications l.0 l.1 (first (of_pair key a l.0) (of_pair a key l.0) l.2))
     | inr r ↦
-        first (list_any (is_end_of a) (rows_about (certifications_left c) key)) (list_any (is_end_near key a) b.certifications)
+        first (list_any (is_end_of a) (rows_about (certifications_left c) key)) (list_any (is_between key a) b.certifications)
         (row_found ((key, a), r.0) (entry_there c b key a r.0 r.1) (inr (both (same_text key key) r.0.live (same_text_own key) r.2))
         (second (same_text key a) (same_text a a) (same_text_own a)))
   ]
 
--- the keys of the rows and of the lines, put into a set
-module _ (c : Chain) (b : Block) (key : Text) (rows : List (Text × Text × CertRow)) (lines : List CertLine) (before between test : Text → Bool)
-    (of_rows : rows ≡ rows_about (newest empty (states certifications_left c)) key) (of_lines : lines ≡ b.certifications)
-    (put : (k : Text) → between k ≡ (before k || list_any (is_end_of k) rows)) (put' : (k : Text) → test k ≡ (between k || list_any (is_end_near key k) lines)) where
+-- the keys of the rows and the partners, put into a set
+module _ (c : Chain) (b : Block) (key : Text) (rows : List (Text × Text × CertRow)) (partners : List Text) (before between test : Text → Bool)
+    (of_rows : rows ≡ rows_about (newest empty (states certifications_left c)) key) (of_lines : (k : Text) → list_any (same_text k) partners ≡ list_any (is_between key k) b.certifications)
+    (put : (k : Text) → between k ≡ (before k || list_any (is_end_of k) rows)) (put' : (k : Text) → test k ≡ (between k || list_any (same_text k) partners)) where
   in_set : (a : Text) → found c b key a ≡ true → test a ≡ true
   in_set a is =
       let same : rows ≡ rows_about (certifications_left c) key = of_rows ∙ ap (λ (m : Rows). rows_about m key) (newest-left empty certifications_left refl c) in
-      put' a ∙ (λ i. put a i || list_any (is_end_near key a) (of_lines i)) ∙ (λ i. (before a || list_any (is_end_of a) (same i)) || list_any (is_end_near key a) b.certifications)
-      ∙ grouped (before a) (list_any (is_end_of a) (rows_about (certifications_left c) key)) (list_any (is_end_near key a) b.certifications) is
+      put' a ∙ (λ i. put a i || of_lines a i) ∙ (λ i. (before a || list_any (is_end_of a) (same i)) || list_any (is_between key a) b.certifications)
+      ∙ grouped (before a) (list_any (is_end_of a) (rows_about (certifications_left c) key)) (list_any (is_between key a) b.certifications) is
     where
       grouped : (s t u : Bool) → (t || u) ≡ true → ((s || t) || u) ≡ true
       grouped true t u h = refl

@@ -1,5 +1,6 @@
--- What the lines of a block say of a key, as tests: who joins, comes, leaves and is excluded, and which identity is made. Protocol: people.
-use Rattle.std.specs.Prelude.{◌≡◌, Bool, ◌&&◌, ◌++◌, Option}
+-- What the lines of a block say of a key, as tests: who joins, comes, leaves and is excluded, which identity is made, and with whom it has
+-- certifications. Protocol: people, certifications.
+use Rattle.std.specs.Prelude.{◌≡◌, Bool, ◌&&◌, ◌||◌, ◌++◌, Option}
 use Rattle.std.specs.List.{list_any}
 use Rattle.dubp_atoms.specs.Same.{Text, same_text}
 use Rattle.dubp_block.specs.declared.block.Block.{Block}
@@ -20,10 +21,15 @@ same_pair p q = same_text p.0 q.0 && same_text p.1 q.1
 abbrev pub certification_in : Block → Text × Text → Option CertLine
 certification_in b p = last_of (of_pair p.0 p.1) b.certifications
 
-pub record AreKeysOf (b : Block) (joins comes leaves out : Text → Bool) (identity : Text → Option IdentityLine) (certification : Text × Text → Option CertLine) : Type 0 where
+-- a certification from one of the two keys to the other
+abbrev pub is_between : Text → Text → CertLine → Bool
+is_between x y line = of_pair x y line || of_pair y x line
+
+pub record AreKeysOf (b : Block) (joins comes leaves out : Text → Bool) (identity : Text → Option IdentityLine) (certification : Text × Text → Option CertLine) (partner : Text → Text → Bool) : Type 0 where
   pub joiners : (k : Text) → joins k ≡ list_any (is_of k) b.joiners
   pub comers : (k : Text) → comes k ≡ list_any (is_of k) (b.joiners ++ b.actives)
   pub leavers : (k : Text) → leaves k ≡ list_any (is_of k) b.leavers
   pub excluded : (k : Text) → out k ≡ names b.excluded k
   pub identities : (k : Text) → identity k ≡ identity_in b k
   pub certifications : (x y : Text) → certification (x, y) ≡ certification_in b (x, y)
+  pub partners : (x y : Text) → partner x y ≡ list_any (is_between x y) b.certifications

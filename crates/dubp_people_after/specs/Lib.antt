@@ -2,6 +2,7 @@ pub mod Keys
 pub mod Lines
 pub mod Names
 pub mod Near
+pub mod Partners
 pub mod OfRegistry
 pub mod OfLeft
 pub mod OfSteps

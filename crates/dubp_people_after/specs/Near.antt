@@ -2,7 +2,6 @@
 use Rattle.std.specs.Prelude.{Bool, IsTrue, ◌&&◌, ◌||◌, ◌∷◌}
 use Rattle.dubp_atoms.specs.Same.{Text, same_text}
 use Rattle.dubp_block.specs.declared.block.Block.{Block}
-use Rattle.dubp_block.specs.declared.block.CertLine.{CertLine}
 use Rattle.dubp_chain.specs.Chains.{Chain}
 use Rattle.dubp_chain.specs.Live.{live}
 use Rattle.dubp_cindex.specs.declared.row.CertRow.{CertRow}
@@ -13,10 +12,6 @@ is_end from to k = same_text from k || same_text to k
 
 abbrev pub is_end_of : Text → Text × Text × CertRow → Bool
 is_end_of k row = is_end row.0 row.1 k
-
--- of a line that the key is an end of
-abbrev pub is_end_near : Text → Text → CertLine → Bool
-is_end_near key k line = is_end line.from line.to key && is_end line.from line.to k
 
 -- all from whom, and all to whom, the key has a live certification on the chain with the block are among these
 unfoldable pub HasIssuers : Chain → Block → Text → (Text → Bool) → Type 0

@@ -15,9 +15,10 @@ ghost use Rattle.dubp_people_count.specs.OfLeft.{IsAsked};
 ghost use Rattle.dubp_people_after.specs.Keys.{AreKeysOf, certification_in, identity_in, same_pair};
 ghost use Rattle.dubp_people_after.specs.Near.{HasIssuers, HasReceivers};
 ghost use Rattle.dubp_people_after.specs.Names.{is_repeated, name_of, name_of_line, stamp_at};
+ghost use Rattle.dubp_people_after.specs.Partners.{is_partner};
 
 use crate::keys::{Keys, keys_of};
-use crate::near::{put_lines, put_rows};
+use crate::near::{put_partners, put_rows};
 use dubp_atoms::{Hash, Key, NoMemory, Secret, Sig, Stamp, Uid};
 use dubp_block::{Block, CertLine, MemberLine};
 use dubp_params::Params;
@@ -65,7 +66,8 @@ pub trait WithBlock {
 
     /// Keys among which are all from whom the key has a live certification, and all to whom it has issued one.
     ///
-    /// It looks at the live certifications of the key and at the lines of the block. `NoMemory` where there is no memory for the set.
+    /// It looks at the live certifications of the key and at those lines of the block that name it, however many more the block has.
+    /// `NoMemory` where there is no memory for the set.
     fn near(&self, alloc: Global, key: Key) -> Result<IndexSet<Key, Secret>, NoMemory>
         ensures issuers { IfOk result (λ near. (c : Chain) (b : BlockValue) → after self.now c b → HasIssuers c b key (contains same_text near)) }
         ensures receivers { IfOk result (λ near. (c : Chain) (b : BlockValue) → after self.now c b → HasReceivers c b key (contains same_text near)) };
@@ -94,7 +96,7 @@ pub struct Name {
 }
 
 impl<'a> WithBlock for After<'a> {
-    ghost after = { λ a c b. ⟦<Registry as Tables<Block>>⟧.at a.registry.now c × (IsAsked c b a.next × AreKeysOf b (contains same_text a.keys.joining) (contains same_text a.keys.coming) (contains same_text a.keys.leaving) (contains same_text a.keys.excluded) (get same_text a.keys.identities) (get same_pair a.keys.certifications) × (a.block.now ≡ b)) };
+    ghost after = { λ a c b. ⟦<Registry as Tables<Block>>⟧.at a.registry.now c × (IsAsked c b a.next × AreKeysOf b (contains same_text a.keys.joining) (contains same_text a.keys.coming) (contains same_text a.keys.leaving) (contains same_text a.keys.excluded) (get same_text a.keys.identities) (get same_pair a.keys.certifications) (is_partner a.keys.partners) × (a.block.now ≡ b)) };
 
     fn is_member(&self, key: Key) -> bool {
         if self.keys.excluded.contains(&key) {
@@ -158,7 +160,7 @@ impl<'a> WithBlock for After<'a> {
         let rows = self.registry.cindex().rows_of(alloc, key)?;
         let mut near = IndexSet::with_hasher(alloc, self.registry.secret());
         put_rows(&mut near, rows.as_slice())?;
-        put_lines(&mut near, key, self.block.certifications.as_slice())?;
+        put_partners(&mut near, self.keys.partners_of(key))?;
         Ok(near)
     }
 

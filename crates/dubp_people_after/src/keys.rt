@@ -6,15 +6,17 @@ ghost use Rattle.dubp_atoms.specs.Same.{Text, same_text};
 ghost use Rattle.dubp_chain.specs.Words.{last_of};
 ghost use Rattle.dubp_chain.specs.Members.{is_of};
 ghost use Rattle.dubp_people_after.specs.Keys.{AreKeysOf, same_pair};
+ghost use Rattle.dubp_people_after.specs.Partners.{is_partner};
 ghost use Rattle.dubp_people_count.specs.OfSteps.{of_pair};
 
+use crate::partners::partner_map;
 use dubp_atoms::{Key, NoMemory, Secret};
 use dubp_block::{Block, CertLine, IdentityLine, MemberLine};
 use dubp_sets::{insert, set_of};
 use indexmap::{IndexMap, IndexSet};
 use std::alloc::Global;
 
-/// The keys that the lines of a block name, and its identities by their keys.
+/// The keys that the lines of a block name, its identities by their keys, and its certifications by their pairs and by their ends.
 #[derive(Drop)]
 pub(crate) struct Keys {
     /// Of Joiners.
@@ -26,6 +28,8 @@ pub(crate) struct Keys {
     pub(crate) excluded: IndexSet<Key, Secret>,
     pub(crate) identities: IndexMap<Key, IdentityLine, Secret>,
     pub(crate) certifications: IndexMap<(Key, Key), CertLine, Secret>,
+    /// Of each key that Certifications name, the keys at the other ends of its lines.
+    pub(crate) partners: IndexMap<Key, Vec<Key>, Secret>,
 }
 
 impl Keys {
@@ -48,11 +52,21 @@ impl Keys {
             None => None,
         }
     }
+
+    /// The keys at the other ends of the lines of Certifications that name the key.
+    pub(crate) fn partners_of(&self, key: Key) -> &[Key]
+        ensures { (k : Text) → list_any (same_text k) result.now ≡ is_partner self.now.partners key k }
+    {
+        match self.partners.get(&key) {
+            Some(partners) => partners.as_slice(),
+            None => &[],
+        }
+    }
 }
 
 /// The keys of the block, which are hashed by the secret.
 pub(crate) fn keys_of(alloc: Global, secret: Secret, block: &Block) -> Result<Keys, NoMemory>
-    ensures { IfOk result (λ keys. AreKeysOf block.now (contains same_text keys.joining) (contains same_text keys.coming) (contains same_text keys.leaving) (contains same_text keys.excluded) (get same_text keys.identities) (get same_pair keys.certifications)) }
+    ensures { IfOk result (λ keys. AreKeysOf block.now (contains same_text keys.joining) (contains same_text keys.coming) (contains same_text keys.leaving) (contains same_text keys.excluded) (get same_text keys.identities) (get same_pair keys.certifications) (is_partner keys.partners)) }
 {
     let joining = key_set(alloc, secret, block.joiners.as_slice())?;
     let mut coming = key_set(alloc, secret, block.joiners.as_slice())?;
@@ -61,6 +75,7 @@ pub(crate) fn keys_of(alloc: Global, secret: Secret, block: &Block) -> Result<Ke
     let excluded = set_of(alloc, secret, block.excluded.as_slice())?;
     let identities = identity_map(alloc, secret, block.identities.as_slice())?;
     let certifications = certification_map(alloc, secret, block.certifications.as_slice())?;
+    let partners = partner_map(alloc, secret, block.certifications.as_slice())?;
     Ok(Keys {
         joining,
         coming,
@@ -68,6 +83,7 @@ pub(crate) fn keys_of(alloc: Global, secret: Secret, block: &Block) -> Result<Ke
         excluded,
         identities,
         certifications,
+        partners,
     })
 }
 

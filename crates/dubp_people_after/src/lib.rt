@@ -16,6 +16,7 @@ mod counted;
 mod counts;
 mod keys;
 mod near;
+mod partners;
 mod rules;
 
 pub use after::{After, Name, WithBlock};

@@ -2,10 +2,9 @@ ghost use Rattle.std.specs.Prelude.{◌≡◌, ◌||◌, OnOk};
 ghost use Rattle.std.specs.List.{list_any};
 ghost use Rattle.indexmap.specs.IndexSet.{contains};
 ghost use Rattle.dubp_atoms.specs.Same.{Text, same_text};
-ghost use Rattle.dubp_people_after.specs.Near.{is_end, is_end_near, is_end_of};
+ghost use Rattle.dubp_people_after.specs.Near.{is_end, is_end_of};
 
 use dubp_atoms::{Key, NoMemory, Secret};
-use dubp_block::CertLine;
 use dubp_cindex::CertRow;
 use dubp_sets::insert;
 use indexmap::IndexSet;
@@ -23,25 +22,15 @@ pub(crate) fn put_rows(
     Ok(())
 }
 
-/// Puts both ends of each line that the key is an end of into the set.
-pub(crate) fn put_lines(
+/// Puts the partners into the set.
+pub(crate) fn put_partners(
     set: &mut IndexSet<Key, Secret>,
-    key: Key,
-    lines: &[CertLine],
+    partners: &[Key],
 ) -> Result<(), NoMemory>
-    ensures { OnOk result ((k : Text) → contains same_text set.new k ≡ (contains same_text set.old k || list_any (is_end_near key k) lines.now)) }
+    ensures { OnOk result ((k : Text) → contains same_text set.new k ≡ (contains same_text set.old k || list_any (same_text k) partners.now)) }
 {
-    for line in lines {
-        put_line(set, &key, line)?;
-    }
-    Ok(())
-}
-
-fn put_line(set: &mut IndexSet<Key, Secret>, key: &Key, line: &CertLine) -> Result<(), NoMemory>
-    ensures { OnOk result ((k : Text) → contains same_text set.new k ≡ (contains same_text set.old k || is_end_near key.now k line.now)) }
-{
-    if line.from == *key || line.to == *key {
-        insert_both(set, line.from, line.to)?;
+    for partner in partners {
+        insert(set, *partner)?;
     }
     Ok(())
 }

@@ -5,6 +5,7 @@ use Rattle.dubp_atoms.specs.Same.{same_text}
 use Rattle.dubp_chain.specs.Words.{last_of}
 use Rattle.dubp_chain.specs.Members.{is_of}
 use Rattle.dubp_people_count.specs.OfSteps.{of_pair}
+use Rattle.dubp_people_after.specs.Keys.{is_between}
 use Rattle.dubp_people_after.proofs.keys.keys_of.Goals as goal
 
 pub returns : goal.returns
@@ -21,4 +22,5 @@ returns c =
       excluded = λ k. c.in_ok-excluded.ensures k ∙ ap (list_any (same_text k)) c.as_slice-5.ensures;
       identities = λ k. c.in_ok-identities.ensures k ∙ ap (last_of (λ line. same_text k line.key)) c.as_slice-6.ensures;
       certifications = λ x y. c.in_ok-certifications.ensures x y ∙ ap (last_of (of_pair x y)) c.as_slice-7.ensures;
+      partners = λ x y. c.in_ok-partners.ensures x y ∙ ap (list_any (is_between x y)) c.as_slice-8.ensures;
     }
