@@ -11,12 +11,14 @@
 //! ```
 #![tactic(auto)]
 
+mod as_text;
 mod lines;
 mod reading;
 mod refusal;
 mod writing;
 
+pub use as_text::AsText;
 pub use lines::{Lines, count_lines, next_line};
 pub use reading::ReadText;
 pub use refusal::{LineRefusal, Refused};
-pub use writing::{put_line, put_number_line, put_signed_line, put_text_line};
+pub use writing::{put_field_line, put_line, put_number_line, put_signed_line, put_text_line};
