@@ -4,49 +4,49 @@ ghost use Rattle.dubp_cond.specs.Transactions.{is_comment, IsTx};
 ghost use Rattle.dubp_block.specs.AddsLines.{AddsLines};
 ghost use Rattle.dubp_block.specs.Sections.{tx_line, has_comment as has_comment_of, comment_lines, compact_lines, transaction_lines};
 
-use crate::entries::{add_field, add_line, add_values};
-use arrayvec::ArrayVec;
+use crate::entries::{add_line, add_value, add_values};
 use dubp_atoms::{Items, Line, TextSink, put_bytes, put_number};
 use dubp_cond::Tx;
 
-/// Adds the lines of the transactions, one transaction behind the other.
+/// Adds the lines of the transactions, one transaction behind the other. Each line is put together in `line`, whatever that holds.
 pub fn add_transactions<S: TextSink>(
     out: &mut S,
+    line: &mut Line,
     transactions: &Items<Tx>,
 ) -> Result<(), S::Refusal>
     requires { All IsTx transactions.now }
     ensures { OnOk result (AddsLines S.has out.old out.new (transaction_lines transactions.now)) }
 {
     for tx in transactions.as_slice() {
-        add_transaction(out, tx)?;
+        add_transaction(out, line, tx)?;
     }
     Ok(())
 }
 
-/// Adds the lines of a transaction in its compact form.
-pub fn add_transaction<S: TextSink>(out: &mut S, tx: &Tx) -> Result<(), S::Refusal>
+/// Adds the lines of a transaction in its compact form, which are put together in `line`.
+pub fn add_transaction<S: TextSink>(out: &mut S, line: &mut Line, tx: &Tx) -> Result<(), S::Refusal>
     requires { IsTx tx.now }
     ensures { OnOk result (AddsLines S.has out.old out.new (compact_lines tx.now)) }
 {
-    add_first_line(out, tx)?;
-    add_field(out, b"", &tx.stamp)?;
-    add_values(out, &tx.issuers)?;
-    add_values(out, &tx.inputs)?;
-    add_values(out, &tx.unlocks)?;
-    add_values(out, &tx.outputs)?;
+    add_first_line(out, line, tx)?;
+    add_value(out, line, b"", &tx.stamp)?;
+    add_values(out, line, &tx.issuers)?;
+    add_values(out, line, &tx.inputs)?;
+    add_values(out, line, &tx.unlocks)?;
+    add_values(out, line, &tx.outputs)?;
     add_comment(out, &tx.comment)?;
-    add_values(out, &tx.sigs)?;
+    add_values(out, line, &tx.sigs)?;
     Ok(())
 }
 
 // Adds the first line of a transaction.
 #[tactic(auto, using(crate::proofs::Added::one_line))]
-fn add_first_line<S: TextSink>(out: &mut S, tx: &Tx) -> Result<(), S::Refusal>
+fn add_first_line<S: TextSink>(out: &mut S, line: &mut Line, tx: &Tx) -> Result<(), S::Refusal>
     ensures { OnOk result (AddsLines S.has out.old out.new (tx_line tx.now ∷ [])) }
 {
-    let mut line: Line = ArrayVec::new();
-    put_first_line(tx, &mut line);
-    put_bytes(&mut line, b"\n");
+    line.clear();
+    put_first_line(tx, line);
+    put_bytes(line, b"\n");
     out.put(line.as_slice())
 }
 

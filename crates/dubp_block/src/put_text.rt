@@ -8,7 +8,7 @@ ghost use Rattle.dubp_params.specs.Spelling.{IsParams, params_text};
 ghost use Rattle.dubp_block.specs.Sections.{identity_text, member_text, revoked_text, certification_text};
 
 use crate::block::{CertLine, IdentityLine, MemberLine, RevokedLine};
-use dubp_atoms::{Currency, Hash, Key, Line, Sig, Stamp, put_bytes, put_number};
+use dubp_atoms::{Key, Line, Sig, Stamp, put_bytes, put_number};
 use dubp_cond::{Input, Output, UnlockLine, put_input, put_output, put_unlock};
 use dubp_params::{Params, put_params};
 
@@ -85,26 +85,6 @@ impl PutText for CertLine {
         put_number(self.number as u128, out);
         put_bytes(out, b":");
         self.sig.put(out);
-    }
-}
-
-impl PutText for Currency {
-    ghost spelling = { λ currency. currency };
-
-    ghost in_range = { λ _. ⊤ };
-
-    fn put_text(&self, out: &mut Line) {
-        self.put(out);
-    }
-}
-
-impl PutText for Hash {
-    ghost spelling = { λ hash. hash };
-
-    ghost in_range = { λ _. ⊤ };
-
-    fn put_text(&self, out: &mut Line) {
-        self.put(out);
     }
 }
 

@@ -9,8 +9,9 @@ ghost use Rattle.dubp_block.specs.Text.{IsBlock, dividend_lines, previous_lines,
 
 use crate::block::Block;
 use crate::compact::add_transactions;
-use crate::entries::{add_field, add_line, add_section};
-use dubp_atoms::{Hash, Key, NoMemory, TextSink};
+use crate::entries::{add_field, add_line, add_section, add_value};
+use arrayvec::ArrayVec;
+use dubp_atoms::{Hash, Key, Line, NoMemory, TextSink};
 use dubp_lines::{put_number_line, put_signed_line};
 use dubp_params::Params;
 use std::alloc::Global;
@@ -31,13 +32,14 @@ pub fn add_inner<S: TextSink>(out: &mut S, block: &Block) -> Result<(), S::Refus
     requires { IsBlock block.now }
     ensures { OnOk result (AddsLines S.has out.old out.new (inner_lines block.now)) }
 {
+    let mut line: Line = ArrayVec::new();
     add_opening(out, block)?;
     add_dividend(out, block.dividend)?;
     add_issuing(out, block)?;
     add_previous(out, &block.previous)?;
-    add_params(out, &block.params)?;
+    add_params(out, &mut line, &block.params)?;
     add_number(out, b"MembersCount: ", block.members)?;
-    add_sections(out, block)?;
+    add_sections(out, &mut line, block)?;
     Ok(())
 }
 
@@ -93,30 +95,34 @@ fn add_previous<S: TextSink>(out: &mut S, previous: &Option<(Hash, Key)>) -> Res
 }
 
 // Adds Parameters, where there are some.
-fn add_params<S: TextSink>(out: &mut S, params: &Option<Params>) -> Result<(), S::Refusal>
+fn add_params<S: TextSink>(
+    out: &mut S,
+    line: &mut Line,
+    params: &Option<Params>,
+) -> Result<(), S::Refusal>
     requires { IfSome params.now IsParams }
     ensures { OnOk result (AddsLines S.has out.old out.new (params_lines params.now)) }
 {
     match params {
         None => Ok(()),
-        Some(params) => add_field(out, b"Parameters: ", params),
+        Some(params) => add_value(out, line, b"Parameters: ", params),
     }
 }
 
-// Adds the eight sections.
-fn add_sections<S: TextSink>(out: &mut S, block: &Block) -> Result<(), S::Refusal>
+// Adds the eight sections, whose lines are put together in `line`.
+fn add_sections<S: TextSink>(out: &mut S, line: &mut Line, block: &Block) -> Result<(), S::Refusal>
     requires { All IsTx block.now.transactions }
     ensures { OnOk result (AddsLines S.has out.old out.new (section_lines block.now)) }
 {
-    add_section(out, b"Identities:", &block.identities)?;
-    add_section(out, b"Joiners:", &block.joiners)?;
-    add_section(out, b"Actives:", &block.actives)?;
-    add_section(out, b"Leavers:", &block.leavers)?;
-    add_section(out, b"Revoked:", &block.revoked)?;
-    add_section(out, b"Excluded:", &block.excluded)?;
-    add_section(out, b"Certifications:", &block.certifications)?;
+    add_section(out, line, b"Identities:", &block.identities)?;
+    add_section(out, line, b"Joiners:", &block.joiners)?;
+    add_section(out, line, b"Actives:", &block.actives)?;
+    add_section(out, line, b"Leavers:", &block.leavers)?;
+    add_section(out, line, b"Revoked:", &block.revoked)?;
+    add_section(out, line, b"Excluded:", &block.excluded)?;
+    add_section(out, line, b"Certifications:", &block.certifications)?;
     add_line(out, b"Transactions:")?;
-    add_transactions(out, &block.transactions)?;
+    add_transactions(out, line, &block.transactions)?;
     Ok(())
 }
 
