@@ -1,6 +1,7 @@
 pub mod Added
 pub mod Lacking
 pub mod Closing
+pub mod Front
 pub mod Refusing
 pub mod Values
 pub mod Witnesses

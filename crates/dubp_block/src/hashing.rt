@@ -1,6 +1,8 @@
 ghost use Rattle.std.specs.Prelude.{◌≡◌, Ok};
 ghost use Rattle.dubp_atoms.specs.Hashing.{hash_of};
-ghost use Rattle.dubp_block.specs.Text.{IsBlock, inner_text, block_hash_of, stamp_of as block_stamp};
+ghost use Rattle.dubp_lines.specs.Lines.{unlines};
+ghost use Rattle.dubp_block.specs.Parts.{closing_of};
+ghost use Rattle.dubp_block.specs.Text.{IsBlock, block_text, inner_text, block_hash_of, stamp_of as block_stamp};
 
 use crate::block::Block;
 use crate::writing::add_inner;
@@ -27,19 +29,38 @@ pub fn inner_hash(_alloc: Global, block: &Block) -> Result<Hash, NoMemory>
     Ok(inner_hash_of(block))
 }
 
+/// The SHA-256 of the text before the InnerHash line, taken from the text that the block was read from: nothing is written again. It
+/// takes no memory.
+pub fn inner_hash_in(text: &[u8], block: &Block) -> Hash
+    requires { text.now ≡ block_text block.now }
+    ensures { result ≡ hash_of (inner_text block.now) }
+{
+    let mut closing: Line = ArrayVec::new();
+    spell_closing(block, &mut closing);
+    Hash::of(&text[..text.len() - closing.len()])
+}
+
 /// The hash of a block: the SHA-256 of its InnerHash, Nonce and signature lines. It takes no memory.
 pub fn block_hash(block: &Block) -> Hash
     ensures { result ≡ block_hash_of block.now }
 {
-    let mut line: Line = ArrayVec::new();
-    put_bytes(&mut line, b"InnerHash: ");
-    block.inner_hash.put(&mut line);
-    put_bytes(&mut line, b"\nNonce: ");
-    put_number(block.nonce as u128, &mut line);
-    put_bytes(&mut line, b"\n");
-    block.sig.put(&mut line);
-    put_bytes(&mut line, b"\n");
-    Hash::of(line.as_slice())
+    let mut closing: Line = ArrayVec::new();
+    spell_closing(block, &mut closing);
+    Hash::of(closing.as_slice())
+}
+
+// Writes the InnerHash, Nonce and signature lines of a block, in place of what the line has.
+fn spell_closing(block: &Block, line: &mut Line)
+    ensures { line.new.items ≡ unlines (closing_of block.now) }
+{
+    line.clear();
+    put_bytes(line, b"InnerHash: ");
+    block.inner_hash.put(line);
+    put_bytes(line, b"\nNonce: ");
+    put_number(block.nonce as u128, line);
+    put_bytes(line, b"\n");
+    block.sig.put(line);
+    put_bytes(line, b"\n");
 }
 
 /// The stamp of a block: its number and its hash. It takes no memory.

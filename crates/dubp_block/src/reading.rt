@@ -1,13 +1,15 @@
 ghost use Rattle.std.specs.Prelude.{◌≡◌, IfOk, IfErr, MatchResult};
 ghost use Rattle.dubp_lines.specs.Lines.{split};
 ghost use Rattle.dubp_lines.specs.Taking.{Gives, GivesInRoom, line_number};
-ghost use Rattle.dubp_block.specs.Text.{IsBlock, block_text};
+ghost use Rattle.dubp_atoms.specs.Hashing.{hash_of};
+ghost use Rattle.dubp_block.specs.Text.{IsBlock, block_text, inner_text};
 ghost use Rattle.dubp_block.specs.Reading.{opening_at, issuing_at, first_links_at, later_links_at, links_at, closing_at, block_at, block_of};
 ghost use Rattle.dubp_block.specs.Refusals.{NamesLine};
 ghost use Rattle.dubp_block.specs.declared.block.Block.{Block as BlockValue};
 ghost use Rattle.dubp_block.specs.declared.refusal.ReadRefusal.TheVariants.{NoMemory as Memory};
 
 use crate::block::Block;
+use crate::hashing::inner_hash_in;
 use crate::kinds::{Base, Parameters, Version};
 use crate::refusal::ReadRefusal;
 use crate::sections::{take_first_sections, take_last_sections};
@@ -31,6 +33,30 @@ pub fn read_block(alloc: Global, text: &[u8]) -> Result<Block, ReadRefusal>
         Err(LineRefusal::Left(left)) => Err(ReadRefusal::NotABlock {
             line: line_number(text, left),
         }),
+    }
+}
+
+/// A block that was read, and the SHA-256 of its text before the InnerHash line: what a right InnerHash is.
+#[derive(Debug, Drop)]
+pub struct HashedBlock {
+    pub block: Block,
+    pub inner: Hash,
+}
+
+/// The block that this text is, as `read_block` reads it, and the hash of the text before its InnerHash line, for which nothing
+/// is written again.
+pub fn read_hashed_block(alloc: Global, text: &[u8]) -> Result<HashedBlock, ReadRefusal>
+    ensures found { IfOk result (λ h. IsBlock h.block × (text.now ≡ block_text h.block)) }
+    ensures inner { IfOk result (λ h. h.inner ≡ hash_of (inner_text h.block)) }
+    ensures only { (b : BlockValue) → IsBlock b → text.now ≡ block_text b → MatchResult result (λ h. h.block ≡ b) (λ e. e ≡ Memory) }
+    ensures refused { IfErr result (NamesLine text.now) }
+{
+    match read_block(alloc, text) {
+        Ok(block) => {
+            let inner = inner_hash_in(text, &block);
+            Ok(HashedBlock { block, inner })
+        }
+        Err(refusal) => Err(refusal),
     }
 }
 

@@ -1,9 +1,6 @@
-use Rattle.std.proofs.Common.{decimal, ap, ◌∙◌}
+use Rattle.std.proofs.Common.{ap, ◌∙◌}
 use Rattle.dubp_atoms.specs.Hashing.{hash_of}
-use Rattle.dubp_block.proofs.Closing.{closing_is}
 use Rattle.dubp_block.proofs.hashing.block_hash.Goals as goal
 
 pub returns : goal.returns
-returns c =
-    c.of.ensures ∙ ap hash_of (c.as_slice.ensures.value ∙ closing_is c.args.block.now.inner_hash (decimal c.args.block.now.nonce) c.args.block.now.sig c.new-line.result.items c.put_bytes.new.out.items c.put.new.out.items c.put_bytes-2.new.out.items c.put_number.new.out.items c.put_bytes-3.new.out.items c.put-2.new.out.items c.put_bytes-4.new.out.items
-    c.new-line.ensures c.put_bytes.ensures.text c.put.ensures.text c.put_bytes-2.ensures.text c.put_number.ensures.text c.put_bytes-3.ensures.text c.put-2.ensures.text c.put_bytes-4.ensures.text)
+returns c = c.of.ensures ∙ ap hash_of (c.as_slice.ensures.value ∙ c.spell_closing.ensures)
