@@ -1,17 +1,17 @@
 -- The issuers of one key: as a web says them, in order, and as a list of them comes into a set.
-use Rattle.std.proofs.Common.{◌≡◌, ℕ, ◌+◌, ◌<◌, ◌≤◌, ◌⊎◌, inl, inr, Bool, true, false, List, [], ◌∷◌, ◌++◌, if◌then◌else◌, cond, Vec, Global, Option, Some, None, IfSome, length, get_or, Contains, refl, sym, ap, subst, ◌∙◌, true≢false, arith}
+use Rattle.std.proofs.Common.{◌≡◌, ℕ, ◌+◌, ◌<◌, ◌≤◌, ◌⊎◌, inl, inr, Bool, true, false, List, [], ◌∷◌, ◌++◌, if◌then◌else◌, Option, Some, None, IfSome, length, get_or, Contains, refl, sym, ap, subst, ◌∙◌, true≢false, arith}
 use Rattle.std.specs.List.{list_any}
 use Rattle.std.proofs.Math.ListN.{length-append}
 use Rattle.std.proofs.lemmas.List.Elements.{Contains-append_left, Contains-append_right, Contains-append_cases}
 use Rattle.std.proofs.lemmas.Bool.{cases_lt}
 use Rattle.std.proofs.lemmas.Option.{slice_get-get_or, same_Some}
 use Rattle.indexmap.specs.IndexSet.{insert_key}
-use Rattle.dubp_atoms.specs.Same.{Text, same_text}
+use Rattle.dubp_atoms.specs.Same.{Text}
 use Rattle.dubp_wot.specs.Known.{AreIssuersOf}
 use Rattle.dubp_wot.specs.Order.{less, is_above, IsNextIssuer}
-use Rattle.dubp_wot.specs.Search.{In, Grows}
+use Rattle.dubp_wot.specs.Search.{In}
 use Rattle.dubp_wot.proofs.KeyOrder.{less-meets}
-use Rattle.dubp_wot.proofs.Levels.{Grows-then, slice_get-append, text_same, In-insert, Grows-insert}
+use Rattle.dubp_wot.proofs.Levels.{slice_get-append, In-insert}
 use Rattle.dubp_wot.proofs.Members.{Contains-cases, Contains-none}
 
 -- ---- as a web says them
@@ -74,52 +74,32 @@ module _ (members : List Text) (pairs : List (Text × Text)) (to : Text) where
 pub if_there : {X : Type 0} (P : X → Type 0) (found : Option X) (x : X) → found ≡ Some x → IfSome found P → P x
 if_there {X = X} P found x is h = subst (λ (o : Option X). IfSome o P) is h
 
--- those of one key more are known
-module _ (members : List Text) (pairs : List (Text × Text)) (to : Text) (keys : Vec Text Global) (old new : Text → Option (Vec Text Global)) where
-  abbrev AreKnown : (Text → Option (Vec Text Global)) → Type 0
-  AreKnown known = (k : Text) → IfSome (known k) (λ found. AreIssuersOf members pairs k found.items)
+-- ---- as their numbers come into a list
 
-  pub known-put : AreKnown old → ((k : Text) → new k ≡ cond (same_text to k) (Some keys) (old k)) → AreIssuersOf members pairs to keys.items → AreKnown new
-  known-put before put mine k =
-      let P : Vec Text Global → Type 0 = λ found. AreIssuersOf members pairs k found.items in
-      subst (λ (o : Option (Vec Text Global)). IfSome o P) (sym (put k))
-      (elim (same_text to k) as (λ t. same_text to k ≡ t → IfSome (cond t (Some keys) (old k)) P) [
-        | true ↦ λ same. subst (λ z. AreIssuersOf members pairs z keys.items) (text_same to k same) mine
-        | false ↦ λ _. before k
-      ] refl)
+module _ {K : Type 0} (eq : K → K → Bool) where
+  pub longer-insert : (keys : List K) (k : K) → length keys ≤ length (insert_key eq keys k)
+  longer-insert keys k = by (list_any (eq k) keys)
+    where
+      by : (t : Bool) → length keys ≤ length (if t then keys else keys ++ k ∷ [])
+      by true = omega arith
+      by false = omega (arith, length-append keys (k ∷ []))
 
--- ---- as they come into a set
+  In-insert_old : (keys : List K) (k a : K) → In keys a → In (insert_key eq keys k) a
+  In-insert_old keys k a m = by (list_any (eq k) keys)
+    where
+      by : (t : Bool) → In (if t then keys else keys ++ k ∷ []) a
+      by true = m
+      by false = (m.0, slice_get-append keys (k ∷ []) m.0 a m.1)
 
-pub longer-insert : (eq : Text → Text → Bool) (keys : List Text) (k : Text) → length keys ≤ length (insert_key eq keys k)
-longer-insert eq keys k = by (list_any (eq k) keys)
-  where
-    by : (t : Bool) → length keys ≤ length (if t then keys else keys ++ k ∷ [])
-    by true = omega arith
-    by false = omega (arith, length-append keys (k ∷ []))
-
-In-insert_old : (eq : Text → Text → Bool) (keys : List Text) (k a : Text) → In keys a → In (insert_key eq keys k) a
-In-insert_old eq keys k a m = by (list_any (eq k) keys)
-  where
-    by : (t : Bool) → In (if t then keys else keys ++ k ∷ []) a
-    by true = m
-    by false = (m.0, slice_get-append keys (k ∷ []) m.0 a m.1)
-
--- one issuer more is in the set
-module _ (issuers : List Text) (i : ℕ) (k : Text) (within : i < length issuers) (at : k ≡ get_or issuers i k) (old keys new : List Text) (put : new ≡ insert_key same_text keys k) where
-  pub Grows-put : (members : List Text) (pairs : List (Text × Text)) (to : Text) → AreIssuersOf members pairs to issuers
-      → Grows members pairs (λ b. b ≡ to) old keys → Grows members pairs (λ b. b ≡ to) old new
-  Grows-put members pairs to are before =
-      let m = (are k).0 (i, within, sym at) in
-      Grows-then members pairs (λ b. b ≡ to) old keys new before
-      (subst (Grows members pairs (λ b. b ≡ to) keys) (sym put) (Grows-insert members pairs same_text (λ b. b ≡ to) keys k to m.0 refl m.1))
-
-  pub In-put : ((a : Text) (j : ℕ) → j < i → get_or issuers j a ≡ a → In keys a) → (a : Text) (j : ℕ) → j < i + 1 → get_or issuers j a ≡ a → In new a
-  In-put before a j low here =
+  -- one more of a list is put
+  pub In-put : ((x y : K) → eq x y ≡ true → x ≡ y) → (xs : List K) (i : ℕ) (k : K) → i < length xs → k ≡ get_or xs i k → (keys new : List K) → new ≡ insert_key eq keys k
+      → ((a : K) (j : ℕ) → j < i → get_or xs j a ≡ a → In keys a) → (a : K) (j : ℕ) → j < i + 1 → get_or xs j a ≡ a → In new a
+  In-put same xs i k within at keys new put before a j low here =
       subst (λ ks. In ks a) (sym put) (elim (cases_lt j i) [
-        | inl below ↦ In-insert_old same_text keys k a (before a j below here)
+        | inl below ↦ In-insert_old keys k a (before a j below here)
         | inr past ↦
             let j_is : j ≡ i = omega arith in
-            let mine = slice_get-get_or issuers i k within ∙ ap Some (sym at) in
-            let its = slice_get-get_or issuers i a within ∙ ap Some (subst (λ n. get_or issuers n a ≡ a) j_is here) in
-            subst (In (insert_key same_text keys k)) (same_Some k a (sym mine ∙ its)) (In-insert same_text text_same keys k)
+            let mine = slice_get-get_or xs i k within ∙ ap Some (sym at) in
+            let its = slice_get-get_or xs i a within ∙ ap Some (subst (λ n. get_or xs n a ≡ a) j_is here) in
+            subst (In (insert_key eq keys k)) (same_Some k a (sym mine ∙ its)) (In-insert eq same keys k)
       ])

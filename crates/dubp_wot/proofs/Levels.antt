@@ -1,5 +1,5 @@
 -- The search by levels, over plain lists.
-use Rattle.std.proofs.Common.{◌≡◌, Result, Ok, Err, IfOk, ℕ, zero, suc, ◌+◌, ◌<◌, ◌≤◌, ◌↔◌, ◌⊎◌, inl, inr, Bool, true, false, IsTrue, ◌||◌, List, [], ◌∷◌, ◌++◌, Some, length, slice_get, get_or, Contains, if◌then◌else◌, refl, sym, ap, subst, ◌∙◌, true≢false, arith}
+use Rattle.std.proofs.Common.{◌≡◌, Result, Ok, Err, IfOk, ℕ, zero, suc, ◌+◌, ◌<◌, ◌≤◌, ◌↔◌, ◌⊎◌, inl, inr, Bool, true, false, IsTrue, ◌||◌, List, [], ◌∷◌, ◌++◌, Some, length, slice_get, get_or, Contains, if◌then◌else◌, refl, sym, ap, subst, ◌∙◌, arith}
 use Rattle.std.proofs.Math.ListN.{length-append}
 use Rattle.std.specs.List.{list_any}
 use Rattle.std.proofs.lemmas.Option.{slice_get_within, slice_get-get_or, same_Some}
@@ -8,7 +8,7 @@ use Rattle.std.specs.Cmp.Lexicographic.{bytes_decides}
 use Rattle.indexmap.specs.IndexSet.{insert_key}
 use Rattle.dubp_atoms.specs.Same.{Text, same_text}
 use Rattle.dubp_atoms.specs.Walks.{IsWalk, Reaches}
-use Rattle.dubp_wot.specs.Search.{In, Grows, Closed}
+use Rattle.dubp_wot.specs.Search.{In, Grows, Closed, Level}
 
 pub text_same : (x y : Text) → same_text x y ≡ true → x ≡ y
 text_same x y = (bytes_decides x y).0
@@ -87,17 +87,13 @@ module _ {K : Type 0} (members : List K) (pairs : List (K × K)) where
   pub In-kept : (From : K → Type 0) (old new : List K) → Grows members pairs From old new → (a : K) → In old a → In new a
   In-kept From old new g a m = (m.0, g.keeps m.0 a m.1)
 
-  pub Grows-insert : (eq : K → K → Bool) (From : K → Type 0) (keys : List K) (a b : K) → Contains members a → From b → Contains pairs (a, b)
-      → Grows members pairs From keys (insert_key eq keys a)
-  Grows-insert eq From keys a b in' from pair = by (list_any (eq a) keys)
-    where
-      by : (t : Bool) → Grows members pairs From keys (if t then keys else keys ++ a ∷ [])
-      by true = Grows-none From keys
-      by false = record {
-        longer = omega (arith, length-append keys (a ∷ []));
-        keeps = λ i c h. slice_get-append keys (a ∷ []) i c h;
-        only = λ c m. elim (In-push keys a c m.0 m.1) [ inl n ↦ inl n | inr e ↦ inr (subst (Contains members) (sym e) in', (b, from, subst (λ z. Contains pairs (z, b)) (sym e) pair)) ];
-      }
+  pub Grows-push : (From : K → Type 0) (keys : List K) (a b : K) → Contains members a → From b → Contains pairs (a, b)
+      → Grows members pairs From keys (keys ++ a ∷ [])
+  Grows-push From keys a b in' from pair = record {
+    longer = omega (arith, length-append keys (a ∷ []));
+    keeps = λ i c h. slice_get-append keys (a ∷ []) i c h;
+    only = λ c m. elim (In-push keys a c m.0 m.1) [ inl n ↦ inl n | inr e ↦ inr (subst (Contains members) (sym e) in', (b, from, subst (λ z. Contains pairs (z, b)) (sym e) pair)) ];
+  }
 
   -- what stands at a place of the old list stood there before
   pub at-old : (From : K → Type 0) (old new : List K) → Grows members pairs From old new → (i : ℕ) (b : K) → i < length old
@@ -132,11 +128,6 @@ module _ {K : Type 0} (members : List K) (pairs : List (K × K)) where
 -- ---- levels
 
 module _ {K : Type 0} (members : List K) (pairs : List (K × K)) (target : K) where
-  -- the list has the keys that reach the target in n steps
-  pub record Level (n : ℕ) (keys : List K) : Type 0 where
-    pub sound : (a : K) → In keys a → Reaches members pairs n a target
-    pub complete : (a : K) → Reaches members pairs n a target → In keys a
-
   pub Reaches-more : (n m : ℕ) (a : K) → n ≤ m → Reaches members pairs n a target → Reaches members pairs m a target
   Reaches-more n m a more (path, few, walk) = (path, omega arith, walk)
 
@@ -145,7 +136,7 @@ module _ {K : Type 0} (members : List K) (pairs : List (K × K)) (target : K) wh
   member-end [] a walk = subst (Contains members) walk.1 walk.0
   member-end (b ∷ path) a walk = member-end path b walk.2
 
-  pub Level-first : Contains members target → Level 0 (target ∷ [])
+  pub Level-first : Contains members target → Level members pairs target 0 (target ∷ [])
   Level-first in' = record { sound = sound; complete = complete }
     where
       sound : (a : K) → In (target ∷ []) a → Reaches members pairs 0 a target
@@ -156,8 +147,8 @@ module _ {K : Type 0} (members : List K) (pairs : List (K × K)) (target : K) wh
       complete a ([], few, walk) = (0, ap Some (sym walk.1))
       complete a (b ∷ path, few, walk) = absurd (omega arith)
 
-  pub Level-next : (n : ℕ) (old new : List K) → Level n old → Grows members pairs (In old) old new → Closed members pairs (length old) new
-      → Level (n + 1) new
+  pub Level-next : (n : ℕ) (old new : List K) → Level members pairs target n old → Grows members pairs (In old) old new → Closed members pairs (length old) new
+      → Level members pairs target (n + 1) new
   Level-next n old new l g c = record { sound = sound; complete = complete }
     where
       sound : (a : K) → In new a → Reaches members pairs (n + 1) a target
@@ -173,7 +164,7 @@ module _ {K : Type 0} (members : List K) (pairs : List (K × K)) (target : K) wh
           c.has m.0 b a (slice_get_within old m.0 b m.1) (g.keeps m.0 b m.1) walk.0 walk.1
 
   -- where a level adds nothing, no later one does
-  pub Level-end : (n m : ℕ) (keys : List K) → n ≤ m → Level n keys → Closed members pairs (length keys) keys → Level m keys
+  pub Level-end : (n m : ℕ) (keys : List K) → n ≤ m → Level members pairs target n keys → Closed members pairs (length keys) keys → Level members pairs target m keys
   Level-end n m keys more l c = record { sound = λ a h. Reaches-more n m a more (l.sound a h); complete = λ a r. go r.0 a r.2 }
     where
       go : (path : List K) (a : K) → IsWalk members pairs a path target → In keys a
@@ -182,12 +173,13 @@ module _ {K : Type 0} (members : List K) (pairs : List (K × K)) (target : K) wh
 
   -- the test that finds a key in the list decides who reaches the target
   pub Level-test : (eq : K → K → Bool) (same : (x y : K) → eq x y ≡ true → x ≡ y) (own : (x : K) → eq x x ≡ true) (n : ℕ) (keys : List K)
-      → Level n keys → (a : K) → IsTrue (list_any (eq a) keys) ↔ Reaches members pairs n a target
+      → Level members pairs target n keys → (a : K) → IsTrue (list_any (eq a) keys) ↔ Reaches members pairs n a target
   Level-test eq same own n keys l a =
       (λ h. l.sound a (In-from_any eq same keys a h), λ r. let m = l.complete a r in any_from_In eq same own keys a m.0 m.1)
 
   -- nobody reaches who is no member
-  pub nobody : (eq : K → K → Bool) (n : ℕ) (keys : List K) → keys ≡ [] → (Contains members target → ⊥) → (a : K)
-      → IsTrue (list_any (eq a) keys) ↔ Reaches members pairs n a target
-  nobody eq n keys none out a =
-      (λ h. absurd (true≢false (sym h ∙ ap (list_any (eq a)) none)), λ r. absurd (out (member-end r.0 a r.2)))
+  pub Level-none : (n : ℕ) (keys : List K) → keys ≡ [] → (Contains members target → ⊥) → Level members pairs target n keys
+  Level-none n keys none out = record {
+    sound = λ a m. absurd (omega (arith, slice_get_within keys m.0 a m.1, ap length none));
+    complete = λ a r. absurd (out (member-end r.0 a r.2));
+  }

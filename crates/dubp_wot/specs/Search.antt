@@ -3,6 +3,7 @@
 use Rattle.std.specs.Prelude.{◌≡◌, ℕ, ◌<◌, ◌≤◌, ◌⊎◌, not, List, Option, Some, slice_get, length, filter}
 use Rattle.std.specs.List.{Contains}
 use Rattle.dubp_atoms.specs.Same.{Text}
+use Rattle.dubp_atoms.specs.Walks.{Reaches}
 use Rattle.dubp_wot.specs.Order.{is_above}
 
 -- the keys up to the one that was last taken
@@ -24,3 +25,8 @@ module _ {K : Type 0} where
     -- each member who certifies one of the first n keys stands in the list
     pub record Closed (n : ℕ) (keys : List K) : Type 0 where
       pub has : (i : ℕ) (b a : K) → i < n → slice_get keys i ≡ Some b → Contains members a → Contains pairs (a, b) → In keys a
+
+    -- the list has the keys that reach the target in n steps
+    pub record Level (target : K) (n : ℕ) (keys : List K) : Type 0 where
+      pub sound : (a : K) → In keys a → Reaches members pairs n a target
+      pub complete : (a : K) → Reaches members pairs n a target → In keys a

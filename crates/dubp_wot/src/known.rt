@@ -1,18 +1,34 @@
-ghost use Rattle.std.specs.Prelude.{◌≡◌, List, Some, cond, IfOk, OnOk, OnErr, IsSome};
-ghost use Rattle.indexmap.specs.IndexMap.{get};
+ghost use Rattle.std.specs.Prelude.{◌≡◌, ℕ, ◌+◌, ◌<◌, ◌≤◌, ◌^◌, List, None, Some, IfOk, OnOk, IsSome, IsTrue, ◌↔◌, length, slice_get, get_or};
+ghost use Rattle.std.specs.List.{IsDistinct};
 ghost use Rattle.dubp_atoms.specs.Same.{Text, same_text};
 ghost use Rattle.dubp_wot.specs.Known.{AreIssuersOf, KnowIssuers};
+ghost use Rattle.dubp_wot.specs.Numbers.{name, named, AreBelow, Keeps, is_found};
 
+use crate::found::Found;
 use crate::sentry::push;
 use crate::web::Web;
 use dubp_atoms::{Key, NoMemory, Secret};
-use indexmap::IndexMap;
+use indexmap::IndexSet;
 use std::alloc::Global;
+use std::marker::Model;
 
 /// The members who certify each key that a search came by: a web is asked for those of a key once.
+///
+/// A key gets a number when a search comes by it, and keeps it; its issuers are kept by their numbers.
 #[derive(Drop)]
 pub struct KnownIssuers {
-    issuers: IndexMap<Key, Vec<Key>, Secret>,
+    keys: IndexSet<Key, Secret>,
+    issuers: Vec<Option<Vec<usize>>>,
+}
+
+impl Model for KnownIssuers {
+    ghost use Rattle.dubp_wot.specs.Numbers.{Numbered, AreNumbers};
+
+    ghost Value = { Numbered };
+
+    ghost view = { λ k. record { keys = k.keys.keys; issuers = k.issuers.items } };
+
+    ghost invariant = { λ k. AreNumbers k.keys.keys k.issuers.items };
 }
 
 impl KnownIssuers {
@@ -21,40 +37,128 @@ impl KnownIssuers {
         ensures { (members : List Text) (pairs : List (Text × Text)) → KnowIssuers members pairs result }
     {
         KnownIssuers {
-            issuers: IndexMap::with_hasher(alloc, secret),
+            keys: IndexSet::with_hasher(alloc, secret),
+            issuers: Vec::new(alloc),
         }
     }
 
-    /// Asks the web for the members who certify `to`, unless they are known.
-    pub(crate) fn ask<W: Web>(&mut self, alloc: Global, web: &W, to: Key) -> Result<(), NoMemory>
-        requires known { (members : List Text) (pairs : List (Text × Text)) → W.shows web.now members pairs → KnowIssuers members pairs self.old }
-        ensures known { (members : List Text) (pairs : List (Text × Text)) → W.shows web.now members pairs → KnowIssuers members pairs self.new }
-        ensures has { OnOk result (IsSome (get same_text self.new.issuers to)) }
+    /// How many keys have numbers.
+    pub(crate) fn len(&self) -> usize
+        ensures value { result ≡ length self.now.keys }
+        ensures small { result < 2 ^ 63 }
+        ensures unique { IsDistinct same_text self.now.keys }
     {
-        if self.issuers.contains_key(&to) {
+        self.keys.len()
+    }
+
+    /// Whether the number of the key is found.
+    pub(crate) fn is_found(&self, key: &Key, found: &Found) -> bool
+        ensures { result ≡ is_found self.now.keys found.now key.now }
+    {
+        match self.keys.get_index_of(key) {
+            Some(number) => found.has(number),
+            None => false,
+        }
+    }
+
+    /// The number of the key, which gets the next one where it has none.
+    pub(crate) fn number(&mut self, key: Key) -> Result<usize, NoMemory>
+        ensures kept { Keeps self.old.keys self.new.keys }
+        ensures issuers { self.new.issuers ≡ self.old.issuers }
+        ensures known { (members : List Text) (pairs : List (Text × Text)) → KnowIssuers members pairs self.old → KnowIssuers members pairs self.new }
+        ensures number { IfOk result (λ number. slice_get self.new.keys number ≡ Some key) }
+    {
+        let (number, _) = self.keys.insert_full(key).map_err(|_| NoMemory)?;
+        Ok(number)
+    }
+
+    /// The numbers of the keys, in their order.
+    fn number_each(&mut self, alloc: Global, keys: &[Key]) -> Result<Vec<usize>, NoMemory>
+        ensures kept { Keeps self.old.keys self.new.keys }
+        ensures known { (members : List Text) (pairs : List (Text × Text)) → KnowIssuers members pairs self.old → KnowIssuers members pairs self.new }
+        ensures within { IfOk result (λ numbers. AreBelow (length self.new.keys) numbers.items) }
+        ensures named { IfOk result (λ numbers. named self.new.keys numbers.items ≡ keys.now) }
+    {
+        let mut numbers = Vec::new(alloc);
+        for key in keys {
+            let number = self.number(*key)?;
+            push(&mut numbers, number)?;
+        }
+        Ok(numbers)
+    }
+
+    /// Asks the web for the members who certify the key with this number, unless they are known.
+    pub(crate) fn ask<W: Web>(
+        &mut self,
+        alloc: Global,
+        web: &W,
+        number: usize,
+    ) -> Result<(), NoMemory>
+        requires within { number < length self.old.keys }
+        requires known { (members : List Text) (pairs : List (Text × Text)) → W.shows web.now members pairs → KnowIssuers members pairs self.old }
+        ensures kept { Keeps self.old.keys self.new.keys }
+        ensures known { (members : List Text) (pairs : List (Text × Text)) → W.shows web.now members pairs → KnowIssuers members pairs self.new }
+        ensures has { OnOk result (IsSome (get_or self.new.issuers number None)) }
+    {
+        if self.has_issuers(number) {
             return Ok(());
         }
-        let keys = issuers_of(alloc, web, to)?;
-        self.put(to, keys)?;
-        Ok(())
+        let keys = issuers_of(alloc, web, self.key(number))?;
+        let numbers = self.number_each(alloc, &keys)?;
+        self.put(number, numbers)
     }
 
-    /// The members who certify `to`, which are known.
-    pub(crate) fn of(&self, to: &Key) -> &[Key]
-        requires { IsSome (get same_text self.now.issuers to.now) }
-        ensures { (members : List Text) (pairs : List (Text × Text)) → KnowIssuers members pairs self.now → AreIssuersOf members pairs to.now result.now }
+    /// The key with this number.
+    fn key(&self, number: usize) -> Key
+        requires { number < length self.now.keys }
+        ensures { slice_get self.now.keys number ≡ Some result }
     {
-        self.issuers[to].as_slice()
+        self.keys[number]
     }
 
-    /// Puts the members who certify `to`.
-    fn put(&mut self, to: Key, keys: Vec<Key>) -> Result<(), NoMemory>
-        ensures put { OnOk result ((k : Text) → get same_text self.new.issuers k ≡ cond (same_text to k) (Some keys) (get same_text self.old.issuers k)) }
-        ensures stays { OnErr result ((k : Text) → get same_text self.new.issuers k ≡ get same_text self.old.issuers k) }
+    /// Whether the issuers of the key with this number are known.
+    fn has_issuers(&self, number: usize) -> bool
+        ensures { IsTrue result ↔ IsSome (get_or self.now.issuers number None) }
     {
-        self.issuers.insert(to, keys).map_err(|_| NoMemory)?;
+        number < self.issuers.len() && self.issuers[number].is_some()
+    }
+
+    /// The numbers of the members who certify the key with this number, which are known.
+    pub(crate) fn of(&self, number: usize) -> &[usize]
+        requires { IsSome (get_or self.now.issuers number None) }
+        ensures within { AreBelow (length self.now.keys) result.now }
+        ensures known { (members : List Text) (pairs : List (Text × Text)) → KnowIssuers members pairs self.now → AreIssuersOf members pairs (name self.now.keys number) (named self.now.keys result.now) }
+    {
+        match &self.issuers[number] {
+            Some(numbers) => numbers.as_slice(),
+            None => &[],
+        }
+    }
+
+    /// Puts the numbers of the members who certify the key with this number.
+    fn put(&mut self, number: usize, numbers: Vec<usize>) -> Result<(), NoMemory>
+        requires within { number < length self.old.keys }
+        requires below { AreBelow (length self.old.keys) numbers.items }
+        ensures keys { self.new.keys ≡ self.old.keys }
+        ensures known { (members : List Text) (pairs : List (Text × Text)) → KnowIssuers members pairs self.old → AreIssuersOf members pairs (name self.old.keys number) (named self.old.keys numbers.items) → KnowIssuers members pairs self.new }
+        ensures has { OnOk result (IsSome (get_or self.new.issuers number None)) }
+    {
+        let _keys = self.keys.len();
+        make_room(&mut self.issuers, number + 1)?;
+        self.issuers[number] = Some(numbers);
         Ok(())
     }
+}
+
+/// Makes room for the issuers of the keys with numbers below `size`.
+fn make_room(issuers: &mut Vec<Option<Vec<usize>>>, size: usize) -> Result<(), NoMemory>
+    ensures room { OnOk result (size ≤ length issuers.new.items) }
+    ensures same { (n : ℕ) → get_or issuers.new.items n None ≡ get_or issuers.old.items n None }
+{
+    for _turn in issuers.len()..size {
+        push(issuers, None)?;
+    }
+    Ok(())
 }
 
 /// The members who certify `to`, as the web says them.

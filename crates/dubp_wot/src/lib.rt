@@ -15,6 +15,7 @@
 //! ```
 #![tactic(auto)]
 
+mod found;
 mod known;
 mod reaching;
 mod sentry;

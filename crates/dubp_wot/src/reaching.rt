@@ -1,15 +1,15 @@
-ghost use Rattle.std.specs.Prelude.{◌≡◌, ◌≤◌, ◌<◌, ◌↔◌, ◌^◌, List, length, count_by, IsTrue, IfOk, OnOk, Contains};
-ghost use Rattle.indexmap.specs.IndexSet.{contains, insert_key};
-ghost use Rattle.dubp_atoms.specs.Same.{Text, same_text};
+ghost use Rattle.std.specs.Prelude.{◌≡◌, ℕ, ◌≤◌, ◌<◌, ◌^◌, List, length, count_by, IfOk, OnOk, Contains};
+ghost use Rattle.dubp_atoms.specs.Same.{Text};
 ghost use Rattle.dubp_atoms.specs.Walks.{Reaches, IsCountOf, IsReachedBy, others, sentries_of};
 ghost use Rattle.dubp_wot.specs.Known.{AreIssuersOf, KnowIssuers};
-ghost use Rattle.dubp_wot.specs.Search.{Grows, Closed, In};
+ghost use Rattle.dubp_wot.specs.Numbers.{AreBelow, is_found, named};
+ghost use Rattle.dubp_wot.specs.Search.{Grows, Closed, In, Level};
 
+use crate::found::Found;
 use crate::known::KnownIssuers;
 use crate::sentry::sentries;
 use crate::web::Web;
-use dubp_atoms::{Key, NoMemory, Secret};
-use indexmap::IndexSet;
+use dubp_atoms::{Key, NoMemory};
 use std::alloc::Global;
 
 /// How many of the sentries other than the target reach it within `steps_max`, and how many sentries other than it there are.
@@ -64,28 +64,31 @@ pub fn reaches_among_known<W: Web>(
     ensures count { IfOk result (λ r. r.1 ≡ length (others sentries.now target)) }
 {
     let found = find_reaching(alloc, web, known, target, steps_max)?;
-    let reached = count_found(sentries, target, &found);
+    let _keys = known.len();
+    let reached = count_found(sentries, target, known, &found);
     let all = count_others(sentries, target);
     Ok((reached as u64, all as u64))
 }
 
-/// The keys from which a walk of at most `steps_max` pairs leads to the target.
+/// The numbers of the keys from which a walk of at most `steps_max` pairs leads to the target.
 fn find_reaching<W: Web>(
     alloc: Global,
     web: &W,
     known: &mut KnownIssuers,
     target: Key,
     steps_max: u64,
-) -> Result<IndexSet<Key, Secret>, NoMemory>
+) -> Result<Found, NoMemory>
     requires known { (members : List Text) (pairs : List (Text × Text)) → W.shows web.now members pairs → KnowIssuers members pairs known.old }
     ensures known { (members : List Text) (pairs : List (Text × Text)) → W.shows web.now members pairs → KnowIssuers members pairs known.new }
-    ensures reaching { IfOk result (λ s. (members : List Text) (pairs : List (Text × Text)) → W.shows web.now members pairs → (a : Text) → IsTrue (contains same_text s a) ↔ Reaches members pairs steps_max a target) }
+    ensures within { IfOk result (λ found. AreBelow (length known.new.keys) found) }
+    ensures level { IfOk result (λ found. (members : List Text) (pairs : List (Text × Text)) → W.shows web.now members pairs → Level members pairs target steps_max (named known.new.keys found)) }
 {
-    let mut found = IndexSet::with_hasher(alloc, web.secret());
     if !web.is_member(&target) {
-        return Ok(found);
+        return Found::new(alloc, 0);
     }
-    insert(&mut found, target)?;
+    let first = known.number(target)?;
+    let mut found = Found::new(alloc, known.len())?;
+    found.insert(first)?;
     let mut start = 0;
     for level in 0..steps_max {
         let end = found.len();
@@ -98,44 +101,41 @@ fn find_reaching<W: Web>(
     Ok(found)
 }
 
-/// Adds the next level: the members who certify a key from `start` on.
+/// Adds the next level: the members who certify a key that was found, from `start` on.
 fn add_level<W: Web>(
     alloc: Global,
     web: &W,
     known: &mut KnownIssuers,
     start: usize,
-    found: &mut IndexSet<Key, Secret>,
+    found: &mut Found,
 ) -> Result<(), NoMemory>
     requires known { (members : List Text) (pairs : List (Text × Text)) → W.shows web.now members pairs → KnowIssuers members pairs known.old }
+    requires within { AreBelow (length known.old.keys) found.old }
     ensures known { (members : List Text) (pairs : List (Text × Text)) → W.shows web.now members pairs → KnowIssuers members pairs known.new }
-    ensures grows { OnOk result ((members : List Text) (pairs : List (Text × Text)) → W.shows web.now members pairs → Grows members pairs (In found.old.keys) found.old.keys found.new.keys) }
-    ensures closed { OnOk result ((members : List Text) (pairs : List (Text × Text)) → W.shows web.now members pairs → Closed members pairs start found.old.keys → Closed members pairs (length found.old.keys) found.new.keys) }
+    ensures within { OnOk result (AreBelow (length known.new.keys) found.new) }
+    ensures grows { OnOk result ((members : List Text) (pairs : List (Text × Text)) → W.shows web.now members pairs → Grows members pairs (In (named known.old.keys found.old)) (named known.old.keys found.old) (named known.new.keys found.new)) }
+    ensures closed { OnOk result ((members : List Text) (pairs : List (Text × Text)) → W.shows web.now members pairs → Closed members pairs start (named known.old.keys found.old) → Closed members pairs (length found.old) (named known.new.keys found.new)) }
 {
     for i in start..found.len() {
-        let to = found[i];
+        let to = found.at(i);
         known.ask(alloc, web, to)?;
-        add_issuers(known.of(&to), found)?;
+        let _keys = known.len();
+        add_issuers(known.of(to), found)?;
     }
     Ok(())
 }
 
 /// Adds the members who certify a key.
-fn add_issuers(issuers: &[Key], found: &mut IndexSet<Key, Secret>) -> Result<(), NoMemory>
-    ensures longer { OnOk result (length found.old.keys ≤ length found.new.keys) }
-    ensures grows { OnOk result ((members : List Text) (pairs : List (Text × Text)) (to : Text) → AreIssuersOf members pairs to issuers.now → Grows members pairs (λ b. b ≡ to) found.old.keys found.new.keys) }
-    ensures all { OnOk result ((a : Text) → Contains issuers.now a → In found.new.keys a) }
+fn add_issuers(issuers: &[usize], found: &mut Found) -> Result<(), NoMemory>
+    requires { AreBelow (2 ^ 63) issuers.now }
+    ensures longer { OnOk result (length found.old ≤ length found.new) }
+    ensures within { OnOk result ((size : ℕ) → AreBelow size issuers.now → AreBelow size found.old → AreBelow size found.new) }
+    ensures grows { OnOk result ((members : List Text) (pairs : List (Text × Text)) (keys : List Text) (to : Text) → AreIssuersOf members pairs to (named keys issuers.now) → Grows members pairs (λ b. b ≡ to) (named keys found.old) (named keys found.new)) }
+    ensures all { OnOk result ((n : ℕ) → Contains issuers.now n → In found.new n) }
 {
     for from in issuers {
-        insert(found, *from)?;
+        found.insert(*from)?;
     }
-    Ok(())
-}
-
-/// Adds the key, unless the set has it.
-fn insert(found: &mut IndexSet<Key, Secret>, key: Key) -> Result<(), NoMemory>
-    ensures { OnOk result (found.new.keys ≡ insert_key same_text found.old.keys key) }
-{
-    found.insert(key).map_err(|_| NoMemory)?;
     Ok(())
 }
 
@@ -146,12 +146,12 @@ fn count_others(keys: &[Key], target: Key) -> usize
     keys.iter().filter(|key| target != **key).count()
 }
 
-/// How many of the keys other than the target are in the set.
-fn count_found(keys: &[Key], target: Key, found: &IndexSet<Key, Secret>) -> usize
-    ensures { result ≡ count_by (contains same_text found.now) (others keys.now target) }
+/// How many of the keys other than the target have numbers that are found.
+fn count_found(keys: &[Key], target: Key, known: &KnownIssuers, found: &Found) -> usize
+    ensures { result ≡ count_by (is_found known.now.keys found.now) (others keys.now target) }
 {
     keys.iter()
         .filter(|key| target != **key)
-        .filter(|key| found.contains(*key))
+        .filter(|key| known.is_found(key, found))
         .count()
 }

@@ -1,4 +1,4 @@
-ghost use Rattle.std.specs.Prelude.{◌≡◌, ℕ, ◌≤◌, ◌<◌, ◌^◌, ◌↔◌, List, [], ◌∷◌, ◌++◌, IsTrue, IfOk, OnOk, length};
+ghost use Rattle.std.specs.Prelude.{◌≡◌, ℕ, ◌≤◌, ◌<◌, ◌^◌, ◌↔◌, List, [], ◌∷◌, ◌++◌, IsTrue, IfOk, OnOk, OnErr, length};
 ghost use Rattle.dubp_atoms.specs.Same.{Text};
 ghost use Rattle.dubp_atoms.specs.Walks.{d_sen_of, has_issued_and_received, sentries_of};
 
@@ -80,9 +80,10 @@ fn has_issued_and_received_least<W: Web>(web: &W, key: &Key, least: u64) -> bool
     web.stock(key) >= least && web.received(key) >= least
 }
 
-/// Appends the key.
-pub(crate) fn push(found: &mut Vec<Key>, key: Key) -> Result<(), NoMemory>
-    ensures { OnOk result (found.new.items ≡ found.old.items ++ key ∷ []) }
+/// Appends the item.
+pub(crate) fn push<T: Drop>(list: &mut Vec<T>, item: T) -> Result<(), NoMemory>
+    ensures put { OnOk result (list.new.items ≡ list.old.items ++ item ∷ []) }
+    ensures refused { OnErr result (list.new.items ≡ list.old.items) }
 {
-    found.push(key).map_err(|_| NoMemory)
+    list.push(item).map_err(|_| NoMemory)
 }

@@ -18,7 +18,7 @@ issuers-preserved g c = λ members pairs shown.
     elim c.if-is_member.branch [
       | then-is_member+in_ok-push w ↦
           Taken-put members pairs c.args.to c.issuers.after keys before from next c.if-is_member.keys.items
-          (ap (λ (v : Vec Text Global). v.items) w.keys-is ∙ w.in_ok-push.ensures) (is_member.0 w.if-is_member.true)
+          (ap (λ (v : Vec Text Global). v.items) w.keys-is ∙ w.in_ok-push.ensures.put) (is_member.0 w.if-is_member.true)
       | else-is_member w ↦
           subst (λ (v : Vec Text Global). Taken members pairs c.args.to (Some from) v.items) (sym w.keys-is)
           (Taken-pass members pairs c.args.to c.issuers.after keys before from next (λ in'. true≢false (sym (is_member.1 in') ∙ w.if-is_member.false)))

@@ -1,19 +1,38 @@
-use Rattle.std.proofs.Common.{◌≤◌, List, length, arith, subst, sym}
-use Rattle.dubp_atoms.specs.Same.{Text, same_text}
-use Rattle.dubp_wot.proofs.Issuers.{longer-insert, Grows-put, In-put}
+use Rattle.std.proofs.Common.{◌≡◌, ◌≤◌, ℕ, nat_eq, List, length, get_or, arith, subst, sym, refl}
+use Rattle.std.proofs.lemmas.List.{get_or_default}
+use Rattle.std.proofs.lemmas.Option.{slice_get-get_or}
+use Rattle.dubp_wot.specs.Numbers.{name, named, AreBelow}
+use Rattle.dubp_wot.specs.Search.{Grows}
+use Rattle.dubp_wot.proofs.Issuers.{longer-insert, In-put}
+use Rattle.dubp_wot.proofs.Levels.{Grows-then}
+use Rattle.dubp_wot.proofs.Numbered.{nat_same, AreBelow-at, AreBelow-insert, Contains-named, Grows-number}
 use Rattle.dubp_wot.proofs.reaching.add_issuers.Goals as goal
+
+pub insert-requires : goal.insert-requires
+insert-requires c =
+    let i = c.loop-from.from-index in
+    c.requires (get_or c.args.issuers.now i 0) (i, slice_get-get_or c.args.issuers.now i 0 c.loop-from-test.true)
 
 pub loop-from-preserved : goal.loop-from-preserved
 loop-from-preserved c =
     let issuers = c.args.issuers.now in
     let i = c.loop-from.from-index in
-    let from = c.from-item.result in
-    let old = c.args.found.now.keys in
-    let keys = c.loop-from.found.keys in
-    let new = c.insert.new.found.keys in
+    let from = get_or issuers i 0 in
+    let within = c.loop-from-test.true in
+    let at = get_or_default issuers i 0 from within in
+    let old = c.args.found.now in
+    let found = c.loop-from.found in
+    let new = c.insert.new.self in
+    let put = c.in_ok-insert.ensures in
     record {
-      longer = let more = longer-insert same_text keys from in subst (λ (ks : List Text). length old ≤ length ks) (sym c.in_ok-insert.ensures) (omega (arith, c.loop-from.invariant.longer));
-      grows = λ members pairs to are.
-          Grows-put issuers i from c.loop-from-test.true c.from-item.is old keys new c.in_ok-insert.ensures members pairs to are (c.loop-from.invariant.grows members pairs to are);
-      all = In-put issuers i from c.loop-from-test.true c.from-item.is old keys new c.in_ok-insert.ensures c.loop-from.invariant.all;
+      longer = let more = longer-insert nat_eq found from in subst (λ (xs : List ℕ). length old ≤ length xs) (sym put) (omega (arith, c.loop-from.invariant.longer));
+      within = λ size are below.
+          subst (AreBelow size) (sym put)
+          (AreBelow-insert size found from (c.loop-from.invariant.within size are below) (AreBelow-at size issuers i from are within at));
+      grows = λ members pairs keys to are.
+          let m = (are (name keys from)).0 (Contains-named keys issuers i from within at) in
+          Grows-then members pairs (λ b. b ≡ to) (named keys old) (named keys found) (named keys new) (c.loop-from.invariant.grows members pairs keys to are)
+          (subst (λ (xs : List ℕ). Grows members pairs (λ b. b ≡ to) (named keys found) (named keys xs)) (sym put)
+          (Grows-number keys members pairs (λ b. b ≡ to) found from to m.0 refl m.1));
+      all = In-put nat_eq nat_same issuers i from within at found new put c.loop-from.invariant.all;
     }

@@ -1,31 +1,43 @@
-use Rattle.std.proofs.Common.{◌≡◌, ◌<◌, length, sym, subst, arith}
-use Rattle.dubp_wot.specs.Search.{In}
-use Rattle.dubp_wot.proofs.Levels.{Grows-then, Grows-weaker, Closed-less, Closed-more, at-old}
+use Rattle.std.proofs.Common.{length, arith}
+use Rattle.std.proofs.lemmas.List.{length-map}
+use Rattle.dubp_wot.specs.Numbers.{name, named}
+use Rattle.dubp_wot.proofs.Levels.{Closed-less}
+use Rattle.dubp_wot.proofs.Numbered.{AreBelow-kept, Grows-level, Closed-level}
 use Rattle.dubp_wot.proofs.reaching.add_level.Goals as goal
+
+pub ask-requires-clause-within : goal.ask-requires-clause-within
+ask-requires-clause-within g c = c.loop-i.invariant.within c.at-to.result (c.loop-i.i, c.at-to.ensures)
+
+pub add_issuers-requires : goal.add_issuers-requires
+add_issuers-requires g c = λ n m. omega (arith, c.of.ensures.within n m, c.len-keys.ensures.value, c.len-keys.ensures.small)
 
 pub loop-i-preserved : goal.loop-i-preserved
 loop-i-preserved g c =
-    let old = c.args.found.now.keys in
-    let mid = c.loop-i.found.keys in
-    let new = c.add_issuers.new.found.keys in
-    let to = c.index.result.now in
+    let first = named c.args.known.now.keys c.args.found.now in
+    let old = c.loop-i.known.keys in
+    let new = c.ask.new.self.keys in
+    let kept = c.ask.ensures.kept in
+    let mid = c.loop-i.found in
+    let found = c.add_issuers.new.found in
     let i = c.loop-i.i in
+    let to = c.at-to.result in
+    let issuers = c.of.result.now in
+    let added = c.in_ok-add_issuers.ensures in
+    let before = c.loop-i.invariant in
     record {
       known = c.ask.ensures.known;
-      longer = omega (arith, c.in_ok-add_issuers.ensures.longer, c.loop-i.invariant.longer);
+      within = added.within (length new) c.of.ensures.within (AreBelow-kept old new kept mid before.within);
+      longer = omega (arith, added.longer, before.longer);
       grows = λ members pairs shown.
-          let grown = c.loop-i.invariant.grows members pairs shown in
-          let within : i < length old = omega arith in
-          let first : In old to = (i, at-old members pairs (In old) old mid grown i to within c.index.ensures) in
-          let are = c.of.ensures members pairs (c.ask.ensures.known members pairs shown) in
-          Grows-then members pairs (In old) old mid new grown
-          (Grows-weaker members pairs (λ b. b ≡ to) (In old) mid new (λ b e. subst (In old) (sym e) first) (c.in_ok-add_issuers.ensures.grows members pairs to are));
+          let are = c.of.ensures.known members pairs (c.ask.ensures.known members pairs shown) in
+          Grows-level members pairs old new kept mid found before.within i to c.at-to.ensures issuers are (added.grows members pairs new (name new to) are) added.all
+          first (omega (arith, length-map c.args.found.now (name c.args.known.now.keys))) (before.grows members pairs shown);
       closed = λ members pairs shown from_start.
-          let are = c.of.ensures members pairs (c.ask.ensures.known members pairs shown) in
-          Closed-more members pairs (λ b. b ≡ to) i to mid new (c.loop-i.invariant.closed members pairs shown from_start)
-          (c.in_ok-add_issuers.ensures.grows members pairs to are) c.index.ensures (λ a m pair. c.in_ok-add_issuers.ensures.all a ((are a).1 (m, pair)));
+          let are = c.of.ensures.known members pairs (c.ask.ensures.known members pairs shown) in
+          Closed-level members pairs old new kept mid found before.within i to c.at-to.ensures issuers are (added.grows members pairs new (name new to) are) added.all
+          (before.closed members pairs shown from_start);
     }
 
 pub returns-clause-closed : goal.returns-clause-closed
 returns-clause-closed g c = λ members pairs shown from_start.
-    Closed-less members pairs (length c.args.found.now.keys) c.loop-i.i c.loop-i.found.keys (omega arith) (c.loop-i.invariant.closed members pairs shown from_start)
+    Closed-less members pairs (length c.args.found.now) c.loop-i.i (named c.loop-i.known.keys c.loop-i.found) (omega arith) (c.loop-i.invariant.closed members pairs shown from_start)

@@ -20,7 +20,7 @@ members-preserved g c = λ members pairs shown.
     elim c.if-has_issued_and_received_least.branch [
       | then-has_issued_and_received_least+in_ok-push w ↦
           rw w.found-is
-          (filter-taken after key members order next test items before w.push.new.found.items w.in_ok-push.ensures
+          (filter-taken after key members order next test items before w.push.new.list.items w.in_ok-push.ensures.put
           (sym (c.has_issued_and_received_least.ensures members pairs shown) ∙ w.if-has_issued_and_received_least.true))
       | else-has_issued_and_received_least w ↦
           rw w.found-is

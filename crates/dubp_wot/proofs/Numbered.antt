@@ -1,0 +1,287 @@
+-- Keys by their numbers, over plain lists: who is known by a number, who is found, and what a mark says.
+use Rattle.std.proofs.Common.{◌≡◌, ℕ, zero, suc, ◌+◌, ◌<◌, ◌↔◌, nat_eq, nat_lt, Bool, true, false, IsTrue, cond, if◌then◌else◌, List, [], ◌∷◌, ◌++◌, Vec, Global, Result, Ok, Err, IfOk, OnErr, Option, Some, None, IfSome, IsSome, length, slice_get, get_or, set, take, Contains, inl, inr, refl, sym, ap, subst, ◌∙◌, true≢false, arith}
+use Rattle.std.specs.List.{AllByRecursion, IsDistinct, list_any, position_or_len}
+use Rattle.std.specs.Option.{option_map, option_map_or}
+use Rattle.std.proofs.Math.ListN.{length-append}
+use Rattle.std.proofs.lemmas.List.{map-append, get_or-map, get_or_default, length-map, get_or-set_same, get_or-set_other, get_or_past, get_or_read, take_more}
+use Rattle.std.proofs.lemmas.List.Sums.{fails_before_first, passes_at_first}
+use Rattle.std.proofs.lemmas.Map.Keys.{IsDistinct-head, IsDistinct-tail}
+use Rattle.std.proofs.lemmas.Option.{slice_get_within, slice_get-get_or, slice_get-map, same_Some, get_or_from_slice_get}
+use Rattle.std.proofs.lemmas.Bool.{cases_lt, ltb-true, ltb-false}
+use Rattle.std.proofs.lemmas.Bool.Decides.{Decides-eqb}
+use Rattle.indexmap.specs.IndexSet.{insert_key}
+use Rattle.dubp_atoms.specs.Same.{Text, same_text}
+use Rattle.dubp_atoms.specs.Walks.{Reaches}
+use Rattle.dubp_wot.specs.Known.{AreIssuersOf, KnowIssuers}
+use Rattle.dubp_wot.specs.Numbers.{Numbered, name, named, AreBelow, AreNumbers, Keeps, is_found}
+use Rattle.dubp_wot.specs.Search.{In, Grows, Closed, Level}
+use Rattle.dubp_wot.proofs.Levels.{text_same, text_own, slice_get-append, In-push, In-from_any, any_from_In, Grows-none, Grows-then, Grows-weaker, Grows-push, at-old, Closed-more, Level-first, Level-test}
+
+pub nat_same : (x y : ℕ) → nat_eq x y ≡ true → x ≡ y
+nat_same x y = (Decides-eqb x y).0
+
+pub nat_own : (x : ℕ) → nat_eq x x ≡ true
+nat_own x = (Decides-eqb x x).1 refl
+
+-- ---- keys keep their numbers
+
+pub Keeps-none : (keys : List Text) → Keeps keys keys
+Keeps-none keys = record { longer = omega arith; keeps = λ i k h. h }
+
+pub Keeps-then : (old mid new : List Text) → Keeps old mid → Keeps mid new → Keeps old new
+Keeps-then old mid new g h = record {
+  longer = let a = g.longer in let b = h.longer in omega arith;
+  keeps = λ i k e. h.keeps i k (g.keeps i k e);
+}
+
+pub Keeps-insert : (keys : List Text) (k : Text) → Keeps keys (insert_key same_text keys k)
+Keeps-insert keys k = by (list_any (same_text k) keys)
+  where
+    by : (t : Bool) → Keeps keys (if t then keys else keys ++ k ∷ [])
+    by true = Keeps-none keys
+    by false = record { longer = omega (arith, length-append keys (k ∷ [])); keeps = λ i c h. slice_get-append keys (k ∷ []) i c h }
+
+-- a key is put, or there is no memory for it
+pub Keeps-result : {R E : Type 0} (result : Result R E) (old new : List Text) (k : Text) → IfOk result (λ _. new ≡ insert_key same_text old k)
+    → OnErr result (new ≡ old) → Keeps old new
+Keeps-result (Ok r) old new k put stays = subst (Keeps old) (sym put) (Keeps-insert old k)
+Keeps-result (Err e) old new k put stays = subst (Keeps old) (sym stays) (Keeps-none old)
+
+module _ (old new : List Text) (kept : Keeps old new) where
+  pub name-kept : (n : ℕ) → n < length old → name new n ≡ name old n
+  name-kept n within = get_or_from_slice_get new n (get_or old n []) [] (kept.keeps n (get_or old n []) (slice_get-get_or old n [] within))
+
+  pub named-kept : (xs : List ℕ) → AreBelow (length old) xs → named new xs ≡ named old xs
+  named-kept [] below = refl
+  named-kept (x ∷ xs) below =
+      ap (λ k. k ∷ named new xs) (name-kept x (below x (0, refl))) ∙ ap (λ ks. name old x ∷ ks) (named-kept xs (λ n m. below n (suc m.0, m.1)))
+
+  pub AreBelow-kept : (xs : List ℕ) → AreBelow (length old) xs → AreBelow (length new) xs
+  AreBelow-kept xs below n m = let a = below n m in let b = kept.longer in omega arith
+
+  pub AreNumbers-kept : (issuers : List (Option (Vec ℕ Global))) → AreNumbers old issuers → AreNumbers new issuers
+  AreNumbers-kept issuers are i = by (get_or issuers i None) (are i)
+    where
+      by : (o : Option (Vec ℕ Global)) → IfSome o (λ v. (i < length old) × AreBelow (length old) v.items) → IfSome o (λ v. (i < length new) × AreBelow (length new) v.items)
+      by None h = tt
+      by (Some v) h = (let a = h.0 in let b = kept.longer in omega arith, AreBelow-kept v.items h.1)
+
+-- what was known is known of more keys
+pub KnowIssuers-kept : (members : List Text) (pairs : List (Text × Text)) (old new : Numbered) → Keeps old.keys new.keys → new.issuers ≡ old.issuers
+    → AreNumbers old.keys old.issuers → KnowIssuers members pairs old → KnowIssuers members pairs new
+KnowIssuers-kept members pairs old new kept same are know i =
+    subst (λ (l : List (Option (Vec ℕ Global))). IfSome (get_or l i None) (λ v. AreIssuersOf members pairs (name new.keys i) (named new.keys v.items))) (sym same)
+    (by (get_or old.issuers i None) (are i) (know i))
+  where
+    by : (o : Option (Vec ℕ Global)) → IfSome o (λ v. (i < length old.keys) × AreBelow (length old.keys) v.items)
+        → IfSome o (λ v. AreIssuersOf members pairs (name old.keys i) (named old.keys v.items))
+        → IfSome o (λ v. AreIssuersOf members pairs (name new.keys i) (named new.keys v.items))
+    by None h k = tt
+    by (Some v) h k =
+        subst (λ b. AreIssuersOf members pairs b (named new.keys v.items)) (sym (name-kept old.keys new.keys kept i h.0))
+        (subst (λ ks. AreIssuersOf members pairs (name old.keys i) ks) (sym (named-kept old.keys new.keys kept v.items h.1)) k)
+
+-- the members who certify a key, by the numbers that they got
+pub AreIssuersOf-numbered : (members : List Text) (pairs : List (Text × Text)) (old new : List Text) → Keeps old new → (n : ℕ) (to : Text) → slice_get old n ≡ Some to
+    → (keys : List Text) (numbers : List ℕ) → named new numbers ≡ keys → AreIssuersOf members pairs to keys → AreIssuersOf members pairs (name new n) (named new numbers)
+AreIssuersOf-numbered members pairs old new kept n to at keys numbers is are =
+    subst (λ b. AreIssuersOf members pairs b (named new numbers)) (sym (get_or_from_slice_get new n to [] (kept.keeps n to at)))
+    (subst (AreIssuersOf members pairs to) (sym is) are)
+
+-- ---- one element is put, and the list has room for more
+
+pub set-each : {X : Type 0} (P : ℕ → X → Type 0) (d x : X) (old mid new : List X) (n : ℕ) → ((i : ℕ) → get_or mid i d ≡ get_or old i d) → n < length mid
+    → new ≡ set mid n x → ((i : ℕ) → P i (get_or old i d)) → P n x → (i : ℕ) → P i (get_or new i d)
+set-each P d x old mid new n same within is each here i = subst (λ l. P i (get_or l i d)) (sym is) (by (nat_eq i n) refl)
+  where
+    by : (t : Bool) → nat_eq i n ≡ t → P i (get_or (set mid n x) i d)
+    by true e = subst (λ j. P j (get_or (set mid n x) j d)) (sym (nat_same i n e)) (subst (P n) (sym (get_or-set_same mid n x d within)) here)
+    by false e = subst (P i) (sym (get_or-set_other mid n i x d (λ s. true≢false (sym (nat_own i) ∙ ap (nat_eq i) s ∙ e)) ∙ same i)) (each i)
+
+-- what stands at a number where something is known
+pub known-at : (issuers : List (Option (Vec ℕ Global))) (n : ℕ) (o : Option (Vec ℕ Global)) (v : Vec ℕ Global) → IsSome (get_or issuers n None) → o ≡ get_or issuers n o
+    → o ≡ Some v → get_or issuers n None ≡ Some v
+known-at issuers n o v some at is =
+    elim (cases_lt n (length issuers)) [
+      | inl within ↦ sym (get_or_read issuers n o within at None) ∙ is
+      | inr past ↦ absurd (not_some (get_or issuers n None) some (get_or_past issuers n None past))
+    ]
+  where
+    not_some : (p : Option (Vec ℕ Global)) → IsSome p → p ≡ None → ⊥
+    not_some None h e = true≢false (sym h)
+    not_some (Some x) h e = cc
+
+pub get_or-push_default : {X : Type 0} (xs : List X) (d : X) (i : ℕ) → get_or (xs ++ d ∷ []) i d ≡ get_or xs i d
+get_or-push_default [] d zero = refl
+get_or-push_default [] d (suc i) = refl
+get_or-push_default (x ∷ xs) d zero = refl
+get_or-push_default (x ∷ xs) d (suc i) = get_or-push_default xs d i
+
+-- ---- names in lists
+
+module _ (keys : List Text) where
+  pub named-push : (xs : List ℕ) (n : ℕ) → named keys (xs ++ n ∷ []) ≡ named keys xs ++ name keys n ∷ []
+  named-push xs n = map-append (name keys) xs (n ∷ [])
+
+  pub In-named : (xs : List ℕ) (n i : ℕ) → slice_get xs i ≡ Some n → slice_get (named keys xs) i ≡ Some (name keys n)
+  In-named xs n i h = slice_get-map (name keys) xs i ∙ ap (option_map (name keys)) h
+
+  pub In-of_named : (xs : List ℕ) (a : Text) (i : ℕ) → slice_get (named keys xs) i ≡ Some a → (n : ℕ) × In xs n × (name keys n ≡ a)
+  In-of_named [] a i h = cc
+  In-of_named (x ∷ xs) a zero h = (x, (0, refl), same_Some (name keys x) a h)
+  In-of_named (x ∷ xs) a (suc i) h = let r = In-of_named xs a i h in (r.0, (suc r.1.0, r.1.1), r.2)
+
+  pub Contains-named : (xs : List ℕ) (i n : ℕ) → i < length xs → n ≡ get_or xs i n → Contains (named keys xs) (name keys n)
+  Contains-named xs i n within at =
+      (i, omega (arith, within, length-map xs (name keys)), get_or-map (name keys) xs i n (name keys n) within ∙ ap (name keys) (sym at))
+
+  pub Contains-of_named : (xs : List ℕ) (a : Text) → Contains (named keys xs) a → (n : ℕ) × Contains xs n × (name keys n ≡ a)
+  Contains-of_named xs a m =
+      let within : m.0 < length xs = omega (arith, m.1, length-map xs (name keys)) in
+      (get_or xs m.0 0, (m.0, within, get_or_default xs m.0 (get_or xs m.0 0) 0 within), sym (get_or-map (name keys) xs m.0 0 a within) ∙ m.2)
+
+  -- a number more is found, whose key is that of a member who certifies one that has From
+  pub Grows-number : (members : List Text) (pairs : List (Text × Text)) (From : Text → Type 0) (xs : List ℕ) (n : ℕ) (b : Text)
+      → Contains members (name keys n) → From b → Contains pairs (name keys n, b) → Grows members pairs From (named keys xs) (named keys (insert_key nat_eq xs n))
+  Grows-number members pairs From xs n b in' from pair = by (list_any (nat_eq n) xs)
+    where
+      by : (t : Bool) → Grows members pairs From (named keys xs) (named keys (if t then xs else xs ++ n ∷ []))
+      by true = Grows-none members pairs From (named keys xs)
+      by false =
+          subst (Grows members pairs From (named keys xs)) (sym (named-push xs n))
+          (Grows-push members pairs From (named keys xs) (name keys n) b in' from pair)
+
+pub AreBelow-none : (size : ℕ) (xs : List ℕ) → xs ≡ [] → AreBelow size xs
+AreBelow-none size xs none n m = absurd (omega (arith, slice_get_within xs m.0 n m.1, ap length none))
+
+pub AreBelow-push : (size : ℕ) (xs : List ℕ) (n : ℕ) → AreBelow size xs → n < size → AreBelow size (xs ++ n ∷ [])
+AreBelow-push size xs n below within a m = elim (In-push xs n a m.0 m.1) [ inl old ↦ below a old | inr e ↦ subst (λ z. z < size) (sym e) within ]
+
+pub AreBelow-insert : (size : ℕ) (xs : List ℕ) (n : ℕ) → AreBelow size xs → n < size → AreBelow size (insert_key nat_eq xs n)
+AreBelow-insert size xs n below within = by (list_any (nat_eq n) xs)
+  where
+    by : (t : Bool) → AreBelow size (if t then xs else xs ++ n ∷ [])
+    by true = below
+    by false = AreBelow-push size xs n below within
+
+-- ---- whether a key is found, by its number
+
+none_again : (y : Text) (ys : List Text) → AllByRecursion (λ z. same_text y z ≡ false) ys → (n : ℕ) → slice_get ys n ≡ Some y → ⊥
+none_again y [] apart n e = cc
+none_again y (z ∷ zs) apart zero e = true≢false (sym (text_own y) ∙ ap (same_text y) (sym (same_Some z y e)) ∙ apart.0)
+none_again y (z ∷ zs) apart (suc n) e = none_again y zs apart.1 n e
+
+-- a key has one number
+pub one_number : (keys : List Text) → IsDistinct same_text keys → (a : Text) (i j : ℕ) → slice_get keys i ≡ Some a → slice_get keys j ≡ Some a → i ≡ j
+one_number [] once a i j h k = cc
+one_number (x ∷ xs) once a zero zero h k = refl
+one_number (x ∷ xs) once a zero (suc j) h k = absurd (none_again x xs (IsDistinct-head same_text x xs once) j (k ∙ sym h))
+one_number (x ∷ xs) once a (suc i) zero h k = absurd (none_again x xs (IsDistinct-head same_text x xs once) i (h ∙ sym k))
+one_number (x ∷ xs) once a (suc i) (suc j) h k = ap suc (one_number xs (IsDistinct-tail same_text x xs once) a i j h k)
+
+alike : (s t : Bool) → (s ≡ true → t ≡ true) → (t ≡ true → s ≡ true) → s ≡ t
+alike true t h k = sym (h refl)
+alike false true h k = k refl
+alike false false h k = refl
+
+module _ (keys : List Text) (once : IsDistinct same_text keys) (xs : List ℕ) (below : AreBelow (length keys) xs) (a : Text) where
+  first : ℕ
+  first = position_or_len (same_text a) keys
+
+  -- a key that is found stands at the number that is found
+  stands : list_any (same_text a) (named keys xs) ≡ true → (n : ℕ) × In xs n × (slice_get keys n ≡ Some a)
+  stands h =
+      let m = In-from_any same_text text_same (named keys xs) a h in
+      let r = In-of_named keys xs a m.0 m.1 in
+      (r.0, r.1, slice_get-get_or keys r.0 [] (below r.0 r.1) ∙ ap Some r.2)
+
+  pub is_found-named : is_found keys xs a ≡ list_any (same_text a) (named keys xs)
+  unfolding first
+  is_found-named = by (nat_lt (position_or_len (same_text a) keys) (length keys)) refl
+    where
+      by : (t : Bool) → nat_lt (position_or_len (same_text a) keys) (length keys) ≡ t
+          → option_map_or (λ n. list_any (nat_eq n) xs) (cond t (Some (position_or_len (same_text a) keys)) None) false ≡ list_any (same_text a) (named keys xs)
+      by true e = alike (list_any (nat_eq first) xs) (list_any (same_text a) (named keys xs)) forth back
+        where
+          within : first < length keys
+          within = ltb-true first (length keys) e
+
+          at : slice_get keys first ≡ Some a
+          at = slice_get-get_or keys first [] within ∙ ap Some (sym (text_same a (get_or keys first []) (passes_at_first (same_text a) keys [] within)))
+
+          forth : list_any (nat_eq first) xs ≡ true → list_any (same_text a) (named keys xs) ≡ true
+          forth h =
+              let m = In-from_any nat_eq nat_same xs first h in
+              any_from_In same_text text_same text_own (named keys xs) a m.0
+              (In-named keys xs first m.0 m.1 ∙ ap Some (get_or_from_slice_get keys first a [] at))
+
+          back : list_any (same_text a) (named keys xs) ≡ true → list_any (nat_eq first) xs ≡ true
+          back h =
+              let s = stands h in
+              let e' = one_number keys once a s.0 first s.2 at in
+              any_from_In nat_eq nat_same nat_own xs first s.1.0 (s.1.1 ∙ ap Some e')
+      by false e = sym (none (list_any (same_text a) (named keys xs)) refl)
+        where
+          none : (t : Bool) → list_any (same_text a) (named keys xs) ≡ t → t ≡ false
+          none false h = refl
+          none true h =
+              let s = stands h in
+              let within = slice_get_within keys s.0 a s.2 in
+              let past = ltb-false first (length keys) e in
+              let fails = fails_before_first (same_text a) keys s.0 [] (omega arith) in
+              absurd (true≢false (sym (text_own a) ∙ ap (same_text a) (sym (get_or_from_slice_get keys s.0 a [] s.2)) ∙ fails))
+
+-- ---- lists of numbers, one more at a time
+
+pub AreBelow-at : (size : ℕ) (xs : List ℕ) (i n : ℕ) → AreBelow size xs → i < length xs → n ≡ get_or xs i n → n < size
+AreBelow-at size xs i n below within at = below n (i, slice_get-get_or xs i n within ∙ ap Some (sym at))
+
+-- the number of the next key is put
+pub named-more : (old new : List Text) → Keeps old new → (numbers : List ℕ) → AreBelow (length old) numbers → (n : ℕ) (k : Text) → slice_get new n ≡ Some k
+    → (keys : List Text) (i : ℕ) → i < length keys → k ≡ get_or keys i k → named old numbers ≡ take i keys → named new (numbers ++ n ∷ []) ≡ take (i + 1) keys
+named-more old new kept numbers below n k at keys i within here is =
+    named-push new numbers n
+    ∙ ap (λ ks. ks ++ name new n ∷ []) (named-kept old new kept numbers below ∙ is)
+    ∙ ap (λ z. take i keys ++ z ∷ []) (get_or_from_slice_get new n k [] at ∙ here)
+    ∙ sym (take_more keys i k within)
+
+-- the members who certify the key at one place are found, which may have given numbers to more keys
+module _ (members : List Text) (pairs : List (Text × Text)) (old new : List Text) (kept : Keeps old new) (mid found : List ℕ) (below : AreBelow (length old) mid)
+    (i to : ℕ) (at : slice_get mid i ≡ Some to) (issuers : List ℕ) (are : AreIssuersOf members pairs (name new to) (named new issuers))
+    (more : Grows members pairs (λ b. b ≡ name new to) (named new mid) (named new found)) (all : (n : ℕ) → Contains issuers n → In found n) where
+  here : slice_get (named old mid) i ≡ Some (name new to)
+  here = In-named old mid to i at ∙ ap Some (sym (name-kept old new kept to (below to (i, at))))
+
+  grown : Grows members pairs (λ b. b ≡ name new to) (named old mid) (named new found)
+  grown = subst (λ ks. Grows members pairs (λ b. b ≡ name new to) ks (named new found)) (named-kept old new kept mid below) more
+
+  pub Grows-level : (first : List Text) → i < length first → Grows members pairs (In first) first (named old mid)
+      → Grows members pairs (In first) first (named new found)
+  Grows-level first within before =
+      let stood : In first (name new to) = (i, at-old members pairs (In first) first (named old mid) before i (name new to) within here) in
+      Grows-then members pairs (In first) first (named old mid) (named new found) before
+      (Grows-weaker members pairs (λ b. b ≡ name new to) (In first) (named old mid) (named new found) (λ b e. subst (In first) (sym e) stood) grown)
+
+  pub Closed-level : Closed members pairs i (named old mid) → Closed members pairs (i + 1) (named new found)
+  Closed-level closed = Closed-more members pairs (λ b. b ≡ name new to) i (name new to) (named old mid) (named new found) closed grown here has
+    where
+      has : (a : Text) → Contains members a → Contains pairs (a, name new to) → In (named new found) a
+      has a in' pair =
+          let c = Contains-of_named new issuers a ((are a).1 (in', pair)) in
+          let m = all c.0 c.1 in
+          subst (In (named new found)) c.2 (m.0, In-named new found c.0 m.0 m.1)
+
+-- the test by number decides who reaches the target
+pub Level-found : (members : List Text) (pairs : List (Text × Text)) (target : Text) (steps : ℕ) (keys : List Text) → IsDistinct same_text keys → (numbers : List ℕ)
+    → AreBelow (length keys) numbers → Level members pairs target steps (named keys numbers) → (a : Text) → IsTrue (is_found keys numbers a) ↔ Reaches members pairs steps a target
+Level-found members pairs target steps keys once numbers below level a =
+    subst (λ t. IsTrue t ↔ Reaches members pairs steps a target) (sym (is_found-named keys once numbers below a))
+    (Level-test members pairs target same_text text_same text_own steps (named keys numbers) level a)
+
+-- a search begins at the target
+pub Level-target : (members : List Text) (pairs : List (Text × Text)) (target : Text) (keys : List Text) (n : ℕ) → slice_get keys n ≡ Some target → (old new : List ℕ)
+    → old ≡ [] → new ≡ insert_key nat_eq old n → Contains members target → Level members pairs target 0 (named keys new)
+Level-target members pairs target keys n at old new none put in' =
+    subst (Level members pairs target 0)
+    (sym (ap (named keys) (put ∙ ap (λ xs. insert_key nat_eq xs n) none) ∙ ap (λ k. k ∷ []) (get_or_from_slice_get keys n target [] at)))
+    (Level-first members pairs target in')
