@@ -2,4 +2,5 @@ pub mod AnswerBytes
 pub mod Answers
 pub mod OfForging
 pub mod OfMoves
+pub mod OneLine
 pub mod Turns

@@ -10,16 +10,18 @@
 #![tactic(auto)]
 
 mod answer;
+mod asked;
 mod command;
 mod failure;
 mod limits;
 mod query;
 
 pub use answer::Answer;
+pub use asked::Asked;
 pub use command::Command;
 pub use dubp_chain::Head;
 pub use dubp_moves::{Kind, Move, laws as move_laws};
 pub use dubp_validity::{Record, put_record};
 pub use failure::Failure;
 pub use limits::LONGEST_BLOCK;
-pub use query::Query;
+pub use query::{Query, filled};

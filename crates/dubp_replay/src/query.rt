@@ -1,3 +1,6 @@
+ghost use Rattle.std.specs.Prelude.{◌≡◌, ◌≤◌, length};
+
+use arrayvec::ArrayVec;
 use dubp_atoms::{Key, Uid};
 use dubp_cond::CondText;
 
@@ -26,4 +29,14 @@ pub enum Query {
     Records { number: u64 },
     /// The text of a block.
     Show { number: u64 },
+}
+
+/// The text of a condition, of at most 1,000 bytes, as a query keeps it. It takes no memory.
+pub fn filled(text: &[u8]) -> CondText
+    requires { length text.now ≤ 1000 }
+    ensures { result.items ≡ text.now }
+{
+    let mut cond: CondText = ArrayVec::new();
+    let _ = cond.try_extend_from_slice(text);
+    cond
 }
