@@ -7,6 +7,8 @@ use Rattle.std.proofs.lemmas.List.Folds.{list_any-append}
 use Rattle.std.proofs.lemmas.List.Sums.{sum_by-cons, sum_by-append}
 use Rattle.dubp_atoms.specs.Same.{Text, same_text}
 use Rattle.dubp_cond.specs.Conditions.{cond_text}
+use Rattle.dubp_cond.specs.Tree.{CondTree}
+use Rattle.dubp_sindex.specs.declared.rows.SourceRow.{SourceRow}
 use Rattle.dubp_cond.specs.declared.source.SourceId.{SourceId}
 use Rattle.dubp_cond.specs.declared.output.Output.{Output}
 use Rattle.dubp_chain.specs.Money.{Source, output_source, dividend_source}
@@ -17,7 +19,8 @@ use Rattle.dubp_sindex.specs.Numbering.{number_of, with_text}
 use Rattle.dubp_money_steps.specs.Left.{account_in, entry_of, entries_of, HasTexts, IsSmall}
 use Rattle.dubp_money_steps.proofs.Numbering.{account_stays}
 use Rattle.dubp_money.specs.Texts.{Grows}
-use Rattle.dubp_money.specs.Making.{CanFollow, with_made, dividends_to}
+use Rattle.dubp_money.specs.Making.{CanFollow, with_made, dividends_to, source_of}
+use Rattle.dubp_money.specs.declared.making.NewSource.{NewSource}
 use Rattle.dubp_money.specs.declared.paying.Payment.{Payment}
 use Rattle.dubp_money.proofs.Growing.{has_more}
 use Rattle.dubp_money.proofs.Units.{units_made}
@@ -277,3 +280,14 @@ has_text texts t =
 
 pub account_found : (texts : List Text) (t : Text) (n : ℕ) → number_of texts t ≡ Some n → account_in texts t ≡ n
 account_found texts t n is = ap (λ o. unwrap_or o 0) is
+
+-- a row whose account is the number of its condition is the row of the source
+pub row_made : (Has : List Entry → Type 0) (rows : List Entry) (source : NewSource) (cond : CondTree) (texts : List Text) (account : ℕ) (row : SourceRow)
+    → account_in texts (cond_text cond) ≡ account → row ≡ record { amount = source.amount; base = source.base; account = account; made_at = source.made_at; order = source.order }
+    → (IsNewRow rows (source.id, row) → Has (rows ++ (source.id, row) ∷ []))
+    → IsNewRow rows (entry_of (account_in texts) (source.order, source_of source cond)) → Has (rows ++ entry_of (account_in texts) (source.order, source_of source cond) ∷ [])
+row_made Has rows source cond texts account row same is made new =
+    let row_is : row ≡ record { amount = source.amount; base = source.base; account = account_in texts (cond_text cond); made_at = source.made_at; order = source.order } =
+        is ∙ (λ i. record { amount = source.amount; base = source.base; account = sym same i; made_at = source.made_at; order = source.order }) in
+    let entry : (source.id, row) ≡ entry_of (account_in texts) (source.order, source_of source cond) = λ i. (source.id, row_is i) in
+    subst (λ e. Has (rows ++ e ∷ [])) entry (made (subst (IsNewRow rows) (sym entry) new))

@@ -34,7 +34,6 @@ use std::sync::ledger::Ledger as StepBook;
 /// What is paid to the members, where something is, with its records: as `pay_dividends`. At most five sets a record.
 pub fn pay<L: StepBook>(
     index: &mut SIndex,
-    alloc: Global,
     payment: Option<Payment>,
     members: &[Key],
     order: u64,
@@ -54,7 +53,7 @@ pub fn pay<L: StepBook>(
         None => Ok(()),
         Some(payment) => {
             put_dividends(payment, members, out)?;
-            pay_dividends(index, alloc, payment, members, order, steps)?;
+            pay_dividends(index, payment, members, order, steps)?;
             Ok(())
         }
     }
@@ -90,7 +89,7 @@ pub fn spend_and_make<L: StepBook>(
     ensures count { ⟦<SIndex as Tables<SourceRows>>⟧.count index.new + steps.old ≤ ⟦<SIndex as Tables<SourceRows>>⟧.count index.old + steps.new }
 {
     let behind = write_transactions(index, alloc, block, hashes, time, made, out, steps)?;
-    pay(index, alloc, payment, members, behind, out, steps)?;
+    pay(index, payment, members, behind, out, steps)?;
     Ok(())
 }
 

@@ -5,8 +5,10 @@ ghost use Rattle.dubp_cond.specs.Conditions.{cond_text};
 ghost use Rattle.dubp_cond.specs.Transactions.{IsTx};
 ghost use Rattle.dubp_validity.specs.declared.record.Record.TheVariants.{Make};
 ghost use Rattle.dubp_validity.specs.Records.{make_record};
+ghost use Rattle.dubp_chain.specs.Money.{signed_by};
 ghost use Rattle.dubp_sindex.specs.Accounts.{accounts};
 ghost use Rattle.dubp_sindex.specs.Rows.{Entry, AreRows, IsNewRow};
+ghost use Rattle.dubp_sindex.specs.Numbering.{signed_text};
 ghost use Rattle.dubp_money_steps.specs.Left.{account_in, entry_of, HasTexts};
 ghost use Rattle.dubp_money.specs.Index.{HasRows};
 ghost use Rattle.dubp_money.specs.Texts.{Grows};
@@ -14,7 +16,7 @@ ghost use Rattle.dubp_money.specs.Making.{outputs_at, CanFollow, with_made, sour
 
 use crate::counting::place_behind;
 use arrayvec::ArrayVec;
-use dubp_atoms::{Hash, Items, Line, NoMemory, Steps};
+use dubp_atoms::{Hash, Items, Key, Line, NoMemory, Steps};
 use dubp_cond::{Cond, Input, Output, SourceId, Tx, put_cond};
 use dubp_sindex::{SIndex, SourceRow, SourceRows};
 use dubp_undo::Tables;
@@ -32,8 +34,21 @@ pub struct NewSource {
     pub order: u64,
 }
 
+// The row of a source whose condition has this number.
+fn row_of(source: &NewSource, account: usize) -> SourceRow
+    ensures { result ≡ record { amount = source.now.amount; base = source.now.base; account = account; made_at = source.now.made_at; order = source.now.order } }
+{
+    SourceRow {
+        amount: source.amount,
+        base: source.base,
+        account,
+        made_at: source.made_at,
+        order: source.order,
+    }
+}
+
 // The source is unspent, behind all others, and its condition has a number.
-pub(crate) fn make_source<L: StepBook>(
+fn make_source<L: StepBook>(
     index: &mut SIndex,
     source: NewSource,
     cond: &Cond,
@@ -48,14 +63,26 @@ pub(crate) fn make_source<L: StepBook>(
     ensures count { ⟦<SIndex as Tables<SourceRows>>⟧.count index.new + steps.old ≤ ⟦<SIndex as Tables<SourceRows>>⟧.count index.old + steps.new }
 {
     let account = index.account(cond)?;
-    let row = SourceRow {
-        amount: source.amount,
-        base: source.base,
-        account,
-        made_at: source.made_at,
-        order: source.order,
-    };
-    index.make(source.id, row, steps)?;
+    index.make(source.id, row_of(&source, account), steps)?;
+    Ok(())
+}
+
+// The same of a source whose condition this key signs.
+pub(crate) fn make_signed<L: StepBook>(
+    index: &mut SIndex,
+    source: NewSource,
+    key: &Key,
+    steps: &mut Steps<L>,
+) -> Result<(), NoMemory>
+    ensures at { OnOk result ((rows : List Entry) → AreRows rows → HasRows index.old rows → IsNewRow rows (entry_of (account_in (accounts index.new)) (source.order, source_of source (signed_by key.now))) → HasRows index.new (rows ++ entry_of (account_in (accounts index.new)) (source.order, source_of source (signed_by key.now)) ∷ [])) }
+    ensures has { OnOk result (IsTrue (list_any (same_text (signed_text key.now)) (accounts index.new))) }
+    ensures texts { Grows (accounts index.old) (accounts index.new) }
+    ensures steps { OnOk result (steps.new ≤ steps.old + 5) }
+    ensures others { ⟦<SIndex as Tables<SourceRows>>⟧.others index.new ≡ ⟦<SIndex as Tables<SourceRows>>⟧.others index.old }
+    ensures count { ⟦<SIndex as Tables<SourceRows>>⟧.count index.new + steps.old ≤ ⟦<SIndex as Tables<SourceRows>>⟧.count index.old + steps.new }
+{
+    let account = index.signed_account(key)?;
+    index.make(source.id, row_of(&source, account), steps)?;
     Ok(())
 }
 

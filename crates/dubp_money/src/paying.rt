@@ -1,7 +1,5 @@
 ghost use Rattle.std.specs.Prelude.{◌≡◌, ◌+◌, ◌*◌, ◌≤◌, ◌++◌, List, ◌∷◌, [], take, length, map, OnOk, IfOk};
-ghost use Rattle.dubp_cond.specs.Conditions.{cond_text};
 ghost use Rattle.dubp_cond.specs.declared.source.SourceId.TheVariants.{D};
-ghost use Rattle.dubp_chain.specs.Money.{signed_by as sig_by};
 ghost use Rattle.dubp_validity.specs.declared.record.Record.TheVariants.{Dividend};
 ghost use Rattle.dubp_validity.specs.Records.{input_of};
 ghost use Rattle.dubp_sindex.specs.Accounts.{accounts};
@@ -12,13 +10,12 @@ ghost use Rattle.dubp_money.specs.Texts.{Grows};
 ghost use Rattle.dubp_money.specs.Making.{dividends_to, CanFollow, with_made};
 
 use crate::counting::place_behind;
-use crate::making::{NewSource, make_source};
+use crate::making::{NewSource, make_signed};
 use dubp_atoms::{Key, NoMemory, Steps};
-use dubp_cond::{All, Cond, Input, Item, SourceId};
+use dubp_cond::{Input, SourceId};
 use dubp_sindex::{SIndex, SourceRows};
 use dubp_undo::Tables;
 use dubp_validity::Record;
-use std::alloc::Global;
 use std::sync::ledger::Ledger as StepBook;
 
 /// What the block of this number pays to each member, at this time in seconds.
@@ -30,32 +27,12 @@ pub struct Payment {
     pub time: u64,
 }
 
-// SIG(key).
-fn signed_by(alloc: Global, key: &Key) -> Result<Cond, NoMemory>
-    ensures is { IfOk result (λ cond. cond ≡ sig_by key.now) }
-    ensures short { IfOk result (λ cond. length (cond_text cond) ≤ 1000) }
-{
-    let _text = key.as_bytes();
-    let mut every = Vec::new(alloc);
-    push(&mut every, Item::Sig(*key))?;
-    let mut any = Vec::new(alloc);
-    push(&mut any, All { every })?;
-    Ok(Cond { any })
-}
-
-fn push<T: Drop>(list: &mut Vec<T>, value: T) -> Result<(), NoMemory>
-    ensures { OnOk result (list.new.items ≡ list.old.items ++ value ∷ []) }
-{
-    list.push(value).map_err(|_| NoMemory)
-}
-
 /// The dividends of the members are unspent sources, from this place on in the order of making. Each of their conditions has a
 /// number. At most five sets a member.
 ///
 /// On `NoMemory` some of them may be made; what is kept stays so.
 pub fn pay_dividends<L: StepBook>(
     index: &mut SIndex,
-    alloc: Global,
     payment: Payment,
     members: &[Key],
     order: u64,
@@ -70,7 +47,6 @@ pub fn pay_dividends<L: StepBook>(
 {
     let mut place = 0;
     for key in members {
-        let cond = signed_by(alloc, key)?;
         let source = NewSource {
             id: SourceId::D {
                 key: *key,
@@ -81,7 +57,7 @@ pub fn pay_dividends<L: StepBook>(
             made_at: payment.time,
             order: place_behind(order, place),
         };
-        make_source(index, source, &cond, steps)?;
+        make_signed(index, source, key, steps)?;
         place += 1;
     }
     Ok(())

@@ -1,20 +1,26 @@
-ghost use Rattle.std.specs.Prelude.{◌≡◌, ◌<◌, ◌++◌, ◌∷◌, if◌then◌else◌, [], Some, length, slice_get, IfOk, OnOk, OnErr};
+ghost use Rattle.std.specs.Prelude.{◌≡◌, ◌<◌, ◌++◌, ◌∷◌, if◌then◌else◌, [], List, Some, length, slice_get, IfOk, IfSome, OnOk, OnErr};
 ghost use Rattle.std.specs.List.{list_any, position_or_len};
-ghost use Rattle.dubp_atoms.specs.Same.{same_text};
-ghost use Rattle.dubp_sindex.specs.Numbering.{AreApart, number_of, with_text};
+ghost use Rattle.dubp_atoms.specs.Same.{Text, same_text};
+ghost use Rattle.dubp_sindex.specs.Numbering.{AreApart, AreNumbers, number_of, signed_text, with_text};
 
-use dubp_atoms::{NoMemory, Secret};
-use indexmap::IndexSet;
+use arrayvec::ArrayVec;
+use dubp_atoms::{Key, NoMemory, Secret};
+use indexmap::{IndexMap, IndexSet};
 use std::alloc::Global;
 use std::marker::Model;
 
+/// The room of the text of a condition that one key signs.
+const SIGNED_ROOM: usize = 64;
+
 /// A set of texts, each kept in its own length, and each with its place in the order in which they came as its number.
 ///
-/// Contracts see it as the list of its texts.
+/// Contracts see it as the list of its texts. Beside them stand, by key, the numbers of conditions that one key signs, where they were
+/// asked for by the key.
 #[derive(Drop)]
 pub struct Accounts {
     alloc: Global,
     texts: IndexSet<Vec<u8>, Secret>,
+    signed: IndexMap<Key, usize, Secret>,
 }
 
 impl Model for Accounts {
@@ -24,6 +30,10 @@ impl Model for Accounts {
     ghost Value = { List Text };
 
     ghost view = { λ a. map (λ v. v.items) a.texts.keys };
+
+    ghost use Rattle.dubp_sindex.specs.Numbering.{AreNumbers};
+
+    ghost invariant = { λ a. AreNumbers a.signed (map (λ v. v.items) a.texts.keys) };
 }
 
 impl Accounts {
@@ -34,6 +44,7 @@ impl Accounts {
         Accounts {
             alloc,
             texts: IndexSet::with_hasher(alloc, secret),
+            signed: IndexMap::with_hasher(alloc, secret),
         }
     }
 
@@ -75,6 +86,48 @@ impl Accounts {
         let number = put_last(&mut self.texts, text)?;
         Ok(number)
     }
+
+    // The number of the condition that this key signs, where it was asked for before.
+    fn known(&self, key: &Key) -> Option<usize>
+        ensures { IfSome result (λ n. number_of self.now (signed_text key.now) ≡ Some n) }
+    {
+        self.signed.get(key).copied()
+    }
+
+    /// The number of the condition that this key signs, whose text goes last where it is new. Where it was asked for before, no text is
+    /// written.
+    ///
+    /// `NoMemory` where there is no memory for a new one; then all is as it was.
+    pub fn add_signed(&mut self, key: &Key) -> Result<usize, NoMemory>
+        ensures number { IfOk result (λ n. number_of self.new (signed_text key.now) ≡ Some n) }
+        ensures added { OnOk result (self.new ≡ with_text self.old (signed_text key.now)) }
+        ensures refused { OnErr result (self.new ≡ self.old) }
+    {
+        if let Some(number) = self.known(key) {
+            return Ok(number);
+        }
+        let number = self.add(text_of_signed(key).as_slice())?;
+        remember(&mut self.signed, key, number);
+        Ok(number)
+    }
+}
+
+// Remembers the number of the condition that this key signs; where there is no memory for it, it is found by its text the next time.
+fn remember(signed: &mut IndexMap<Key, usize, Secret>, key: &Key, number: usize)
+    ensures { (texts : List Text) → number_of texts (signed_text key.now) ≡ Some number → AreNumbers signed.old texts → AreNumbers signed.new texts }
+{
+    let _ = signed.insert(*key, number);
+}
+
+// The text of the condition that this key signs.
+fn text_of_signed(key: &Key) -> ArrayVec<u8, SIGNED_ROOM>
+    ensures { result.items ≡ signed_text key.now }
+{
+    let mut text = ArrayVec::new();
+    let _ = text.try_extend_from_slice(b"SIG(");
+    let _ = text.try_extend_from_slice(key.as_bytes());
+    let _ = text.try_extend_from_slice(b")");
+    text
 }
 
 // The text in memory of its own length.

@@ -2,13 +2,13 @@ ghost use Rattle.std.specs.Prelude.{◌≡◌, ◌<◌, ◌≤◌, List, [], Som
 ghost use Rattle.dubp_atoms.specs.Same.{Text};
 ghost use Rattle.dubp_cond.specs.Conditions.{cond_text};
 ghost use Rattle.dubp_sindex.specs.Accounts.{accounts};
-ghost use Rattle.dubp_sindex.specs.Numbering.{AreApart, number_of, with_text};
+ghost use Rattle.dubp_sindex.specs.Numbering.{AreApart, number_of, signed_text, with_text};
 ghost use Rattle.dubp_sindex.specs.States.{States};
 
 use crate::accounts::Accounts;
 use crate::rows::{Balance, SourceRows, SourceTables};
 use arrayvec::ArrayVec;
-use dubp_atoms::{Line, NoMemory, Secret, Steps};
+use dubp_atoms::{Key, Line, NoMemory, Secret, Steps};
 use dubp_cond::{Cond, put_cond};
 use dubp_undo::{ByHash, ByNumber, Found, Leaf, Least, NoSummary, Tables, Three};
 use std::alloc::Global;
@@ -168,5 +168,20 @@ impl SIndex {
         let mut line: Line = ArrayVec::new();
         put_cond(cond, &mut line);
         self.accounts.add(line.as_slice())
+    }
+    /// The number of the account whose condition this key signs, which gets the next number where it has none. No table changes, and no text is
+    /// written where it was asked for before.
+    ///
+    /// `NoMemory` where there is no memory for a new text; then all is as it was.
+    pub fn signed_account(&mut self, key: &Key) -> Result<usize, NoMemory>
+        ensures number { IfOk result (λ n. number_of (accounts self.new) (signed_text key.now) ≡ Some n) }
+        ensures accounts { OnOk result (accounts self.new ≡ with_text (accounts self.old) (signed_text key.now)) }
+        ensures refused { OnErr result (accounts self.new ≡ accounts self.old) }
+        ensures now { ⟦<SIndex as Tables<SourceRows>>⟧.now self.new ≡ ⟦<SIndex as Tables<SourceRows>>⟧.now self.old }
+        ensures count { ⟦<SIndex as Tables<SourceRows>>⟧.count self.new ≡ ⟦<SIndex as Tables<SourceRows>>⟧.count self.old }
+        ensures others { ⟦<SIndex as Tables<SourceRows>>⟧.others self.new ≡ ⟦<SIndex as Tables<SourceRows>>⟧.others self.old }
+        ensures at { (s : States) → ⟦<SIndex as Tables<SourceRows>>⟧.at self.old s → ⟦<SIndex as Tables<SourceRows>>⟧.at self.new s }
+    {
+        self.accounts.add_signed(key)
     }
 }

@@ -34,26 +34,24 @@ loop-key-preserved g c =
     let s = dividend_source p.time p.number p.amount p.base k in
     let made = dividends_to p c.args.members.now in
     let texts = accounts c.loop-key.index in
-    let texts' = accounts c.make_source.new.index in
+    let texts' = accounts c.make_signed.new.index in
     let next : IsNext made i s = dividend_next p c.args.members.now i k (omega arith) c.key-item.is in
     let place = c.loop-key.invariant.place in
-    let is = c.in_ok-cond.ensures.is in
     record {
       at = λ rows are can has.
-          made_next (HasRows c.loop-key.index) (HasRows c.make_source.new.index) texts texts' c.in_ok-make_source.ensures.texts rows n made i s next are can
+          made_next (HasRows c.loop-key.index) (HasRows c.make_signed.new.index) texts texts' c.in_ok-make_signed.ensures.texts rows n made i s next are can
           c.loop-key.invariant.has (c.loop-key.invariant.at rows are can has)
           (λ xs rows_are there new.
           let order : c.place_behind.result ≡ n + i = c.place_behind.ensures (omega (arith, place, place_next rows n made i s next can)) ∙ ap (λ k. n + k) place in
-          let E : ℕ → CondTree → Entry = λ m cond. entry_of (account_in texts') (m, record { id = D k p.number; amount = p.amount; base = p.base; cond = cond; time = p.time }) in
-          let same : E c.place_behind.result c.in_ok-cond.cond ≡ E (n + i) s.cond = λ j. E (order j) (is j) in
-          subst (λ e. HasRows c.make_source.new.index (xs ++ e ∷ [])) same
-          (c.in_ok-make_source.ensures.at xs rows_are there (subst (IsNewRow xs) (sym same) new)));
+          let E : ℕ → Entry = λ m. entry_of (account_in texts') (m, s) in
+          let same : E c.place_behind.result ≡ E (n + i) = ap E order in
+          subst (λ e. HasRows c.make_signed.new.index (xs ++ e ∷ [])) same
+          (c.in_ok-make_signed.ensures.at xs rows_are there (subst (IsNewRow xs) (sym same) new)));
       has =
-          has_next texts texts' c.in_ok-make_source.ensures.texts made i s next c.loop-key.invariant.has
-          (subst (λ cond. list_any (same_text (cond_text cond)) texts' ≡ true) is c.in_ok-make_source.ensures.has);
-      texts = grows_on (accounts c.args.index.now) texts texts' c.loop-key.invariant.texts c.in_ok-make_source.ensures.texts;
+          has_next texts texts' c.in_ok-make_signed.ensures.texts made i s next c.loop-key.invariant.has c.in_ok-make_signed.ensures.has;
+      texts = grows_on (accounts c.args.index.now) texts texts' c.loop-key.invariant.texts c.in_ok-make_signed.ensures.texts;
       place = omega (arith, place);
-      steps = omega (arith, c.in_ok-make_source.ensures.steps, c.loop-key.invariant.steps);
-      others = c.in_ok-make_source.ensures.others ∙ c.loop-key.invariant.others;
-      count = omega (arith, c.in_ok-make_source.ensures.count, c.loop-key.invariant.count);
+      steps = omega (arith, c.in_ok-make_signed.ensures.steps, c.loop-key.invariant.steps);
+      others = c.in_ok-make_signed.ensures.others ∙ c.loop-key.invariant.others;
+      count = omega (arith, c.in_ok-make_signed.ensures.count, c.loop-key.invariant.count);
     }
