@@ -288,6 +288,6 @@ pub row_made : (Has : List Entry → Type 0) (rows : List Entry) (source : NewSo
     → IsNewRow rows (entry_of (account_in texts) (source.order, source_of source cond)) → Has (rows ++ entry_of (account_in texts) (source.order, source_of source cond) ∷ [])
 row_made Has rows source cond texts account row same is made new =
     let row_is : row ≡ record { amount = source.amount; base = source.base; account = account_in texts (cond_text cond); made_at = source.made_at; order = source.order } =
-        is ∙ (λ i. record { amount = source.amount; base = source.base; account = sym same i; made_at = source.made_at; order = source.order }) in
+    is ∙ (λ i. record { amount = source.amount; base = source.base; account = sym same i; made_at = source.made_at; order = source.order }) in
     let entry : (source.id, row) ≡ entry_of (account_in texts) (source.order, source_of source cond) = λ i. (source.id, row_is i) in
     subst (λ e. Has (rows ++ e ∷ [])) entry (made (subst (IsNewRow rows) (sym entry) new))

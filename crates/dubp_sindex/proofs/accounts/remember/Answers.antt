@@ -14,7 +14,7 @@ returns c = λ texts is are k.
     let key = c.args.key.now in
     let n = c.args.number in
     elim c.insert.result as (λ r. OnOk r (Updates same_text old new key (Some n)) → OnErr r (IsUnchanged old new)
-        → IfSome (get same_text new k) (λ m. number_of texts (signed_text k) ≡ Some m)) [
+    → IfSome (get same_text new k) (λ m. number_of texts (signed_text k) ≡ Some m)) [
       | Ok was ↦ λ put _. numbers_with old new texts key n is put.0 are k
       | Err error ↦ λ _ same. subst (λ entries. IfSome (lookup (same_text k) entries) (λ m. number_of texts (signed_text k) ≡ Some m)) (sym same) (are k)
     ] c.insert.ensures.updates c.insert.ensures.err
