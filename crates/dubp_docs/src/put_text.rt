@@ -5,7 +5,7 @@ ghost use Rattle.dubp_cond.specs.Sources.{input_text, IsInput};
 ghost use Rattle.dubp_cond.specs.Unlocks.{unlock_line_text, IsUnlockLine};
 ghost use Rattle.dubp_cond.specs.Outputs.{output_text, IsOutput};
 
-use dubp_atoms::{Currency, Key, Line, Sig, Stamp, Uid};
+use dubp_atoms::{Key, Line, Stamp};
 use dubp_cond::{Input, Output, UnlockLine, put_input, put_output, put_unlock};
 
 /// A value that stands in a line of a document, alone or behind a name.
@@ -22,38 +22,8 @@ pub trait PutText {
         ensures room { array_vec_len out.new ≤ array_vec_len out.old + 1034 };
 }
 
-impl PutText for Currency {
-    ghost spelling = { λ currency. currency };
-
-    ghost in_range = { λ _. ⊤ };
-
-    fn put_text(&self, out: &mut Line) {
-        self.put(out);
-    }
-}
-
 impl PutText for Key {
     ghost spelling = { λ key. key };
-
-    ghost in_range = { λ _. ⊤ };
-
-    fn put_text(&self, out: &mut Line) {
-        self.put(out);
-    }
-}
-
-impl PutText for Uid {
-    ghost spelling = { λ uid. uid };
-
-    ghost in_range = { λ _. ⊤ };
-
-    fn put_text(&self, out: &mut Line) {
-        self.put(out);
-    }
-}
-
-impl PutText for Sig {
-    ghost spelling = { λ sig. sig };
 
     ghost in_range = { λ _. ⊤ };
 

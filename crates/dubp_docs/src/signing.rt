@@ -8,7 +8,7 @@ use crate::put_text::PutText;
 use arrayvec::ArrayVec;
 use dubp_atoms::{Currency, Items, Key, Line, Sig, Stamp, TextSink, Uid, put_bytes};
 use dubp_cond::Tx;
-use dubp_lines::{put_line, put_number_line, put_text_line};
+use dubp_lines::{AsText, put_field_line, put_line, put_number_line, put_text_line};
 
 /// Adds this line.
 #[tactic(auto, using(crate::proofs::Added::one_line))]
@@ -19,17 +19,32 @@ fn add_line<S: TextSink>(out: &mut S, line: &[u8]) -> Result<(), S::Refusal>
     put_line(out, line)
 }
 
-/// Adds a line of this name and value.
+/// Adds a line of this name and of a value that has its text at hand.
 #[tactic(auto, using(crate::proofs::Added::one_line))]
-fn add_field<T: PutText, S: TextSink>(out: &mut S, name: &[u8], value: &T) -> Result<(), S::Refusal>
+fn add_field<T: AsText, S: TextSink>(out: &mut S, name: &[u8], value: &T) -> Result<(), S::Refusal>
+    requires { length name.now ≤ 100 }
+    ensures { OnOk result (AddsLines S.has out.old out.new ((name.now ++ T.text_of value.now) ∷ [])) }
+{
+    put_field_line(out, name, value)
+}
+
+/// Adds a line of this name and value. The line is put together in `line`, whatever that holds.
+#[tactic(auto, using(crate::proofs::Added::one_line))]
+fn add_value<T: PutText, S: TextSink>(
+    out: &mut S,
+    line: &mut Line,
+    name: &[u8],
+    value: &T,
+) -> Result<(), S::Refusal>
     requires valid { T.in_range value.now }
     requires name { length name.now ≤ 100 }
     ensures { OnOk result (AddsLines S.has out.old out.new ((name.now ++ T.spelling value.now) ∷ [])) }
 {
-    let mut line: Line = ArrayVec::new();
-    put_bytes(&mut line, name);
-    value.put_text(&mut line);
-    put_line(out, line.as_slice())
+    line.clear();
+    put_bytes(line, name);
+    value.put_text(line);
+    put_bytes(line, b"\n");
+    out.put(line.as_slice())
 }
 
 /// Adds the first three lines of a document of this type, whose line is given.
@@ -48,16 +63,27 @@ fn add_kind<S: TextSink>(out: &mut S, kind: &[u8]) -> Result<(), S::Refusal>
     requires { length kind.now ≤ 50 }
     ensures { OnOk result (AddsLines S.has out.old out.new ((codes "Type: " ++ kind.now) ∷ [])) }
 {
-    let mut line: Line = ArrayVec::new();
-    put_bytes(&mut line, b"Type: ");
-    put_bytes(&mut line, kind);
-    put_line(out, line.as_slice())
+    put_text_line(out, b"Type: ", kind)
 }
 
-/// Adds a line for each value.
-fn add_values<T: PutText, S: TextSink>(out: &mut S, values: &[T]) -> Result<(), S::Refusal>
+/// Adds a line for each value, which is put together in `line`.
+fn add_values<T: PutText, S: TextSink>(
+    out: &mut S,
+    line: &mut Line,
+    values: &[T],
+) -> Result<(), S::Refusal>
     requires { All T.in_range values.now }
     ensures { OnOk result (AddsLines S.has out.old out.new (map T.spelling values.now)) }
+{
+    for value in values {
+        add_value(out, line, b"", value)?;
+    }
+    Ok(())
+}
+
+/// Adds a line for each value, which has its text at hand.
+fn add_texts<T: AsText, S: TextSink>(out: &mut S, values: &[T]) -> Result<(), S::Refusal>
+    ensures { OnOk result (AddsLines S.has out.old out.new (map T.text_of values.now)) }
 {
     for value in values {
         add_field(out, b"", value)?;
@@ -65,9 +91,10 @@ fn add_values<T: PutText, S: TextSink>(out: &mut S, values: &[T]) -> Result<(), 
     Ok(())
 }
 
-/// Adds a heading and a line for each value.
+/// Adds a heading and a line for each value, which is put together in `line`.
 fn add_list<T: PutText, S: TextSink>(
     out: &mut S,
+    line: &mut Line,
     heading: &[u8],
     values: &Items<T>,
 ) -> Result<(), S::Refusal>
@@ -76,7 +103,7 @@ fn add_list<T: PutText, S: TextSink>(
     ensures { OnOk result (AddsLines S.has out.old out.new (heading.now ∷ map T.spelling values.now)) }
 {
     add_line(out, heading)?;
-    add_values(out, values.as_slice())?;
+    add_values(out, line, values.as_slice())?;
     Ok(())
 }
 
@@ -90,10 +117,11 @@ pub fn add_identity<S: TextSink>(
 ) -> Result<(), S::Refusal>
     ensures { OnOk result (AddsLines S.has out.old out.new (identity_lines (identity_of currency.now issuer.now unique_id.now timestamp.now []))) }
 {
+    let mut line: Line = ArrayVec::new();
     add_opening(out, b"Identity", currency)?;
     add_field(out, b"Issuer: ", issuer)?;
     add_field(out, b"UniqueID: ", unique_id)?;
-    add_field(out, b"Timestamp: ", timestamp)?;
+    add_value(out, &mut line, b"Timestamp: ", timestamp)?;
     Ok(())
 }
 
@@ -108,10 +136,11 @@ pub fn add_revocation<S: TextSink>(
 ) -> Result<(), S::Refusal>
     ensures { OnOk result (AddsLines S.has out.old out.new (revocation_lines (revocation_of currency.now issuer.now unique_id.now timestamp.now idty_signature.now []))) }
 {
+    let mut line: Line = ArrayVec::new();
     add_opening(out, b"Revocation", currency)?;
     add_field(out, b"Issuer: ", issuer)?;
     add_field(out, b"IdtyUniqueID: ", unique_id)?;
-    add_field(out, b"IdtyTimestamp: ", timestamp)?;
+    add_value(out, &mut line, b"IdtyTimestamp: ", timestamp)?;
     add_field(out, b"IdtySignature: ", idty_signature)?;
     Ok(())
 }
@@ -129,13 +158,14 @@ pub fn add_certification<S: TextSink>(
 ) -> Result<(), S::Refusal>
     ensures { OnOk result (AddsLines S.has out.old out.new (certification_lines (certification_of currency.now issuer.now idty_issuer.now unique_id.now idty_timestamp.now idty_signature.now cert_timestamp.now []))) }
 {
+    let mut line: Line = ArrayVec::new();
     add_opening(out, b"Certification", currency)?;
     add_field(out, b"Issuer: ", issuer)?;
     add_field(out, b"IdtyIssuer: ", idty_issuer)?;
     add_field(out, b"IdtyUniqueID: ", unique_id)?;
-    add_field(out, b"IdtyTimestamp: ", idty_timestamp)?;
+    add_value(out, &mut line, b"IdtyTimestamp: ", idty_timestamp)?;
     add_field(out, b"IdtySignature: ", idty_signature)?;
-    add_field(out, b"CertTimestamp: ", cert_timestamp)?;
+    add_value(out, &mut line, b"CertTimestamp: ", cert_timestamp)?;
     Ok(())
 }
 
@@ -161,12 +191,13 @@ pub fn add_membership<S: TextSink>(
 ) -> Result<(), S::Refusal>
     ensures { OnOk result (AddsLines S.has out.old out.new (membership_lines (membership_of currency.now issuer.now block.now membership user_id.now cert_ts.now []))) }
 {
+    let mut line: Line = ArrayVec::new();
     add_opening(out, b"Membership", currency)?;
     add_field(out, b"Issuer: ", issuer)?;
-    add_field(out, b"Block: ", block)?;
+    add_value(out, &mut line, b"Block: ", block)?;
     add_direction(out, membership)?;
     add_field(out, b"UserID: ", user_id)?;
-    add_field(out, b"CertTS: ", cert_ts)?;
+    add_value(out, &mut line, b"CertTS: ", cert_ts)?;
     Ok(())
 }
 
@@ -195,13 +226,14 @@ pub fn add_transaction<S: TextSink>(
     requires { IsTx tx.now }
     ensures { OnOk result (AddsLines S.has out.old out.new (transaction_lines currency.now tx.now)) }
 {
+    let mut line: Line = ArrayVec::new();
     add_opening(out, b"Transaction", currency)?;
-    add_field(out, b"Blockstamp: ", &tx.stamp)?;
+    add_value(out, &mut line, b"Blockstamp: ", &tx.stamp)?;
     add_number(out, b"Locktime: ", tx.locktime)?;
-    add_list(out, b"Issuers:", &tx.issuers)?;
-    add_list(out, b"Inputs:", &tx.inputs)?;
-    add_list(out, b"Unlocks:", &tx.unlocks)?;
-    add_list(out, b"Outputs:", &tx.outputs)?;
+    add_list(out, &mut line, b"Issuers:", &tx.issuers)?;
+    add_list(out, &mut line, b"Inputs:", &tx.inputs)?;
+    add_list(out, &mut line, b"Unlocks:", &tx.unlocks)?;
+    add_list(out, &mut line, b"Outputs:", &tx.outputs)?;
     add_comment(out, &tx.comment)?;
     Ok(())
 }
@@ -210,7 +242,7 @@ pub fn add_transaction<S: TextSink>(
 pub fn add_signatures<S: TextSink>(out: &mut S, sigs: &Items<Sig>) -> Result<(), S::Refusal>
     ensures { OnOk result (AddsLines S.has out.old out.new sigs.now) }
 {
-    add_values(out, sigs.as_slice())
+    add_texts(out, sigs.as_slice())
 }
 
 /// Adds a line that is a signature.

@@ -2,4 +2,4 @@ use Rattle.dubp_docs.proofs.Added.{lines_then}
 use Rattle.dubp_docs.proofs.signing.add_revocation.Goals as goal
 
 pub returns : goal.returns
-returns g c = lines_then c.in_ok-add_opening.ensures (lines_then c.in_ok-add_field.ensures (lines_then c.in_ok-add_field-2.ensures (lines_then c.in_ok-add_field-3.ensures c.in_ok-add_field-4.ensures)))
+returns g c = lines_then c.in_ok-add_opening.ensures (lines_then c.in_ok-add_field.ensures (lines_then c.in_ok-add_field-2.ensures (lines_then c.in_ok-add_value.ensures c.in_ok-add_field-3.ensures)))
