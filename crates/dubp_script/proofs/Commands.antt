@@ -20,7 +20,7 @@ use Rattle.dubp_replay.specs.declared.query.Query.TheVariants as query
 use Rattle.dubp_replay.specs.declared.command.Command.{Command}
 use Rattle.dubp_replay.specs.declared.command.Command.TheVariants as command
 use Rattle.dubp_script.specs.Spelling.{IsCommand, IsQuery, IsCondText, command_text, query_text, Says}
-use Rattle.dubp_script.specs.Reading.{bare, verdict_of, change_of, choice_of, cond_text_if, forging_of, statement_of, pending_of, keyed_of, other_of, command_of}
+use Rattle.dubp_script.specs.Reading.{bare, verdict_of, change_of, choice_of, cond_text_if, forging_of, statement_of, pending_of, one_line_of, many_lines_of, command_of}
 use Rattle.dubp_script.proofs.Tried.{or_some, map_some, behind, bare_found}
 
 -- whatever is read has this text and is in range
@@ -149,24 +149,27 @@ pending_tells =
     (either_tells (text_tells is_hash (codes "UNPEND ") command.Unpend (λ t is. is) (λ t. refl))
     forging_tells)
 
-keyed_tells : Tells IsQuery query_text keyed_of
-unfolding keyed_of
-keyed_tells =
-    either_tells (text_tells is_key (codes "IDENTITY ") query.Identity (λ t is. is) (λ t. refl))
-    (either_tells (text_tells is_uid (codes "UID ") query.Uid (λ t is. is) (λ t. refl))
-    (either_tells (text_tells is_key (codes "CERTS ") query.Certs (λ t is. is) (λ t. refl))
-    (either_tells (text_tells is_key (codes "DISTANCE ") query.Distance (λ t is. is) (λ t. refl))
-    (text_tells is_key (codes "DIFF ") query.Diff (λ t is. is) (λ t. refl)))))
-
-other_tells : Tells IsQuery query_text other_of
-unfolding other_of
-other_tells =
+one_line_tells : Tells IsQuery query_text one_line_of
+unfolding one_line_of
+one_line_tells =
     either_tells (bare_tells (codes "HEAD") query.Head tt refl)
     (either_tells (bare_tells (codes "MONEY") query.Money tt refl)
+    (either_tells (text_tells is_key (codes "IDENTITY ") query.Identity (λ t is. is) (λ t. refl))
+    (either_tells (text_tells is_uid (codes "UID ") query.Uid (λ t is. is) (λ t. refl))
     (either_tells (cond_tells (codes "BALANCE ") query.Balance (λ t is. is) (λ t. refl))
+    (either_tells (text_tells is_key (codes "DISTANCE ") query.Distance (λ t is. is) (λ t. refl))
+    (text_tells is_key (codes "DIFF ") query.Diff (λ t is. is) (λ t. refl)))))))
+
+pub one_line_says : (line : List ℕ) (q : Query) → one_line_of line ≡ Some q → IsQuery q × (line ≡ query_text q)
+one_line_says line q e = one_line_tells.tells line q e
+
+many_lines_tells : Tells IsQuery query_text many_lines_of
+unfolding many_lines_of
+many_lines_tells =
+    either_tells (text_tells is_key (codes "CERTS ") query.Certs (λ t is. is) (λ t. refl))
     (either_tells (cond_tells (codes "SOURCES ") query.Sources (λ t is. is) (λ t. refl))
     (either_tells (number_tells (codes "RECORDS ") query.Records (λ n is. is) (λ n. refl))
-    (number_tells (codes "SHOW ") query.Show (λ n is. is) (λ n. refl))))))
+    (number_tells (codes "SHOW ") query.Show (λ n is. is) (λ n. refl))))
 
 asks_tells : {read : List ℕ → Option Query} → Tells IsQuery query_text read → Tells IsCommand command_text (λ line. option_map command.Ask (read line))
 asks_tells {read = read} p = record {
@@ -178,7 +181,7 @@ asks_tells {read = read} p = record {
 
 command_tells : Tells IsCommand command_text command_of
 unfolding command_of
-command_tells = either_tells change_tells (either_tells choice_tells (either_tells statement_tells (either_tells pending_tells (either_tells (asks_tells keyed_tells) (asks_tells other_tells)))))
+command_tells = either_tells change_tells (either_tells choice_tells (either_tells statement_tells (either_tells pending_tells (either_tells (asks_tells one_line_tells) (asks_tells many_lines_tells)))))
 
 pub command_says : (line : List ℕ) (c : Command) → command_of line ≡ Some c → Says line c
 command_says line c e = let f = command_tells.tells line c e in record { is = f.0; text = f.1 }
@@ -210,7 +213,7 @@ forging_again key time k t =
     ∙ rw (number_again time t) refl
 
 pub command_again : (c : Command) → IsCommand c → command_of (command_text c) ≡ Some c
-unfolding command_of change_of choice_of statement_of pending_of keyed_of other_of
+unfolding command_of change_of choice_of statement_of pending_of one_line_of many_lines_of
 command_again (command.Verdict key hash sig) is = rw (verdict_again key hash sig is.0 is.1 is.2) refl
 command_again (command.Block len) is = rw (number_again len is) refl
 command_again (command.Revert count) is = rw (number_again count is) refl

@@ -1,3 +1,5 @@
 pub mod Tried
 pub mod Commands
 pub mod FramedLines
+pub mod OneLine
+pub mod Begun

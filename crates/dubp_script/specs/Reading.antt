@@ -59,27 +59,27 @@ pending_of line =
     (option_or (option_map command.Unpend (named (codes "UNPEND ") (text_if is_hash) line))
     (named (codes "FORGE ") forging_of line))
 
--- what is asked of a key or a name
-unfoldable pub keyed_of : List ℕ → Option Query
-keyed_of line =
-    option_or (option_map query.Identity (named (codes "IDENTITY ") (text_if is_key) line))
-    (option_or (option_map query.Uid (named (codes "UID ") (text_if is_uid) line))
-    (option_or (option_map query.Certs (named (codes "CERTS ") (text_if is_key) line))
-    (option_or (option_map query.Distance (named (codes "DISTANCE ") (text_if is_key) line))
-    (option_map query.Diff (named (codes "DIFF ") (text_if is_key) line)))))
-
--- what else is asked
-unfoldable pub other_of : List ℕ → Option Query
-other_of line =
+-- what is asked and answered in one line
+unfoldable pub one_line_of : List ℕ → Option Query
+one_line_of line =
     option_or (bare (codes "HEAD") query.Head line)
     (option_or (bare (codes "MONEY") query.Money line)
+    (option_or (option_map query.Identity (named (codes "IDENTITY ") (text_if is_key) line))
+    (option_or (option_map query.Uid (named (codes "UID ") (text_if is_uid) line))
     (option_or (option_map query.Balance (named (codes "BALANCE ") cond_text_if line))
+    (option_or (option_map query.Distance (named (codes "DISTANCE ") (text_if is_key) line))
+    (option_map query.Diff (named (codes "DIFF ") (text_if is_key) line)))))))
+
+-- what is asked and answered in many lines
+unfoldable pub many_lines_of : List ℕ → Option Query
+many_lines_of line =
+    option_or (option_map query.Certs (named (codes "CERTS ") (text_if is_key) line))
     (option_or (option_map query.Sources (named (codes "SOURCES ") cond_text_if line))
     (option_or (option_map query.Records (named (codes "RECORDS ") number_of line))
-    (option_map query.Show (named (codes "SHOW ") number_of line))))))
+    (option_map query.Show (named (codes "SHOW ") number_of line))))
 
-abbrev pub query_of : List ℕ → Option Command
-query_of line = option_or (option_map command.Ask (keyed_of line)) (option_map command.Ask (other_of line))
+abbrev pub asking_of : List ℕ → Option Command
+asking_of line = option_or (option_map command.Ask (one_line_of line)) (option_map command.Ask (many_lines_of line))
 
 unfoldable pub command_of : List ℕ → Option Command
-command_of line = option_or (change_of line) (option_or (choice_of line) (option_or (statement_of line) (option_or (pending_of line) (query_of line))))
+command_of line = option_or (change_of line) (option_or (choice_of line) (option_or (statement_of line) (option_or (pending_of line) (asking_of line))))

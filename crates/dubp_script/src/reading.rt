@@ -1,15 +1,16 @@
 ghost use Rattle.std.specs.Prelude.{◌≡◌, IfSome, Some, option_map};
 ghost use Rattle.dubp_script.specs.Spelling.{IsCommand, command_text};
 ghost use Rattle.std.specs.Option.{option_or};
-ghost use Rattle.dubp_script.specs.Reading.{command_of, other_of, pending_of, query_of};
+ghost use Rattle.dubp_script.specs.Reading.{asking_of, command_of, many_lines_of, pending_of};
 ghost use Rattle.dubp_replay.specs.declared.command.Command.{Command as CommandValue};
 ghost use Rattle.dubp_replay.specs.declared.command.Command.TheVariants.{Ask as AskCommand};
 
+use crate::asking::one_line;
 use crate::words::{
-    SaidForging, SaidVerdict, cond_behind, filled, forging_behind, hash_behind, key_behind,
-    number_behind, stamp_behind, uid_behind, verdict_behind,
+    SaidForging, SaidVerdict, cond_behind, forging_behind, hash_behind, key_behind, number_behind,
+    stamp_behind, verdict_behind,
 };
-use dubp_replay::{Command, Query};
+use dubp_replay::{Command, Query, filled};
 
 /// The command that this line is, without its LF. None exactly where it is none. It takes no memory.
 pub fn read_command(line: &[u8]) -> Option<Command>
@@ -61,7 +62,7 @@ fn command(line: &[u8]) -> Option<Command>
 // What is said of documents that wait, or what is asked.
 #[tactic(auto, unfolding(crate::specs::Reading::pending_of))]
 fn pending(line: &[u8]) -> Option<Command>
-    ensures { result ≡ option_or (pending_of line.now) (query_of line.now) }
+    ensures { result ≡ option_or (pending_of line.now) (asking_of line.now) }
 {
     if let Some(len) = number_behind(b"PEND ", line) {
         return Some(Command::Pend { len });
@@ -75,43 +76,23 @@ fn pending(line: &[u8]) -> Option<Command>
     query(line)
 }
 
-// What is asked of a key or a name, or else.
-#[tactic(auto, unfolding(crate::specs::Reading::keyed_of, crate::specs::Reading::other_of))]
+// What is asked.
 fn query(line: &[u8]) -> Option<Command>
-    ensures { result ≡ query_of line.now }
+    ensures { result ≡ asking_of line.now }
 {
-    if let Some(key) = key_behind(b"IDENTITY ", line) {
-        return Some(Command::Ask(Query::Identity { key }));
+    if let Some(asked) = one_line(line) {
+        return Some(Command::Ask(asked.query()));
     }
-    if let Some(uid) = uid_behind(b"UID ", line) {
-        return Some(Command::Ask(Query::Uid { uid }));
-    }
-    if let Some(key) = key_behind(b"CERTS ", line) {
-        return Some(Command::Ask(Query::Certs { key }));
-    }
-    if let Some(key) = key_behind(b"DISTANCE ", line) {
-        return Some(Command::Ask(Query::Distance { key }));
-    }
-    if let Some(key) = key_behind(b"DIFF ", line) {
-        return Some(Command::Ask(Query::Diff { key }));
-    }
-    other_query(line)
+    long_query(line)
 }
 
-// What else is asked.
-#[tactic(auto, unfolding(crate::specs::Reading::other_of))]
-fn other_query(line: &[u8]) -> Option<Command>
-    ensures { result ≡ option_map AskCommand (other_of line.now) }
+// What is asked and answered in many lines.
+#[tactic(auto, unfolding(crate::specs::Reading::many_lines_of))]
+fn long_query(line: &[u8]) -> Option<Command>
+    ensures { result ≡ option_map AskCommand (many_lines_of line.now) }
 {
-    if line == b"HEAD".as_slice() {
-        return Some(Command::Ask(Query::Head));
-    }
-    if line == b"MONEY".as_slice() {
-        return Some(Command::Ask(Query::Money));
-    }
-    if let Some(text) = cond_behind(b"BALANCE ", line) {
-        let cond = filled(text);
-        return Some(Command::Ask(Query::Balance { cond }));
+    if let Some(key) = key_behind(b"CERTS ", line) {
+        return Some(Command::Ask(Query::Certs { key }));
     }
     if let Some(text) = cond_behind(b"SOURCES ", line) {
         let cond = filled(text);

@@ -5,9 +5,8 @@ ghost use Rattle.dubp_lines.specs.Taking.{named};
 ghost use Rattle.dubp_script.specs.Reading.{cond_text_if, forging_of, verdict_of};
 ghost use Rattle.dubp_script.specs.Said.{kept_text, said, said_forging};
 
-use arrayvec::ArrayVec;
 use dubp_atoms::{Hash, Key, Sig, Stamp, Uid, cut, read_number};
-use dubp_cond::{CondText, is_cond};
+use dubp_cond::is_cond;
 
 /// The number behind this word.
 pub fn number_behind(word: &[u8], line: &[u8]) -> Option<u64>
@@ -60,16 +59,6 @@ fn cond_text(text: &[u8]) -> Option<&[u8]>
         return None;
     }
     Some(text)
-}
-
-/// The text as a command keeps it.
-pub fn filled(text: &[u8]) -> CondText
-    requires { length text.now ≤ 1000 }
-    ensures { result.items ≡ text.now }
-{
-    let mut cond: CondText = ArrayVec::new();
-    let _ = cond.try_extend_from_slice(text);
-    cond
 }
 
 /// A verdict as a line says it.
