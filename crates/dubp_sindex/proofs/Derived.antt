@@ -1,14 +1,12 @@
--- What one source more, and one less, makes of the tables that are kept beside the sources.
-use Rattle.std.proofs.Common.{◌≡◌, ℕ, ◌+◌, ◌-◌, ◌<◌, ◌≤◌, Bool, true, false, cond, not, ◌||◌, ◌&&◌, ◌==◌, List, [], ◌∷◌, ◌++◌, Option, Some, None, option_map, filter, length, sum_by, nat_lt, refl, ap, sym, ◌∙◌, subst, true≢false, inl, inr, arith, append-nil, length-append, zero-add, min}
+-- What one source more, and one less, makes of the names, and that rows stay such rows.
+use Rattle.std.proofs.Common.{◌≡◌, ℕ, ◌+◌, ◌-◌, ◌<◌, ◌≤◌, Bool, true, false, cond, not, ◌||◌, ◌&&◌, ◌==◌, List, [], ◌∷◌, ◌++◌, Some, None, option_map, filter, nat_lt, refl, ap, sym, ◌∙◌, subst, true≢false, inl, inr, arith, append-nil, min}
 use Rattle.std.specs.Prelude.{find}
 use Rattle.std.specs.Option.{option_or}
 use Rattle.std.specs.List.{list_any}
 use Rattle.std.specs.Ordering.{nat_cmp, ordering_then, is_eq}
 use Rattle.std.specs.declared.cmp.Ordering.{Ordering}
 use Rattle.std.specs.declared.cmp.Ordering.TheVariants.{Less, Equal, Greater}
-use Rattle.std.proofs.lemmas.List.Elements.{filter-append, filter_agree}
-use Rattle.std.proofs.lemmas.List.Filters.{length-filter_both, sum_by-filter_both}
-use Rattle.std.proofs.lemmas.List.Sums.{sum_by-cons, sum_by-append}
+use Rattle.std.proofs.lemmas.List.Elements.{filter-append}
 use Rattle.std.proofs.lemmas.Bool.{ltb-true, ltb-false, le-ltb}
 use Rattle.std.proofs.lemmas.List.Folds.{find-append, list_any-append}
 use Rattle.std.proofs.lemmas.Bool.Decides.{Decides-eqb}
@@ -16,12 +14,10 @@ use Rattle.std.proofs.lemmas.Map.Text.{is_eq-slice_cmp}
 use Rattle.dubp_cond.specs.declared.source.SourceId.{SourceId}
 use Rattle.dubp_cond.specs.declared.source.SourceId.TheVariants.{D, T}
 use Rattle.dubp_cond.specs.SourceOrder.{derived_cmp}
-use Rattle.dubp_sindex.specs.declared.rows.Balance.{Balance}
-use Rattle.dubp_sindex.specs.Rows.{Entry, same_source, units, units_of_entry, is_of, is_named, of_account, row_at, without, Rises, IsBelow, IsInRange, IsNewRow, IsFreeRow, is_before, with_row, AreRows}
-use Rattle.dubp_sindex.specs.Derived.{pair_cmp, is_placed_at, id_at, balance_of, balance_at}
-use Rattle.dubp_sindex.specs.Changes.{joined, parted, IsChanged}
-use Rattle.dubp_sindex.proofs.Elements.{and_right, or_left, is_false, not_true, IsIn, in_left, in_right, in_append, in_all, all_from_in, in_any, none_in, in_filter, kept_in, filter_on, filter_true, filter_twice}
-use Rattle.dubp_sindex.proofs.Once.{once-filter, once-append, once-parts, sum_of_one, each_once-map}
+use Rattle.dubp_sindex.specs.Rows.{Entry, same_source, units, is_named, without, Rises, IsBelow, IsInRange, IsNewRow, IsFreeRow, is_before, with_row, AreRows}
+use Rattle.dubp_sindex.specs.Derived.{place_of, place_at}
+use Rattle.dubp_sindex.proofs.Elements.{or_left, is_false, not_true, IsIn, in_left, in_right, in_append, in_all, all_from_in, in_any, none_in, in_filter, filter_on, filter_true}
+use Rattle.dubp_sindex.proofs.Once.{once-filter, once-append, once-parts, each_once-map}
 use Rattle.dubp_sindex.proofs.Sources.{same_source_is, same_source_own, OnceEach, once_each, one_of_name}
 
 -- ---- keys that compare as equal
@@ -37,9 +33,6 @@ tied_numbers x y =
       | true ↦ λ below. sym (is_false (x == y) (λ e. omega (arith, ltb-true x y below, (Decides-eqb x y).0 e)))
       | false ↦ λ _. elim (x == y) as (λ r. is_eq (cond r Equal Greater) ≡ r) [ true ↦ refl | false ↦ refl ]
     ] refl
-
-pub tied_pairs : (x y : ℕ × ℕ) → is_eq (pair_cmp x y) ≡ (x.0 == y.0 && x.1 == y.1)
-tied_pairs x y = is_eq_then (nat_cmp x.0 y.0) (nat_cmp x.1 y.1) ∙ (λ i. tied_numbers x.0 y.0 i && tied_numbers x.1 y.1 i)
 
 pub tied_sources : (a b : SourceId) → is_eq (derived_cmp a b) ≡ same_source a b
 tied_sources (D k n) (D k' n') = is_eq_then _ (nat_cmp n n') ∙ (λ i. is_eq-slice_cmp k k' i && tied_numbers n n' i)
@@ -122,43 +115,10 @@ free_between rows r free = record {
 }
 
 -- the new row stands between the others
-module _ (front back rows : List Entry) (are : front ++ back ≡ rows) (r : Entry) (free : IsFree rows r) where
-  pub made_row : (id : SourceId) → row_at id (front ++ r ∷ back) ≡ cond (same_source id r.0) (Some r.1) (row_at id rows)
-  made_row id =
-      put_found (λ (e : Entry). e.1) (is_named id) front back rows are r
-      (λ is. subst (λ name. list_any (is_named name) rows ≡ false) (sym (same_source_is id r.0 is)) free.unnamed)
-
-  pub made_place : (k : ℕ × ℕ) → id_at k (front ++ r ∷ back) ≡ cond (is_placed_at k r) (Some r.0) (id_at k rows)
-  made_place k =
-      put_found (λ (e : Entry). e.0) (is_placed_at k) front back rows are r
-      (λ is. none_in (is_placed_at k) rows (λ x there. is_false (is_placed_at k x) (λ also.
-      free.unplaced x there (sym ((Decides-eqb k.1 x.1.order).0 (and_right (k.0 == x.1.account) (k.1 == x.1.order) also)) ∙ (Decides-eqb k.1 r.1.order).0 (and_right (k.0 == r.1.account) (k.1 == r.1.order) is)))))
-
-  balance_between : (a : ℕ) (xs ys : List Entry) → balance_of a (xs ++ r ∷ ys) ≡ Some (joined (balance_of a (xs ++ ys)) a (units_of_entry r))
-  balance_between a [] [] = ap (λ n. Some (record { account = a; units = n; count = 1 })) (zero-add (units_of_entry r))
-  balance_between a [] (y ∷ ys) = λ i. Some (record { account = a; units = whole i; count = counted i })
-    where
-      whole : sum_by units_of_entry (r ∷ y ∷ ys) ≡ sum_by units_of_entry (y ∷ ys) + units_of_entry r
-      whole = omega (arith, sum_by-cons units_of_entry r (y ∷ ys))
-
-      counted : length (r ∷ y ∷ ys) ≡ length (y ∷ ys) + 1
-      counted = omega arith
-  balance_between a (x ∷ xs) ys = λ i. Some (record { account = a; units = whole i; count = counted i })
-    where
-      whole : sum_by units_of_entry ((x ∷ xs) ++ r ∷ ys) ≡ sum_by units_of_entry ((x ∷ xs) ++ ys) + units_of_entry r
-      whole = omega (arith, sum_by-append units_of_entry (x ∷ xs) (r ∷ ys), sum_by-append units_of_entry (x ∷ xs) ys, sum_by-cons units_of_entry r ys)
-
-      counted : length ((x ∷ xs) ++ r ∷ ys) ≡ length ((x ∷ xs) ++ ys) + 1
-      counted = omega (arith, length-append (x ∷ xs) (r ∷ ys), length-append (x ∷ xs) ys)
-
-  pub made_balance : (account : ℕ) → balance_at account (front ++ r ∷ back) ≡ cond (account == r.1.account) (Some (joined (balance_at account rows) r.1.account (units_of_entry r))) (balance_at account rows)
-  made_balance account =
-      let of_rows : of_account account front ++ of_account account back ≡ of_account account rows = sym (filter-append (is_of account) front back) ∙ ap (of_account account) are in
-      ap (balance_of account) (filter-append (is_of account) front (r ∷ back))
-      ∙ elim (account == r.1.account) as (λ k. (account == r.1.account) ≡ k → balance_of account (of_account account front ++ cond k (r ∷ of_account account back) (of_account account back)) ≡ cond k (Some (joined (balance_at account rows) r.1.account (units_of_entry r))) (balance_at account rows)) [
-        | true ↦ λ is. balance_between account (of_account account front) (of_account account back) ∙ (λ i. Some (joined (balance_of account (of_rows i)) ((Decides-eqb account r.1.account).0 is i) (units_of_entry r)))
-        | false ↦ λ is. ap (balance_of account) of_rows
-      ] refl
+pub more_name : (front back : List Entry) (r : Entry) → IsFree (front ++ back) r → (id : SourceId) → place_at id (front ++ r ∷ back) ≡ cond (same_source id r.0) (Some r.1.order) (place_at id (front ++ back))
+more_name front back r free id =
+    put_found place_of (is_named id) front back (front ++ back) refl r
+    (λ is. subst (λ name. list_any (is_named name) (front ++ back) ≡ false) (sym (same_source_is id r.0 is)) free.unnamed)
 
 -- a row between others, where all before it come earlier, and all behind it later
 pub made_rows : (front back : List Entry) (r : Entry) → AreRows (front ++ back) → IsFree (front ++ back) r → IsInRange r → ((x : Entry) → IsIn x front → x.1.order < r.1.order) → ((x : Entry) → IsIn x back → r.1.order < x.1.order)
@@ -257,82 +217,33 @@ rises-filter p (x ∷ xs) rises =
       | false ↦ later
     ]
 
--- a row that stands once is one of the list
-one_row : (f : Entry → ℕ) (xs : List Entry) → OnceEach xs → (r : Entry) → IsIn r xs → sum_by f (filter (is_named r.0) xs) ≡ f r
-one_row f xs once r there =
-    ap (λ p. sum_by f (filter p xs)) (λ i x. flip r.0 x.0 i) ∙ sum_of_one same_source same_source_is same_source_own (λ (e : Entry). e.0) f xs r once there
+pub gone_name : (rows : List Entry) (r : Entry) → AreRows rows → IsIn r rows → (id : SourceId) → place_at id (without r.0 rows) ≡ cond (same_source id r.0) None (place_at id rows)
+gone_name rows r order there id =
+    gone_found place_of (is_named id) rows r (once_each rows order) there
+    (λ x in_rows is also. one_of_name rows (once_each rows order) x r in_rows there
+    (subst (λ name. same_source name r.0 ≡ true) (sym (sym (same_source_is id x.0 is) ∙ same_source_is id r.0 also)) (same_source_own r.0)))
+
+-- a source that is spent leaves those before it and those behind it
+pub without_is : (front : List Entry) (r : Entry) (back : List Entry) → AreRows (front ++ r ∷ back) → without r.0 (front ++ r ∷ back) ≡ front ++ back
+without_is front r back order =
+    filter-append (λ e. not (is_named r.0 e)) front (r ∷ back)
+    ∙ (λ i. kept front (λ x there. other x (in_left x front (r ∷ back) there) (λ e. omega (arith, before front order.rises x there, ap (λ (w : Entry). w.1.order) e))) i
+    ++ cond (not (same_source_own r.0 i)) (r ∷ without r.0 back) (kept back (λ x there. other x (in_right x front (r ∷ back) (inr there)) (λ e. omega (arith, behind front order.rises x there, ap (λ (w : Entry). w.1.order) e))) i))
   where
-    flip : (a b : SourceId) → same_source a b ≡ same_source b a
-    flip a b =
-        elim (same_source a b) as (λ k. same_source a b ≡ k → k ≡ same_source b a) [
-          | true ↦ λ e. sym (subst (λ id. same_source id a ≡ true) (same_source_is a b e) (same_source_own a))
-          | false ↦ λ e. sym (is_false (same_source b a) (λ h. true≢false (sym (subst (λ id. same_source id b ≡ true) (same_source_is b a h) (same_source_own b)) ∙ e)))
-        ] refl
+    before : (xs : List Entry) → Rises (xs ++ r ∷ back) → (x : Entry) → IsIn x xs → x.1.order < r.1.order
+    before [] rises x there = absurd there
+    before (y ∷ xs) rises x (inl e) = subst (λ (w : Entry). w.1.order < r.1.order) (sym e) (rises_above y (xs ++ r ∷ back) rises.0 r (in_right r xs (r ∷ back) (inl refl)))
+    before (y ∷ xs) rises x (inr there) = before xs rises.1 x there
 
-count_is : (xs : List Entry) → length xs ≡ sum_by (λ (e : Entry). 1) xs
-count_is [] = refl
-count_is (x ∷ xs) = omega (arith, sum_by-cons (λ (e : Entry). 1) x xs, count_is xs)
+    behind : (xs : List Entry) → Rises (xs ++ r ∷ back) → (x : Entry) → IsIn x back → r.1.order < x.1.order
+    behind [] rises x there = rises_above r back rises.0 x there
+    behind (y ∷ xs) rises x there = behind xs rises.1 x there
 
--- one row less
-parted_is : (a : ℕ) (xs ys : List Entry) (units : ℕ) → length ys + 1 ≡ length xs → sum_by units_of_entry ys + units ≡ sum_by units_of_entry xs → balance_of a ys ≡ parted (balance_of a xs) units
-parted_is a [] ys units counted whole = absurd (omega (arith, counted))
-parted_is a (x ∷ xs) [] units counted whole =
-    let last : (length (x ∷ xs) == 1) ≡ true = (Decides-eqb (length (x ∷ xs)) 1).1 (omega (arith, counted)) in
-    rw last refl
-parted_is a (x ∷ xs) (y ∷ ys) units counted whole =
-    let more : (length (x ∷ xs) == 1) ≡ false = is_false (length (x ∷ xs) == 1) (λ e. omega (arith, counted, (Decides-eqb (length (x ∷ xs)) 1).0 e)) in
-    let left : sum_by units_of_entry (y ∷ ys) ≡ sum_by units_of_entry (x ∷ xs) - units = omega (arith, whole) in
-    let fewer : length (y ∷ ys) ≡ length (x ∷ xs) - 1 = omega (arith, counted) in
-    rw more (λ i. Some (record { account = a; units = left i; count = fewer i }))
+    other : (x : Entry) → IsIn x (front ++ r ∷ back) → (x ≡ r → ⊥) → is_named r.0 x ≡ false
+    other x there apart = is_false (is_named r.0 x) (λ named. apart (sym (one_of_name (front ++ r ∷ back) (once_each (front ++ r ∷ back) order) r x (in_right r front (r ∷ back) (inl refl)) there named)))
 
-module _ (rows : List Entry) (r : Entry) (order : AreRows rows) (there : IsIn r rows) where
-  pub gone_row : (id : SourceId) → row_at id (without r.0 rows) ≡ cond (same_source id r.0) None (row_at id rows)
-  gone_row id =
-      gone_found (λ (e : Entry). e.1) (is_named id) rows r (once_each rows order) there
-      (λ x in_rows is also. one_of_name rows (once_each rows order) x r in_rows there
-      (subst (λ name. same_source name r.0 ≡ true) (sym (sym (same_source_is id x.0 is) ∙ same_source_is id r.0 also)) (same_source_own r.0)))
-
-  pub gone_place : (k : ℕ × ℕ) → id_at k (without r.0 rows) ≡ cond (is_placed_at k r) None (id_at k rows)
-  gone_place k =
-      gone_found (λ (e : Entry). e.0) (is_placed_at k) rows r (once_each rows order) there
-      (λ x in_rows is also. one_of_order rows order.rises x r in_rows there
-      (sym ((Decides-eqb k.1 x.1.order).0 (and_right (k.0 == x.1.account) (k.1 == x.1.order) is)) ∙ (Decides-eqb k.1 r.1.order).0 (and_right (k.0 == r.1.account) (k.1 == r.1.order) also)))
-
-  swapped : (account : ℕ) → of_account account (without r.0 rows) ≡ without r.0 (of_account account rows)
-  swapped account =
-      filter_twice (is_of account) (λ e. not (is_named r.0 e)) rows
-      ∙ filter_agree (λ e. not (is_named r.0 e) && is_of account e) (λ e. is_of account e && not (is_named r.0 e)) (λ e. turned (not (is_named r.0 e)) (is_of account e)) rows
-      ∙ sym (filter_twice (λ e. not (is_named r.0 e)) (is_of account) rows)
-    where
-      turned : (a b : Bool) → (a && b) ≡ (b && a)
-      turned true true = refl
-      turned true false = refl
-      turned false true = refl
-      turned false false = refl
-
-  own_balance : (account : ℕ) → (account == r.1.account) ≡ true → balance_of account (without r.0 (of_account account rows)) ≡ parted (balance_at account rows) (units_of_entry r)
-  own_balance account is =
-      let xs = of_account account rows in
-      let once : OnceEach xs = once-filter same_source same_source_is same_source_own (λ (e : Entry). e.0) (is_of account) rows (once_each rows order) in
-      let in_xs = kept_in (is_of account) rows r there is in
-      parted_is account xs (without r.0 xs) (units_of_entry r)
-      (omega (arith, length-filter_both (is_named r.0) (λ e. not (is_named r.0 e)) (λ e. refl) xs, count_is (filter (is_named r.0) xs), one_row (λ (e : Entry). 1) xs once r in_xs))
-      (omega (arith, sum_by-filter_both (is_named r.0) (λ e. not (is_named r.0 e)) (λ e. refl) units_of_entry xs, one_row units_of_entry xs once r in_xs))
-
-  other_balance : (account : ℕ) → (account == r.1.account) ≡ false → without r.0 (of_account account rows) ≡ of_account account rows
-  other_balance account is =
-      filter_on (λ e. not (is_named r.0 e)) (λ e. true) (of_account account rows)
-      (λ x in_xs. let h = in_filter (is_of account) rows x in_xs in
-      ap not (is_false (is_named r.0 x) (λ named. true≢false (sym h.1 ∙ ap (λ (y : Entry). account == y.1.account) (sym (one_of_name rows (once_each rows order) r x there h.0 named)) ∙ is))))
-      ∙ filter_true (of_account account rows)
-
-  pub gone_balance : (account : ℕ) → balance_at account (without r.0 rows) ≡ cond (account == r.1.account) (parted (balance_at account rows) (units_of_entry r)) (balance_at account rows)
-  gone_balance account =
-      ap (balance_of account) (swapped account)
-      ∙ elim (account == r.1.account) as (λ k. (account == r.1.account) ≡ k → balance_of account (without r.0 (of_account account rows)) ≡ cond k (parted (balance_at account rows) (units_of_entry r)) (balance_at account rows)) [
-        | true ↦ λ is. own_balance account is
-        | false ↦ λ is. ap (balance_of account) (other_balance account is)
-      ] refl
+    kept : (xs : List Entry) → ((x : Entry) → IsIn x xs → is_named r.0 x ≡ false) → without r.0 xs ≡ xs
+    kept xs off = filter_on (λ e. not (is_named r.0 e)) (λ e. true) xs (λ x there. ap not (off x there)) ∙ filter_true xs
 
 -- what is left when a source is spent
 pub left_rows : (rows : List Entry) (id : SourceId) → AreRows rows → AreRows (without id rows)
@@ -347,37 +258,6 @@ pub none_gone : (rows : List Entry) (id : SourceId) → list_any (is_named id) r
 none_gone rows id none =
     filter_on (λ e. not (is_named id e)) (λ e. true) rows (λ x there. ap not (is_false (is_named id x) (λ is. true≢false (sym (in_any (is_named id) rows x there is) ∙ none))))
     ∙ filter_true rows
-
--- of the account itself, what is made of its balance is made of the balance before
-own_account : (a account : ℕ) (f : Option Balance → Option Balance) (rows : List Entry) (before : Option Balance) → before ≡ balance_at account rows
-    → cond (a == account) (f (balance_at a rows)) (balance_at a rows) ≡ cond (a == account) (f before) (balance_at a rows)
-own_account a account f rows before old =
-    elim (a == account) as (λ k. (a == account) ≡ k → cond k (f (balance_at a rows)) (balance_at a rows) ≡ cond k (f before) (balance_at a rows)) [
-      | true ↦ λ is. ap f (ap (λ n. balance_at n rows) ((Decides-eqb a account).0 is) ∙ sym old)
-      | false ↦ λ _. refl
-    ] refl
-
--- ---- the rows, and what becomes of a source
-
-module _ (rows : List Entry) (r : Entry) (before : Option Balance) (was : before ≡ balance_at r.1.account rows) where
-  pub is_made : (front back : List Entry) → front ++ back ≡ rows → IsFree rows r → (after : Balance) → after ≡ joined before r.1.account (units_of_entry r)
-      → IsChanged r.0 (record { row = Some r.1; place = (r.1.account, r.1.order); before = before; after = Some after }) rows (front ++ r ∷ back)
-  is_made front back are free after is = record {
-    source = made_row front back rows are r free;
-    place = made_place front back rows are r free;
-    before = was;
-    after = λ a. made_balance front back rows are r free a ∙ own_account a r.1.account (λ x. Some (joined x r.1.account (units_of_entry r))) rows before was ∙ ap (λ b. cond (a == r.1.account) (Some b) (balance_at a rows)) (sym is);
-  }
-
-module _ (rows : List Entry) (r : Entry) (before : Option Balance) (was : before ≡ balance_at r.1.account rows) (are : AreRows rows) where
-  pub is_gone : IsIn r rows → (after : Option Balance) → after ≡ parted before (units_of_entry r)
-      → IsChanged r.0 (record { row = None; place = (r.1.account, r.1.order); before = before; after = after }) rows (without r.0 rows)
-  is_gone there after is = record {
-    source = gone_row rows r are there;
-    place = gone_place rows r are there;
-    before = was;
-    after = λ a. gone_balance rows r are there a ∙ own_account a r.1.account (λ x. parted x (units_of_entry r)) rows before was ∙ ap (λ b. cond (a == r.1.account) b (balance_at a rows)) (sym is);
-  }
 
 pub base_fits : (amount base : ℕ) → base ≤ 15 → units amount (min base 15) ≡ units amount base
 base_fits amount base fits = let e : min base 15 ≡ base = omega (arith, fits) in ap (units amount) e

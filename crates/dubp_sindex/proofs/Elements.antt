@@ -1,6 +1,8 @@
 -- Elements of a list, named by recursion, and what tests on lists say of them.
-use Rattle.std.proofs.Common.{◌≡◌, Bool, true, false, cond, not, ◌||◌, ◌&&◌, List, [], ◌∷◌, ◌++◌, map, filter, refl, ap, sym, subst, true≢false, inl, inr, ◌⊎◌}
+use Rattle.std.proofs.Common.{◌≡◌, Bool, true, false, cond, not, ◌||◌, ◌&&◌, List, [], ◌∷◌, ◌++◌, map, filter, Some, None, refl, ap, sym, subst, true≢false, inl, inr, ◌⊎◌}
+use Rattle.std.specs.Prelude.{find, unwrap_or}
 use Rattle.std.specs.List.{AllByRecursion, list_any}
+use Rattle.std.proofs.lemmas.Option.{none-some}
 
 -- ---- tests
 
@@ -109,6 +111,54 @@ module _ {X : Type 0} where
         | true ↦ ap (λ l. cond (p x) (x ∷ l) l) (filter_twice p q xs)
         | false ↦ filter_twice p q xs
       ]
+
+  pub all_parts : (P : X → Type 0) (xs ys : List X) → AllByRecursion P (xs ++ ys) → AllByRecursion P xs × AllByRecursion P ys
+  all_parts P [] ys h = (tt, h)
+  all_parts P (x ∷ xs) ys h = let rest = all_parts P xs ys h.1 in ((h.0, rest.0), rest.1)
+
+  pub all-filter : (P : X → Type 0) (p : X → Bool) (xs : List X) → AllByRecursion P xs → AllByRecursion P (filter p xs)
+  all-filter P p [] h = tt
+  all-filter P p (x ∷ xs) h = elim (p x) as (λ b. AllByRecursion P (cond b (x ∷ filter p xs) (filter p xs))) [
+    | true ↦ (h.0, all-filter P p xs h.1)
+    | false ↦ all-filter P p xs h.1
+  ]
+
+  -- where all pass, or none does
+  pub filter_all : (p : X → Bool) (xs : List X) → AllByRecursion (λ x. p x ≡ true) xs → filter p xs ≡ xs
+  filter_all p [] h = refl
+  filter_all p (x ∷ xs) h = let here = h.0 in rw here (ap (λ l. x ∷ l) (filter_all p xs h.1))
+
+  pub filter_none : (p : X → Bool) (xs : List X) → AllByRecursion (λ x. p x ≡ false) xs → filter p xs ≡ []
+  filter_none p [] h = refl
+  filter_none p (x ∷ xs) h = let here = h.0 in rw here (filter_none p xs h.1)
+
+  pub all_fail : (p : X → Bool) (xs : List X) → AllByRecursion (λ x. p x ≡ false) xs → find p xs ≡ None
+  all_fail p [] h = refl
+  all_fail p (x ∷ xs) h = let here = h.0 in rw here (all_fail p xs h.1)
+
+  pub in_middle : (front back : List X) (x : X) → IsIn x (front ++ x ∷ back)
+  in_middle [] back x = inl refl
+  in_middle (y ∷ front) back x = inr (in_middle front back x)
+
+  -- an element stands between others
+  pub record IsSplit (xs : List X) (x : X) : Type 0 where
+    pub front : List X
+    pub back : List X
+    pub is : xs ≡ front ++ x ∷ back
+
+  pub split_at : (xs : List X) (x : X) → IsIn x xs → IsSplit xs x
+  split_at [] x there = absurd there
+  split_at (y ∷ ys) x (inl e) = record { front = []; back = ys; is = ap (λ z. z ∷ ys) (sym e) }
+  split_at (y ∷ ys) x (inr there) = let s = split_at ys x there in record { front = y ∷ s.front; back = s.back; is = ap (λ l. y ∷ l) s.is }
+
+  -- what is found is one of the list, and passes
+  pub found_in : (p : X → Bool) (xs : List X) (x : X) → find p xs ≡ Some x → IsIn x xs × (p x ≡ true)
+  found_in p [] x e = absurd (none-some x e)
+  found_in p (y ∷ ys) x e =
+      elim (p y) as (λ b. p y ≡ b → cond b (Some y) (find p ys) ≡ Some x → IsIn x (y ∷ ys) × (p x ≡ true)) [
+        | true ↦ λ passes same. let is : y ≡ x = ap (λ o. unwrap_or o y) same in (inl (sym is), subst (λ z. p z ≡ true) is passes)
+        | false ↦ λ _ later. let h = found_in p ys x later in (inr h.0, h.1)
+      ] refl e
 
 pub list_any-map : {X Y : Type 0} (p : Y → Bool) (f : X → Y) (xs : List X) → list_any p (map f xs) ≡ list_any (λ x. p (f x)) xs
 list_any-map p f [] = refl

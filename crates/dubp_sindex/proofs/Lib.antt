@@ -1,7 +1,11 @@
 pub mod Derived
 pub mod Elements
+pub mod Linked
 pub mod Lookups
+pub mod Moves
 pub mod Once
+pub mod Places
 pub mod Sources
 pub mod Sums
 pub mod Texts
+pub mod Walking

@@ -1,5 +1,5 @@
 -- What the numbers of a balance are bounded by: an account has at most the units of all rows, and these are no more than their places.
-use Rattle.std.proofs.Common.{◌≡◌, ℕ, ◌+◌, ◌<◌, ◌≤◌, List, [], ◌∷◌, Option, not, length, sum_by, refl, ap, sym, subst, ◌∙◌, arith}
+use Rattle.std.proofs.Common.{◌≡◌, ℕ, ◌+◌, ◌<◌, ◌≤◌, List, [], ◌∷◌, Option, not, length, sum_by, refl, sym, subst, ◌∙◌, arith}
 use Rattle.std.specs.Prelude.{◌^◌}
 use Rattle.std.specs.List.{AllByRecursion}
 use Rattle.std.proofs.lemmas.List.Filters.{length-filter_both, sum_by-filter_both}
@@ -31,7 +31,8 @@ join_fits rows e are fits =
     (omega (arith, few_rows rows are.rises are.in_range, length-filter_both (is_of e.1.account) other (λ x. refl) rows))
 
 -- so what the code makes of it is what it has with the row
-pub join_is : (rows : List Entry) (e : Entry) (before : Option Balance) → before ≡ balance_at e.1.account rows → AreRows rows → Fits rows e → (n : ℕ) → n ≡ units_of_entry e
-    → (after : Balance) → (JoinFits before n → after ≡ joined before e.1.account n) → after ≡ joined before e.1.account (units_of_entry e)
-join_is rows e before was are fits n is after join =
-    join (subst (λ b. JoinFits b n) (sym was) (subst (JoinFits (balance_at e.1.account rows)) (sym is) (join_fits rows e are fits))) ∙ ap (joined before e.1.account) is
+pub join_is : (rows : List Entry) (e : Entry) (balance : Option Balance) → balance ≡ balance_at e.1.account rows → AreRows rows → Fits rows e → (n : ℕ) → n ≡ units_of_entry e
+    → (prev next : Option ℕ) (after : Balance) → (JoinFits balance n → after ≡ joined balance e.1.account n e.1.order prev next) → after ≡ joined (balance_at e.1.account rows) e.1.account (units_of_entry e) e.1.order prev next
+join_is rows e balance was are fits n is prev next after join =
+    join (subst (λ b. JoinFits b n) (sym was) (subst (JoinFits (balance_at e.1.account rows)) (sym is) (join_fits rows e are fits)))
+    ∙ (λ i. joined (was i) e.1.account (is i) e.1.order prev next)

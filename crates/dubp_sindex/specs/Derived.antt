@@ -1,26 +1,62 @@
--- The tables that are kept beside the sources, as functions of the rows. Protocol: money.
-use Rattle.std.specs.Prelude.{ℕ, ◌+◌, ◌-◌, ◌*◌, ◌^◌, min, ◌==◌, ◌&&◌, Bool, List, [], ◌∷◌, sum_by, Option, Some, None, option_map, find, length}
-use Rattle.std.specs.Ordering.{nat_cmp, ordering_then}
-use Rattle.std.specs.declared.cmp.Ordering.{Ordering}
+-- The tables that are kept of the sources, as functions of the rows. Protocol: money.
+use Rattle.std.specs.Prelude.{ℕ, ◌+◌, ◌-◌, ◌*◌, ◌^◌, min, ◌==◌, nat_lt, Bool, List, [], ◌∷◌, sum_by, Option, Some, None, option_map, filter, find, length}
 use Rattle.dubp_cond.specs.declared.source.SourceId.{SourceId}
+use Rattle.dubp_sindex.specs.declared.rows.LinkedRow.{LinkedRow}
 use Rattle.dubp_sindex.specs.declared.rows.Balance.{Balance}
-use Rattle.dubp_sindex.specs.Rows.{Entry, of_account, units_of_entry}
+use Rattle.dubp_sindex.specs.Rows.{Entry, is_named, of_account, units_of_entry}
 
--- the order of pairs of numbers
-abbrev pub pair_cmp : ℕ × ℕ → ℕ × ℕ → Ordering
-pair_cmp x y = ordering_then (nat_cmp x.0 y.0) (nat_cmp x.1 y.1)
+abbrev pub place_of : Entry → ℕ
+place_of e = e.1.order
 
--- places: the source of an account at this place in the order of making
-abbrev pub is_placed_at : ℕ × ℕ → Entry → Bool
-is_placed_at k e = k.0 == e.1.account && k.1 == e.1.order
+-- names: the place of the source of this name
+abbrev pub place_at : SourceId → List Entry → Option ℕ
+place_at id rows = option_map place_of (find (is_named id) rows)
 
-abbrev pub id_at : ℕ × ℕ → List Entry → Option SourceId
-id_at k rows = option_map (λ e. e.0) (find (is_placed_at k) rows)
+-- the place of the first source of a list, and that of the last
+abbrev pub first_place : List Entry → Option ℕ
+first_place [] = None
+first_place (e ∷ es) = Some e.1.order
 
--- balances: the units of an account that has a row, and how many it has
+abbrev pub last_of : Entry → List Entry → ℕ
+last_of e [] = e.1.order
+last_of e (f ∷ es) = last_of f es
+
+abbrev pub last_place : List Entry → Option ℕ
+last_place [] = None
+last_place (e ∷ es) = Some (last_of e es)
+
+-- where places rise, the greatest place below p, and the least above it
+abbrev pub before : ℕ → List Entry → Option ℕ
+before p es = last_place (filter (λ e. nat_lt e.1.order p) es)
+
+abbrev pub after : ℕ → List Entry → Option ℕ
+after p es = first_place (filter (λ e. nat_lt p e.1.order) es)
+
+-- rows: the source at a place, with its neighbours among those of its account
+abbrev pub linked : List Entry → Entry → LinkedRow
+linked rows e = record {
+  id = e.0;
+  row = e.1;
+  before = before e.1.order (of_account e.1.account rows);
+  after = after e.1.order (of_account e.1.account rows);
+}
+
+abbrev pub is_at : ℕ → Entry → Bool
+is_at p e = e.1.order == p
+
+abbrev pub linked_at : ℕ → List Entry → Option LinkedRow
+linked_at p rows = option_map (linked rows) (find (is_at p) rows)
+
+-- balances: the units of an account that has a row, how many it has, and the places of the first and the last of them
 abbrev pub balance_of : ℕ → List Entry → Option Balance
 balance_of account [] = None
-balance_of account (e ∷ es) = Some (record { account = account; units = sum_by units_of_entry (e ∷ es); count = length (e ∷ es) })
+balance_of account (e ∷ es) = Some (record {
+  account = account;
+  units = sum_by units_of_entry (e ∷ es);
+  count = length (e ∷ es);
+  first = e.1.order;
+  last = last_of e es;
+})
 
 abbrev pub balance_at : ℕ → List Entry → Option Balance
 balance_at account rows = balance_of account (of_account account rows)

@@ -3,10 +3,10 @@
 use Rattle.std.specs.Prelude.{ℕ, List, [], Option}
 use Rattle.dubp_cond.specs.declared.source.SourceId.{SourceId}
 use Rattle.dubp_undo.specs.States.{newest}
-use Rattle.dubp_sindex.specs.declared.rows.SourceRow.{SourceRow}
+use Rattle.dubp_sindex.specs.declared.rows.LinkedRow.{LinkedRow}
 use Rattle.dubp_sindex.specs.declared.rows.Balance.{Balance}
-use Rattle.dubp_sindex.specs.Rows.{Entry, row_at}
-use Rattle.dubp_sindex.specs.Derived.{id_at, balance_at}
+use Rattle.dubp_sindex.specs.Rows.{Entry}
+use Rattle.dubp_sindex.specs.Derived.{place_at, linked_at, balance_at}
 
 abbrev pub States : Type 0
 States = List (List Entry)
@@ -15,11 +15,11 @@ States = List (List Entry)
 abbrev pub rows_of : States → List Entry
 rows_of s = newest [] s
 
-abbrev pub sources_of : States → SourceId → Option SourceRow
-sources_of s id = row_at id (rows_of s)
+abbrev pub names_of : States → SourceId → Option ℕ
+names_of s id = place_at id (rows_of s)
 
-abbrev pub places_of : States → ℕ × ℕ → Option SourceId
-places_of s k = id_at k (rows_of s)
+abbrev pub linked_of : States → ℕ → Option LinkedRow
+linked_of s place = linked_at place (rows_of s)
 
 abbrev pub balances_of : States → ℕ → Option Balance
 balances_of s account = balance_at account (rows_of s)

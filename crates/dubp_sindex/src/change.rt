@@ -1,21 +1,37 @@
-ghost use Rattle.std.specs.Prelude.{◌≡◌, ◌+◌, ◌≤◌, ◌∷◌, List, min, option_map, OnOk, OnErr};
+ghost use Rattle.std.specs.Prelude.{◌≡◌, ◌+◌, ◌≤◌, ◌==◌, ◌∷◌, ℕ, List, min, option_map, if◌then◌else◌, IfSome, IsOk, OnOk, OnErr};
+ghost use Rattle.std.specs.Option.{option_and_then, option_map_or};
+ghost use Rattle.std.specs.Ordering.{nat_cmp};
+ghost use Rattle.dubp_undo.specs.MovingTable.{get, IsPlaced, PlacesStay};
 ghost use Rattle.dubp_sindex.specs.Rows.{Entry, units};
 ghost use Rattle.dubp_sindex.specs.States.{States, rows_of};
-ghost use Rattle.dubp_sindex.specs.Changes.{IsChanged, JoinFits, joined, parted};
+ghost use Rattle.dubp_sindex.specs.Changes.{IsChanged, JoinFits, changed, is_place, joined, parted, with_after, with_before};
 
-use crate::rows::{Balance, SourceRow, SourceRows, SourceTables};
+use crate::link::Link;
+use crate::rows::{Balance, LinkedRow, Rows, SourceRow, SourceRows, SourceTables};
 use dubp_atoms::{NoMemory, Steps};
 use dubp_cond::SourceId;
 use dubp_undo::Tables;
 use std::sync::ledger::Ledger as StepBook;
 
-/// What becomes of one source: its row, or `None` where it is spent; its place; and the balance of its account.
+/// What becomes of one source.
 #[derive(Clone, Copy, Debug, PartialEq, Eq)]
 pub struct Change {
-    pub row: Option<SourceRow>,
-    pub place: (usize, u64),
-    pub before: Option<Balance>,
-    pub after: Option<Balance>,
+    /// Its place.
+    pub place: usize,
+    /// What stands there from now on: its row, or `None` where it is spent.
+    pub own: Option<LinkedRow>,
+    /// The place of the source before it in the list of its account.
+    pub before: Link,
+    /// The place of the source behind it.
+    pub after: Link,
+    /// What stands behind the one before it from now on.
+    pub behind: Link,
+    /// What stands before the one behind it from now on.
+    pub ahead: Link,
+    /// Its account.
+    pub account: usize,
+    /// What the account has from now on.
+    pub balance: Option<Balance>,
 }
 
 /// The greatest base.
@@ -28,60 +44,179 @@ pub fn units_of(row: SourceRow) -> u128
     u128::from(row.amount) * 10_u128.pow(u32::from(row.base.min(MAX_BASE)))
 }
 
-/// The balance of the account with one source more, exact where the sums are numbers of 128 and 64 bits.
-pub fn join(before: Option<Balance>, account: usize, units: u128) -> Balance
-    ensures { JoinFits before units → result ≡ joined before account units }
+// The first of two places where there is a neighbour, the second where there is none.
+fn either(neighbour: Link, place: usize, own: usize) -> usize
+    ensures { result ≡ option_map_or (λ _. place) neighbour own }
 {
-    match before {
+    match neighbour.place() {
+        Some(_) => place,
+        None => own,
+    }
+}
+
+/// The balance of the account with one source more at this place, between these neighbours, exact where the sums are numbers of 128 and
+/// 64 bits.
+pub fn join(
+    balance: Option<Balance>,
+    account: usize,
+    units: u128,
+    place: usize,
+    before: Link,
+    after: Link,
+) -> Balance
+    ensures { JoinFits balance units → result ≡ joined balance account units place before after }
+{
+    match balance {
         Some(balance) => Balance {
             account,
             units: balance.units.saturating_add(units),
             count: balance.count.saturating_add(1),
+            first: either(before, balance.first, place),
+            last: either(after, balance.last, place),
         },
         None => Balance {
             account,
             units,
             count: 1,
+            first: place,
+            last: place,
         },
     }
 }
 
-/// The balance with one source less, or `None` where that was the last.
-pub fn part(before: Option<Balance>, units: u128) -> Option<Balance>
-    ensures { result ≡ parted before units }
+/// The balance with one source less, which had these neighbours, or `None` where that was the last.
+pub fn part(balance: Option<Balance>, units: u128, before: Link, after: Link) -> Option<Balance>
+    ensures { result ≡ option_and_then (parted units before after) balance }
 {
-    let balance = before?;
-    if balance.count == 1 {
-        None
-    } else {
-        Some(Balance {
-            account: balance.account,
-            units: balance.units.saturating_sub(units),
-            count: balance.count.saturating_sub(1),
-        })
+    let balance = balance?;
+    let rest = Balance {
+        units: balance.units.saturating_sub(units),
+        count: balance.count.saturating_sub(1),
+        ..balance
+    };
+    match (before.place(), after.place()) {
+        (None, None) => None,
+        (None, Some(first)) => Some(Balance { first, ..rest }),
+        (Some(last), None) => Some(Balance { last, ..rest }),
+        (Some(_), Some(_)) => Some(rest),
     }
 }
 
-// The source of this name, where it has a row.
-fn owner(row: Option<SourceRow>, id: &SourceId) -> Option<SourceId>
-    ensures { result ≡ option_map (λ _. id.now) row }
+// Another source stands behind the one at this place. At most one set.
+fn set_after<L: StepBook>(
+    rows: &mut Rows,
+    place: Link,
+    after: Link,
+    steps: &mut Steps<L>,
+) -> Result<(), NoMemory>
+    ensures now { OnOk result ((q : ℕ) → get nat_cmp rows.new.table.now q ≡ changed (is_place q place) (with_after after) (get nat_cmp rows.old.table.now q)) }
+    ensures others { ⟦<Rows as Tables<SourceRows>>⟧.others rows.new ≡ ⟦<Rows as Tables<SourceRows>>⟧.others rows.old }
+    ensures count { ⟦<Rows as Tables<SourceRows>>⟧.count rows.new + steps.old ≤ ⟦<Rows as Tables<SourceRows>>⟧.count rows.old + steps.new }
+    ensures steps { OnOk result (steps.new ≤ steps.old + 1) }
+    ensures placed { OnOk result (PlacesStay nat_cmp rows.old.table.placed rows.new.table.placed) }
+    ensures room { rows.old.table.room ≤ rows.new.table.room + 1 }
+    ensures succeeds { IfSome place (λ p. IsPlaced nat_cmp p rows.old.table.placed) → 1 ≤ rows.old.table.room → IsOk result }
 {
-    match row {
-        Some(_) => Some(*id),
+    if let Some(place) = place.place() {
+        if let Some(row) = rows.get(place) {
+            rows.set(place, Some(LinkedRow { after, ..row }), steps)?;
+        }
+    }
+    Ok(())
+}
+
+// Another source stands before the one at this place. At most one set.
+fn set_before<L: StepBook>(
+    rows: &mut Rows,
+    place: Link,
+    before: Link,
+    steps: &mut Steps<L>,
+) -> Result<(), NoMemory>
+    ensures now { OnOk result ((q : ℕ) → get nat_cmp rows.new.table.now q ≡ changed (is_place q place) (with_before before) (get nat_cmp rows.old.table.now q)) }
+    ensures others { ⟦<Rows as Tables<SourceRows>>⟧.others rows.new ≡ ⟦<Rows as Tables<SourceRows>>⟧.others rows.old }
+    ensures count { ⟦<Rows as Tables<SourceRows>>⟧.count rows.new + steps.old ≤ ⟦<Rows as Tables<SourceRows>>⟧.count rows.old + steps.new }
+    ensures steps { OnOk result (steps.new ≤ steps.old + 1) }
+    ensures placed { OnOk result (PlacesStay nat_cmp rows.old.table.placed rows.new.table.placed) }
+    ensures room { rows.old.table.room ≤ rows.new.table.room + 1 }
+    ensures succeeds { IfSome place (λ p. IsPlaced nat_cmp p rows.old.table.placed) → 1 ≤ rows.old.table.room → IsOk result }
+{
+    if let Some(place) = place.place() {
+        if let Some(row) = rows.get(place) {
+            rows.set(place, Some(LinkedRow { before, ..row }), steps)?;
+        }
+    }
+    Ok(())
+}
+
+// Places the key of a neighbour, where there is one, and makes room for three keys. No step.
+fn ready_at(rows: &mut Rows, place: Link) -> Result<(), NoMemory>
+    ensures now { rows.new.table.now ≡ rows.old.table.now }
+    ensures others { ⟦<Rows as Tables<SourceRows>>⟧.others rows.new ≡ ⟦<Rows as Tables<SourceRows>>⟧.others rows.old }
+    ensures count { ⟦<Rows as Tables<SourceRows>>⟧.count rows.new ≡ ⟦<Rows as Tables<SourceRows>>⟧.count rows.old }
+    ensures placed { OnOk result (IfSome place (λ p. IsPlaced nat_cmp p rows.new.table.placed)) }
+    ensures stay { OnOk result (PlacesStay nat_cmp rows.old.table.placed rows.new.table.placed) }
+    ensures room { rows.old.table.room ≤ rows.new.table.room }
+{
+    if let Some(place) = place.place() {
+        rows.ready(place, 3)?;
+    }
+    Ok(())
+}
+
+// Places the keys of a source and of its neighbours, and makes room for them. No step.
+fn ready_rows(rows: &mut Rows, change: &Change) -> Result<(), NoMemory>
+    ensures now { rows.new.table.now ≡ rows.old.table.now }
+    ensures others { ⟦<Rows as Tables<SourceRows>>⟧.others rows.new ≡ ⟦<Rows as Tables<SourceRows>>⟧.others rows.old }
+    ensures count { ⟦<Rows as Tables<SourceRows>>⟧.count rows.new ≡ ⟦<Rows as Tables<SourceRows>>⟧.count rows.old }
+    ensures own { OnOk result (IsPlaced nat_cmp change.now.place rows.new.table.placed) }
+    ensures before { OnOk result (IfSome change.now.before (λ p. IsPlaced nat_cmp p rows.new.table.placed)) }
+    ensures after { OnOk result (IfSome change.now.after (λ p. IsPlaced nat_cmp p rows.new.table.placed)) }
+    ensures room { OnOk result (3 ≤ rows.new.table.room) }
+{
+    rows.ready(change.place, 3)?;
+    ready_at(rows, change.before)?;
+    ready_at(rows, change.after)?;
+    Ok(())
+}
+
+// Makes the change of the source and of its neighbours in the table of rows. At most three sets.
+fn set_rows<L: StepBook>(
+    rows: &mut Rows,
+    change: &Change,
+    steps: &mut Steps<L>,
+) -> Result<(), NoMemory>
+    ensures now { OnOk result ((q : ℕ) → get nat_cmp rows.new.table.now q ≡ (if q == change.now.place then change.now.own else changed (is_place q change.now.after) (with_before change.now.ahead) (changed (is_place q change.now.before) (with_after change.now.behind) (get nat_cmp rows.old.table.now q)))) }
+    ensures others { ⟦<Rows as Tables<SourceRows>>⟧.others rows.new ≡ ⟦<Rows as Tables<SourceRows>>⟧.others rows.old }
+    ensures count { ⟦<Rows as Tables<SourceRows>>⟧.count rows.new + steps.old ≤ ⟦<Rows as Tables<SourceRows>>⟧.count rows.old + steps.new }
+    ensures steps { OnOk result (steps.new ≤ steps.old + 3) }
+    ensures succeeds { IsPlaced nat_cmp change.now.place rows.old.table.placed → IfSome change.now.before (λ p. IsPlaced nat_cmp p rows.old.table.placed) → IfSome change.now.after (λ p. IsPlaced nat_cmp p rows.old.table.placed) → 3 ≤ rows.old.table.room → IsOk result }
+{
+    set_after(rows, change.before, change.behind, steps)?;
+    set_before(rows, change.after, change.ahead, steps)?;
+    rows.set(change.place, change.own, steps)?;
+    Ok(())
+}
+
+// The place of the source, where it has a row.
+fn named_place(change: &Change) -> Option<usize>
+    ensures { result ≡ option_map (λ _. change.now.place) change.now.own }
+{
+    match change.own {
+        Some(_) => Some(change.place),
         None => None,
     }
 }
 
-/// Makes the change of the source in each table. Three sets.
+/// Makes the change of the source in each table. At most five sets.
 ///
 /// `NoMemory` where there is no memory for its keys; then every table is as it was.
 pub fn put<L: StepBook>(
     tables: &mut SourceTables,
     id: &SourceId,
-    change: Change,
+    change: &Change,
     steps: &mut Steps<L>,
 ) -> Result<(), NoMemory>
-    ensures at { OnOk result ((s t : States) (rows : List Entry) → ⟦<SourceTables as Tables<SourceRows>>⟧.at tables.old s → IsChanged id.now change (rows_of s) rows → ⟦<SourceTables as Tables<SourceRows>>⟧.at tables.new (rows ∷ t)) }
+    ensures at { OnOk result ((s t : States) (rows : List Entry) → ⟦<SourceTables as Tables<SourceRows>>⟧.at tables.old s → IsChanged id.now change.now (rows_of s) rows → ⟦<SourceTables as Tables<SourceRows>>⟧.at tables.new (rows ∷ t)) }
     ensures others { ⟦<SourceTables as Tables<SourceRows>>⟧.others tables.new ≡ ⟦<SourceTables as Tables<SourceRows>>⟧.others tables.old }
     ensures count { ⟦<SourceTables as Tables<SourceRows>>⟧.count tables.new + steps.old ≤ ⟦<SourceTables as Tables<SourceRows>>⟧.count tables.old + steps.new }
     ensures steps { OnOk result (steps.new ≤ steps.old + 5) }
@@ -89,12 +224,12 @@ pub fn put<L: StepBook>(
     ensures refused { OnErr result (⟦<SourceTables as Tables<SourceRows>>⟧.now tables.new ≡ ⟦<SourceTables as Tables<SourceRows>>⟧.now tables.old) }
     ensures no_step { OnErr result (steps.new ≡ steps.old) }
 {
-    let owner = owner(change.row, id);
+    let named = named_place(change);
     tables.first.ready(*id, 1)?;
-    tables.second.ready(change.place, 1)?;
-    tables.third.ready(change.place.0, 1)?;
-    tables.third.set(change.place.0, change.after, steps)?;
-    tables.second.set(change.place, owner, steps)?;
-    tables.first.set(*id, change.row, steps)?;
+    ready_rows(&mut tables.second, change)?;
+    tables.third.ready(change.account, 1)?;
+    tables.third.set(change.account, change.balance, steps)?;
+    set_rows(&mut tables.second, change, steps)?;
+    tables.first.set(*id, named, steps)?;
     Ok(())
 }

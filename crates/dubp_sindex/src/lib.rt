@@ -3,7 +3,8 @@
 //! Contracts see the index by whose rows it has. A state is the list of rows `(SourceId, SourceRow)` in the order of making
 //! (`specs/Rows.antt`); the index stands for a chain of states, newest first, as `dubp_undo` says of its `Tables`. Accounts
 //! are numbers: `accounts` gives the texts of conditions in the order of their numbers. A text that has a number keeps it,
-//! whatever the tables move. The chapter on money in `docs/protocol` says what a source and a balance are.
+//! whatever the tables move. The rows stand once each, by their names and by their places. The chapter on money in
+//! `docs/protocol` says what a source and a balance are.
 //!
 //! ```text
 //! let mut index = SIndex::new(alloc);
@@ -19,6 +20,8 @@
 mod accounts;
 mod change;
 mod laws;
+mod link;
+mod neighbours;
 mod reading;
 mod rows;
 mod sindex;

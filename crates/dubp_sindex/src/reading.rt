@@ -1,8 +1,4 @@
-ghost use Rattle.std.specs.Prelude.{◌≡◌, ◌<◌, ◌^◌, ◌++◌, ◌∷◌, [], slice_get, option_map, OnOk, IfOk, IfSome, IfNone};
-ghost use Rattle.std.specs.Option.{option_map_or};
-ghost use Rattle.std.specs.Ordering.{nat_cmp};
-ghost use Rattle.dubp_cond.specs.SourceOrder.{derived_cmp};
-ghost use Rattle.dubp_undo.specs.MovingTable.{get};
+ghost use Rattle.std.specs.Prelude.{◌≡◌, ◌<◌, ◌^◌, ◌++◌, ◌∷◌, [], slice_get, OnOk, IfOk, IfSome, IfNone};
 ghost use Rattle.dubp_sindex.specs.Rows.{AreRows, IsLeastBalance, row_at, of_account, units_in};
 ghost use Rattle.dubp_sindex.specs.States.{States, rows_of};
 
@@ -18,7 +14,9 @@ impl SIndex {
     pub fn unspent(&self, id: SourceId) -> Option<SourceRow>
         ensures { (s : States) → ⟦<SIndex as Tables<SourceRows>>⟧.at self.now s → result ≡ row_at id (rows_of s) }
     {
-        self.tables.first.get(id)
+        let place = self.tables.first.get(id)?;
+        let linked = self.tables.second.get(place)?;
+        Some(linked.row)
     }
 
     /// The units of the account: 0 where it has no unspent source. It takes no memory.
@@ -43,46 +41,13 @@ impl SIndex {
         }
     }
 
-    // How many unspent sources the account has.
-    fn count_of(&self, account: usize) -> usize
-        ensures { result ≡ option_map_or (λ b. b.count) (get nat_cmp self.now.tables.third.table.now account) 0 }
-    {
-        match self.tables.third.get(account) {
-            Some(balance) => balance.count,
-            None => 0,
-        }
-    }
-
-    // The source of this name with its row, where it has one.
-    fn entry_of(&self, id: &SourceId) -> Option<(SourceId, SourceRow)>
-        ensures { result ≡ option_map (λ row. (id.now, row)) (get derived_cmp self.now.tables.first.table.now id.now) }
-    {
-        let row = self.tables.first.get(*id)?;
-        Some((*id, row))
-    }
-
     /// The first unspent source of the account in the order of making, or `None` where it has none. It takes no memory, and two looks.
     pub fn first_source(&self, account: usize) -> Option<(SourceId, SourceRow)>
         ensures { (s : States) → ⟦<SIndex as Tables<SourceRows>>⟧.at self.now s → AreRows (rows_of s) → result ≡ slice_get (of_account account (rows_of s)) 0 }
     {
-        match self.tables.second.next_from((account, 0)) {
-            Some(((owner, _), id)) if owner == account => self.entry_of(&id),
-            _ => None,
-        }
-    }
-
-    // Puts the source of this name behind those that were found.
-    fn put_source(
-        &self,
-        found: &mut Vec<(SourceId, SourceRow)>,
-        id: &SourceId,
-    ) -> Result<(), NoMemory>
-        ensures { OnOk result (IfSome (get derived_cmp self.now.tables.first.table.now id.now) (λ row. found.new.items ≡ found.old.items ++ (id.now, row) ∷ [])) }
-    {
-        match self.tables.first.get(*id) {
-            Some(row) => put_entry(found, (*id, row)),
-            None => Ok(()),
-        }
+        let balance = self.tables.third.get(account)?;
+        let linked = self.tables.second.get(balance.first)?;
+        Some((linked.id, linked.row))
     }
 
     /// The unspent sources of the account, in the order of making.
@@ -96,15 +61,19 @@ impl SIndex {
         ensures { (s : States) → ⟦<SIndex as Tables<SourceRows>>⟧.at self.now s → AreRows (rows_of s) → IfOk result (λ found. found.items ≡ of_account account (rows_of s)) }
     {
         let mut found = Vec::new(alloc);
-        let mut from = 0;
-        for _ in 0..self.count_of(account) {
-            match self.tables.second.next_from((account, from)) {
-                Some(((owner, order), id)) if owner == account => {
-                    self.put_source(&mut found, &id)?;
-                    from = order.saturating_add(1);
-                }
-                _ => break,
-            }
+        let Some(balance) = self.tables.third.get(account) else {
+            return Ok(found);
+        };
+        let mut here = Some(balance.first);
+        'walk: for _ in 0..balance.count {
+            let Some(place) = here else {
+                return Ok(found);
+            };
+            let Some(linked) = self.tables.second.get(place) else {
+                return Ok(found);
+            };
+            here = linked.after.place();
+            put_entry(&mut found, (linked.id, linked.row))?;
         }
         Ok(found)
     }

@@ -1,10 +1,11 @@
 ghost use Rattle.std.specs.Prelude.{◌≡◌, List, []};
-ghost use Rattle.dubp_sindex.specs.States.{sources_of, places_of, balances_of};
+ghost use Rattle.dubp_sindex.specs.States.{names_of, linked_of, balances_of};
 ghost use Rattle.dubp_sindex.specs.Derived.{measure};
 
+use crate::link::Link;
 use dubp_atoms::Secret;
 use dubp_cond::SourceId;
-use dubp_undo::{ByHash, ByNumber, Definition, Found, Leaf, Least, Measure, NoSummary, Three};
+use dubp_undo::{ByHash, ByNumber, Definition, Found, Least, Measure, NoSummary, Three};
 use std::marker::Model;
 
 /// An unspent source.
@@ -18,16 +19,29 @@ pub struct SourceRow {
     pub account: usize,
     /// The median time of the block that made it, in seconds.
     pub made_at: u64,
-    /// Its place in the order of making, below 2^63.
+    /// Its place in the order of making, below 2^63. The index takes memory for each place up to the greatest.
     pub order: u64,
 }
 
-/// What an account with unspent sources has: its number, their units together, and how many they are.
+/// An unspent source in the list of those of its account: its name, its row, and the places of the one made before it and of the one
+/// made after it.
+#[derive(Clone, Copy, Debug, PartialEq, Eq)]
+pub struct LinkedRow {
+    pub id: SourceId,
+    pub row: SourceRow,
+    pub before: Link,
+    pub after: Link,
+}
+
+/// What an account with unspent sources has: its number, their units together, how many they are, and the places of the first and the
+/// last of them.
 #[derive(Clone, Copy, Debug, PartialEq, Eq)]
 pub struct Balance {
     pub account: usize,
     pub units: u128,
     pub count: usize,
+    pub first: usize,
+    pub last: usize,
 }
 
 /// The rows after a block: a state of the index. No value of it is made.
@@ -45,18 +59,18 @@ impl Model for SourceRows {
     ghost view = { λ s. [] };
 }
 
-/// The row of each unspent source.
-pub struct SourcesOf;
+/// The place of each unspent source, by its name.
+pub struct NamesOf;
 
-impl Definition<SourceRows, SourceId, SourceRow> for SourcesOf {
-    ghost at = { sources_of };
+impl Definition<SourceRows, SourceId, usize> for NamesOf {
+    ghost at = { names_of };
 }
 
-/// The source of each account at a place in the order of making.
-pub struct PlacesOf;
+/// The source at each place in the order of making, with its neighbours.
+pub struct RowsOf;
 
-impl Definition<SourceRows, (usize, u64), SourceId> for PlacesOf {
-    ghost at = { places_of };
+impl Definition<SourceRows, usize, LinkedRow> for RowsOf {
+    ghost at = { linked_of };
 }
 
 /// The balance of each account that has an unspent source.
@@ -77,21 +91,14 @@ impl Measure<Balance> for ByUnits {
     }
 }
 
-/// The table of rows.
-pub type Sources = Found<
-    SourceRows,
-    SourceId,
-    SourceRow,
-    SourcesOf,
-    ByHash<SourceId, Secret>,
-    NoSummary,
->;
+/// The places of sources, by their names.
+pub type Names = Found<SourceRows, SourceId, usize, NamesOf, ByHash<SourceId, Secret>, NoSummary>;
 
-/// The sources of each account, in the order of making.
-pub type Places = Leaf<SourceRows, (usize, u64), SourceId, PlacesOf>;
+/// The sources by their places, each in the list of its account.
+pub type Rows = Found<SourceRows, usize, LinkedRow, RowsOf, ByNumber, NoSummary>;
 
 /// The balances of accounts, with the least of them.
 pub type Balances = Found<SourceRows, usize, Balance, BalancesOf, ByNumber, Least<ByUnits>>;
 
 /// The three tables.
-pub type SourceTables = Three<SourceRows, Sources, Places, Balances>;
+pub type SourceTables = Three<SourceRows, Names, Rows, Balances>;

@@ -3,14 +3,15 @@ ghost use Rattle.dubp_atoms.specs.Same.{Text};
 ghost use Rattle.dubp_cond.specs.Conditions.{cond_text};
 ghost use Rattle.dubp_sindex.specs.Accounts.{accounts};
 ghost use Rattle.dubp_sindex.specs.Numbering.{AreApart, number_of, signed_text, with_text};
-ghost use Rattle.dubp_sindex.specs.States.{States};
+ghost use Rattle.dubp_sindex.specs.Rows.{AreRows};
+ghost use Rattle.dubp_sindex.specs.States.{States, rows_of};
 
 use crate::accounts::Accounts;
 use crate::rows::{Balance, SourceRows, SourceTables};
 use arrayvec::ArrayVec;
 use dubp_atoms::{Key, Line, NoMemory, Secret, Steps};
 use dubp_cond::{Cond, put_cond};
-use dubp_undo::{ByHash, ByNumber, Found, Leaf, Least, NoSummary, Tables, Three};
+use dubp_undo::{ByHash, ByNumber, Found, Least, NoSummary, Tables, Three};
 use std::alloc::Global;
 use std::sync::ledger::Ledger as StepBook;
 
@@ -39,9 +40,10 @@ impl Tables<SourceRows> for SIndex {
     // the accounts are told by number
     ghost names = { λ t. (⟦<SourceTables as Tables<SourceRows>>⟧.names t.tables, t.accounts) };
 
-    ghost is = { λ m n c. ⟦<SourceTables as Tables<SourceRows>>⟧.is m.0 n c };
+    // a place is told by its number, so the rows are such that each has a place of its own
+    ghost is = { λ m n c. ⟦<SourceTables as Tables<SourceRows>>⟧.is m.0 n c × AreRows (rows_of c) };
 
-    ghost at = { λ t c. ⟦<SourceTables as Tables<SourceRows>>⟧.at t.tables c };
+    ghost at = { λ t c. ⟦<SourceTables as Tables<SourceRows>>⟧.at t.tables c × AreRows (rows_of c) };
 
     fn depth(&self) -> usize {
         self.tables.depth()
@@ -93,11 +95,11 @@ fn no_tables(alloc: Global, secret: Secret) -> SourceTables
     ensures kept { (⟦<SourceTables as Tables<SourceRows>>⟧.others result).kept ≡ [] }
     ensures ahead { (⟦<SourceTables as Tables<SourceRows>>⟧.others result).ahead ≡ [] }
 {
-    let sources = Found::over(ByHash::new(alloc, secret), NoSummary, alloc);
-    let places = Leaf::new(alloc);
+    let names = Found::over(ByHash::new(alloc, secret), NoSummary, alloc);
+    let rows = Found::over(ByNumber::new(alloc), NoSummary, alloc);
     let least = Least::new::<Balance>(alloc);
     let balances = Found::over(ByNumber::new(alloc), least, alloc);
-    let tables = Three::new(sources, places, balances);
+    let tables = Three::new(names, rows, balances);
     tables
 }
 

@@ -5,7 +5,9 @@ ghost use Rattle.dubp_sindex.specs.States.{States, rows_of};
 
 use crate::SIndex;
 use crate::change::{Change, join, part, put, units_of};
-use crate::rows::{SourceRow, SourceRows};
+use crate::link::Link;
+use crate::neighbours::{last_of, neighbours};
+use crate::rows::{LinkedRow, SourceRow, SourceRows};
 use dubp_atoms::{NoMemory, Steps};
 use dubp_cond::SourceId;
 use dubp_undo::Tables;
@@ -52,15 +54,26 @@ impl SIndex {
         ensures refused { OnErr result (⟦<SIndex as Tables<SourceRows>>⟧.now self.new ≡ ⟦<SIndex as Tables<SourceRows>>⟧.now self.old) }
         ensures no_step { OnErr result (steps.new ≡ steps.old) }
     {
-        let before = self.tables.third.get(row.account);
-        let after = join(before, row.account, units_of(row));
+        let place = row.order as usize;
+        let balance = self.tables.third.get(row.account);
+        let (before, after) = neighbours(&self.tables.second, last_of(balance), place);
+        let here = Link::to(place);
         let change = Change {
-            row: Some(row),
-            place: (row.account, row.order),
+            place,
+            own: Some(LinkedRow {
+                id: *id,
+                row,
+                before,
+                after,
+            }),
             before,
-            after: Some(after),
+            after,
+            behind: here,
+            ahead: here,
+            account: row.account,
+            balance: Some(join(balance, row.account, units_of(row), place, before, after)),
         };
-        put(&mut self.tables, id, change, steps)?;
+        put(&mut self.tables, id, &change, steps)?;
         Ok(())
     }
 
@@ -90,17 +103,31 @@ impl SIndex {
         ensures refused { OnErr result (⟦<SIndex as Tables<SourceRows>>⟧.now self.new ≡ ⟦<SIndex as Tables<SourceRows>>⟧.now self.old) }
         ensures no_step { OnErr result (steps.new ≡ steps.old) }
     {
-        let Some(row) = self.tables.first.get(*id) else {
+        let Some(place) = self.tables.first.get(*id) else {
             return Ok(());
         };
-        let before = self.tables.third.get(row.account);
-        let change = Change {
-            row: None,
-            place: (row.account, row.order),
-            before,
-            after: part(before, units_of(row)),
+        let Some(linked) = self.tables.second.get(place) else {
+            return Ok(());
         };
-        put(&mut self.tables, id, change, steps)?;
+        let row = linked.row;
+        let before = linked.before;
+        let after = linked.after;
+        let change = Change {
+            place,
+            own: None,
+            before,
+            after,
+            behind: after,
+            ahead: before,
+            account: row.account,
+            balance: part(
+                self.tables.third.get(row.account),
+                units_of(row),
+                before,
+                after,
+            ),
+        };
+        put(&mut self.tables, id, &change, steps)?;
         Ok(())
     }
 }

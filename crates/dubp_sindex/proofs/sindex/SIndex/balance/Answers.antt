@@ -8,8 +8,8 @@ use Rattle.dubp_sindex.proofs.sindex.SIndex.balance.Goals as goal
 
 pub returns-in-Some : goal.returns-in-Some
 returns-in-Some c = λ s at.
-    ap (λ o. option_map_or (λ (b : Balance). b.units) o 0) (sym c.in-Some.is ∙ c.get.ensures ∙ at.2 c.args.account) ∙ units_is c.args.account (of_account c.args.account (rows_of s))
+    ap (λ o. option_map_or (λ (b : Balance). b.units) o 0) (sym c.in-Some.is ∙ c.get.ensures ∙ at.0.2 c.args.account) ∙ units_is c.args.account (of_account c.args.account (rows_of s))
 
 pub returns-in-None : goal.returns-in-None
 returns-in-None c = λ s at.
-    ap (λ o. option_map_or (λ (b : Balance). b.units) o 0) (sym c.in-None.is ∙ c.get.ensures ∙ at.2 c.args.account) ∙ units_is c.args.account (of_account c.args.account (rows_of s))
+    ap (λ o. option_map_or (λ (b : Balance). b.units) o 0) (sym c.in-None.is ∙ c.get.ensures ∙ at.0.2 c.args.account) ∙ units_is c.args.account (of_account c.args.account (rows_of s))

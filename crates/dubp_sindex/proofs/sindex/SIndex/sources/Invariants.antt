@@ -1,14 +1,13 @@
-use Rattle.dubp_cond.specs.SourceOrder.{derived_cmp}
-use Rattle.dubp_undo.specs.Definition.{IsAt}
+use Rattle.std.proofs.Common.{◌≡◌, ℕ, List}
 use Rattle.std.specs.Ordering.{nat_cmp}
-use Rattle.dubp_sindex.specs.Derived.{pair_cmp}
-use Rattle.dubp_sindex.specs.Rows.{AreRows}
-use Rattle.dubp_sindex.specs.States.{States, rows_of, sources_of, places_of, balances_of}
-use Rattle.dubp_sindex.proofs.Lookups.{IsFound}
+use Rattle.dubp_undo.specs.MovingTable.{get}
+use Rattle.dubp_sindex.specs.Rows.{Entry, AreRows}
+use Rattle.dubp_sindex.specs.Derived.{linked_at, balance_at}
+use Rattle.dubp_sindex.proofs.Walking.{IsWalked}
 use Rattle.dubp_sindex.proofs.sindex.SIndex.sources.Given as goal
 
 -- whatever rows the tables have, the first sources of the account were found
-abbrev pub invariant-loop : goal.invariant-loop
-invariant-loop l =
-    (s : States) → IsAt derived_cmp sources_of l.self.tables.first.table.now s → IsAt pair_cmp places_of l.self.tables.second.table.now s → IsAt nat_cmp balances_of l.self.tables.third.table.now s
-    → AreRows (rows_of s) → IsFound (rows_of s) l.account l.from l.counter l.found.items
+abbrev pub invariant-walk : goal.invariant-walk
+invariant-walk l =
+    (rows : List Entry) → ((p : ℕ) → get nat_cmp l.self.tables.second.table.now p ≡ linked_at p rows) → ((a : ℕ) → get nat_cmp l.self.tables.third.table.now a ≡ balance_at a rows) → AreRows rows
+    → IsWalked rows l.account l.counter l.here l.found.items
