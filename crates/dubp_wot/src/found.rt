@@ -1,4 +1,4 @@
-ghost use Rattle.std.specs.Prelude.{◌≡◌, ℕ, ◌<◌, ◌≤◌, ◌^◌, List, [], length, nat_eq, slice_get, get_or, Some, false, replicate, IfOk, OnOk};
+ghost use Rattle.std.specs.Prelude.{◌≡◌, ℕ, ◌<◌, ◌≤◌, ◌^◌, List, [], ◌∷◌, ◌++◌, length, nat_eq, slice_get, get_or, Some, false, replicate, IfOk, OnOk};
 ghost use Rattle.std.specs.List.{list_any};
 ghost use Rattle.indexmap.specs.IndexSet.{insert_key};
 
@@ -68,6 +68,14 @@ impl Found {
         if self.has(number) {
             return Ok(());
         }
+        self.put(number)
+    }
+
+    /// Puts a number behind the others, with its mark. It stands by itself so that the look at a mark, which each pair costs, is short.
+    fn put(&mut self, number: usize) -> Result<(), NoMemory>
+        requires { number < 2 ^ 63 }
+        ensures { OnOk result (self.new ≡ self.old ++ number ∷ []) }
+    {
         lengthen(&mut self.marks, number + 1)?;
         push(&mut self.numbers, number)?;
         self.marks[number] = true;
