@@ -1,24 +1,21 @@
--- Of the records of people, those that tell what ended are the last; of those of money, those that tell what was cleared.
-use Rattle.std.proofs.Common.{◌≡◌, ◌∷◌, [], ◌++◌, ◌&&◌, not, ℕ, List, Option, Some, None, IfSome, filter, unwrap_or, refl, append_assoc, sym, ap, ◌∙◌}
-use Rattle.std.specs.List.{flat_map}
+-- Of the records of people, those that tell what ended are the last.
+use Rattle.std.proofs.Common.{◌≡◌, ◌∷◌, [], ◌++◌, ◌&&◌, not, ℕ, List, Option, Some, None, IfSome, filter, unwrap_or, refl, sym, ap}
 use Rattle.std.specs.Option.{option_map_or}
 use Rattle.dubp_atoms.specs.Same.{Text}
-use Rattle.dubp_cond.specs.declared.tx.Tx.{Tx}
 use Rattle.dubp_block.specs.declared.block.Block.{Block}
 use Rattle.dubp_chain.specs.declared.head.Head.{Head}
 use Rattle.dubp_chain.specs.Chains.{Chain}
-use Rattle.dubp_chain.specs.Heads.{head_of, time_of}
+use Rattle.dubp_chain.specs.Heads.{head_of}
 use Rattle.dubp_chain.specs.Live.{live, certified_pairs}
 use Rattle.dubp_chain.specs.Made.{certification_made}
 use Rattle.dubp_chain.specs.Members.{members}
-use Rattle.dubp_chain.specs.Money.{outputs_made, dividends_at, cleared, cleared_by}
 use Rattle.dubp_chain.specs.People.{expired}
-use Rattle.dubp_validity.specs.declared.record.Record.TheVariants.{Create, Enter, Exit, Join, Active, Leave, Revoke, Expire, ExpireRev, Cert, CertExpire, Spend, Dividend, Clear}
-use Rattle.dubp_validity.specs.Records.{membership_time, identity_keys, is_revoked_by_time, pairs_in_order, line_records, expiry_records, revocation_records, ended_records, transaction_records, dividend_records, clearing_records, input_of, make_record}
+use Rattle.dubp_validity.specs.declared.record.Record.TheVariants.{Create, Enter, Exit, Join, Active, Leave, Revoke, Expire, ExpireRev, Cert, CertExpire}
+use Rattle.dubp_validity.specs.Records.{membership_time, identity_keys, is_revoked_by_time, pairs_in_order, line_records, expiry_records, revocation_records, ended_records}
 use Rattle.dubp_people.specs.OfSteps.{people_records}
-use Rattle.dubp_money_checks.specs.OfMoney.{money_records, ArePaid}
+use Rattle.dubp_money_checks.specs.OfMoney.{ArePaid}
 use Rattle.dubp_judge.specs.OfKept.{paid_by}
-use Rattle.dubp_books.specs.Kinds.{is_ended, is_cleared}
+use Rattle.dubp_books.specs.Kinds.{is_ended}
 use Rattle.dubp_books.specs.Paid.{paid_keys}
 use Rattle.dubp_books.proofs.Filtered.{HasNone, HasAll, none_of_map, none_of_flat_map, none_of_both, all_of_map, all_of_both, last_alone}
 
@@ -40,24 +37,6 @@ all_ended c b =
 
 pub ended_of_people : (c : Chain) (b : Block) → filter is_ended (people_records c b) ≡ expiry_records c b ++ (revocation_records c b ++ ended_records c b)
 ended_of_people c b = last_alone (none_of_lines c b) (all_ended c b)
-
-none_of_transaction : (c : Chain) (b : Block) (tx : Tx) → HasNone is_cleared (transaction_records c b tx)
-none_of_transaction c b tx =
-    none_of_both (none_of_map Spend tx.inputs (λ input. refl))
-    (none_of_map make_record (outputs_made (time_of (b ∷ c)) b.currency tx) (λ s. refl))
-
-none_of_moved : (c : Chain) (b : Block) → HasNone is_cleared (flat_map (transaction_records c b) b.transactions ++ dividend_records c b)
-none_of_moved c b =
-    none_of_both (none_of_flat_map (transaction_records c b) b.transactions (none_of_transaction c b))
-    (none_of_map (λ s. Dividend (input_of s)) (dividends_at b.number (head_of (b ∷ c)) (members (b ∷ c))) (λ s. refl))
-
-all_cleared : (c : Chain) (b : Block) → HasAll is_cleared (clearing_records c b)
-all_cleared c b = all_of_map (λ s. Clear (input_of s)) (cleared_by c b (cleared c)) (λ s. refl)
-
-pub cleared_of_money : (c : Chain) (b : Block) → filter is_cleared (money_records c b) ≡ clearing_records c b
-cleared_of_money c b =
-    ap (filter is_cleared) (sym (append_assoc (flat_map (transaction_records c b) b.transactions) (dividend_records c b) (clearing_records c b)))
-    ∙ last_alone (none_of_moved c b) (all_cleared c b)
 
 -- who is paid by the head of a chain
 

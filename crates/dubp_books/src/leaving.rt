@@ -1,22 +1,22 @@
 ghost use Rattle.std.specs.Prelude.{◌≡◌, filter};
-ghost use Rattle.dubp_books.specs.Kinds.{is_ended, is_cleared};
+ghost use Rattle.dubp_books.specs.Kinds.{is_ended};
 
 use dubp_atoms::{Items, Key};
 use dubp_judge::LeftBehind;
 use dubp_validity::Record;
 
-/// What a block leaves behind, from its records of people, the keys that it pays and its records of money.
+/// What a block leaves behind, from its records of people, the keys that it pays and the records of what it clears.
 ///
 /// Each list gets room of its own length; where there is no memory for that, it keeps the room that it has.
-pub(crate) fn left_of(people: Vec<Record>, paid: Vec<Key>, money: Vec<Record>) -> LeftBehind
+pub(crate) fn left_of(people: Vec<Record>, paid: Vec<Key>, cleared: Vec<Record>) -> LeftBehind
     ensures ended { result.ended ≡ filter is_ended people.items }
     ensures paid { result.paid ≡ paid.items }
-    ensures cleared { result.cleared ≡ filter is_cleared money.items }
+    ensures cleared { result.cleared ≡ cleared.items }
 {
     LeftBehind {
         ended: ended_only(people),
         paid: fitted(paid),
-        cleared: cleared_only(money),
+        cleared: fitted(cleared),
     }
 }
 
@@ -30,21 +30,11 @@ fn ended_only(records: Vec<Record>) -> Items<Record>
     Items::from_vec(ended)
 }
 
-/// Those of the records that tell which source was cleared. The room of the others is given back.
-fn cleared_only(records: Vec<Record>) -> Items<Record>
-    ensures { result ≡ filter is_cleared records.items }
+/// The elements, and no more room than they need.
+fn fitted<T: Drop>(list: Vec<T>) -> Items<T>
+    ensures { result ≡ list.items }
 {
-    let mut cleared = records;
-    cleared.retain(|item| is_cleared(item));
-    cleared.shrink_to_fit();
-    Items::from_vec(cleared)
-}
-
-/// The keys, and no more room than they need.
-fn fitted(keys: Vec<Key>) -> Items<Key>
-    ensures { result ≡ keys.items }
-{
-    let mut fitted = keys;
+    let mut fitted = list;
     fitted.shrink_to_fit();
     Items::from_vec(fitted)
 }
@@ -57,11 +47,4 @@ fn is_ended(item: &Record) -> bool
         item,
         Record::Expire { .. } | Record::ExpireRev { .. } | Record::CertExpire { .. }
     )
-}
-
-/// Whether the record tells that a source was cleared.
-fn is_cleared(item: &Record) -> bool
-    ensures { result ≡ is_cleared item.now }
-{
-    matches!(item, Record::Clear { .. })
 }

@@ -26,20 +26,13 @@ impl Written for Books {
         steps: &mut Steps<L>,
     ) -> Result<LeftBehind, NoMemory> {
         let mut of_people = Vec::new(alloc);
-        let mut of_money = Vec::new(alloc);
         let tables = &mut self.tables;
         apply(alloc, &mut tables.first, block, head, &mut of_people, steps)?;
         let members = paid_members(alloc, &tables.first, head)?;
-        tables.second.apply_hashed(
-            alloc,
-            block,
-            head,
-            members.as_slice(),
-            hashes,
-            &mut of_money,
-            steps,
-        )?;
-        Ok(left_of(of_people, members, of_money))
+        let cleared = tables
+            .second
+            .write(alloc, block, head, members.as_slice(), hashes, steps)?;
+        Ok(left_of(of_people, members, cleared))
     }
 }
 

@@ -1,13 +1,16 @@
-ghost use Rattle.std.specs.Prelude.{◌≡◌, ◌+◌, ◌*◌, ◌≤◌, ◌∷◌, ◌++◌, map, length, OnOk, OnErr};
+ghost use Rattle.std.specs.Prelude.{◌≡◌, ◌+◌, ◌*◌, ◌≤◌, ◌∷◌, ◌++◌, map, length, IfOk, OnOk, OnErr};
 ghost use Rattle.dubp_block.specs.Text.{IsBlock};
 ghost use Rattle.dubp_docs.specs.declared.hashing.TxHashes.{TxHashes as TxHashesValue};
 ghost use Rattle.dubp_chain.specs.Chains.{Chain};
 ghost use Rattle.dubp_chain.specs.Money.{hashes_in};
 ghost use Rattle.dubp_money.specs.Tables.{totals_of};
+ghost use Rattle.dubp_validity.specs.Records.{clearing_records};
 ghost use Rattle.dubp_money.specs.Applied.{IsApplied, ArePaid, money_records};
 
+use crate::clearing::put_clears;
 use crate::money::{Money, Totals};
-use crate::writing::write_all;
+use crate::telling::{put_payment, put_transactions};
+use crate::writing::{payment_of, write_all};
 use dubp_atoms::{Key, NoMemory, Steps};
 use dubp_block::Block;
 use dubp_chain::Head;
@@ -78,10 +81,34 @@ impl Money {
         ensures steps { OnOk result ((c : Chain) → IsApplied c block.now head.now → ArePaid (block.now ∷ c) head.now members.now → ⟦<Money as Tables<Block>>⟧.at self.old c → steps.new ≤ steps.old + (8 * length (money_records c block.now) + 8)) }
         ensures refused { OnErr result (out.new.items ≡ out.old.items) }
     {
+        let mut cleared = self.write(alloc, block, head, members, hashes, steps)?;
+        let mut records = all_records(alloc, block, head, members, hashes, &mut cleared)?;
+        append(&mut records, out)?;
+        Ok(())
+    }
+
+    /// As `apply_hashed`, without records: what is handed out are those of what is cleared, in the order of making.
+    pub fn write<L: StepBook>(
+        &mut self,
+        alloc: Global,
+        block: &Block,
+        head: &Head,
+        members: &[Key],
+        hashes: &[TxHashes],
+        steps: &mut Steps<L>,
+    ) -> Result<Vec<Record>, NoMemory>
+        requires block { IsBlock block.now }
+        requires hashes { map (λ (h : TxHashesValue). h.whole) hashes.now ≡ hashes_in block.now }
+        ensures at { OnOk result ((c : Chain) → IsApplied c block.now head.now → ArePaid (block.now ∷ c) head.now members.now → ⟦<Money as Tables<Block>>⟧.at self.old c → ⟦<Money as Tables<Block>>⟧.at self.new (block.now ∷ c)) }
+        ensures cleared { IfOk result (λ cleared. (c : Chain) → IsApplied c block.now head.now → ArePaid (block.now ∷ c) head.now members.now → ⟦<Money as Tables<Block>>⟧.at self.old c → cleared.items ≡ clearing_records c block.now) }
+        ensures others { ⟦<Money as Tables<Block>>⟧.others self.new ≡ ⟦<Money as Tables<Block>>⟧.others self.old }
+        ensures count { ⟦<Money as Tables<Block>>⟧.count self.new + steps.old ≤ ⟦<Money as Tables<Block>>⟧.count self.old + steps.new }
+        ensures stays { (n : ⟦<Money as Tables<Block>>⟧.Now) (c : Chain) → ⟦<Money as Tables<Block>>⟧.is (⟦<Money as Tables<Block>>⟧.names self.old) n c → ⟦<Money as Tables<Block>>⟧.is (⟦<Money as Tables<Block>>⟧.names self.new) n c }
+        ensures steps { OnOk result ((c : Chain) → IsApplied c block.now head.now → ArePaid (block.now ∷ c) head.now members.now → ⟦<Money as Tables<Block>>⟧.at self.old c → steps.new ≤ steps.old + (8 * length (money_records c block.now) + 8)) }
+    {
         let before = self.totals_so_far();
-        let mut records = Vec::new(alloc);
         let tables = &mut self.tables;
-        write_all(
+        let taken = write_all(
             &mut tables.first,
             &mut tables.second,
             &mut tables.third,
@@ -91,11 +118,11 @@ impl Money {
             members,
             hashes,
             before,
-            &mut records,
             steps,
         )?;
-        append(&mut records, out)?;
-        Ok(())
+        let mut cleared = Vec::new(alloc);
+        put_clears(taken.as_slice(), &mut cleared)?;
+        Ok(cleared)
     }
 
     /// The totals, each of which is 0 where the chain is empty.
@@ -107,6 +134,27 @@ impl Money {
             None => NO_TOTALS,
         }
     }
+}
+
+/// The records of money of the block, whose head this is and whose transactions have these hashes, in the order of the protocol: those of what
+/// is cleared are moved behind the others.
+fn all_records(
+    alloc: Global,
+    block: &Block,
+    head: &Head,
+    members: &[Key],
+    hashes: &[TxHashes],
+    cleared: &mut Vec<Record>,
+) -> Result<Vec<Record>, NoMemory>
+    requires block { IsBlock block.now }
+    requires hashes { map (λ (h : TxHashesValue). h.whole) hashes.now ≡ hashes_in block.now }
+    ensures { IfOk result (λ records. (c : Chain) → IsApplied c block.now head.now → ArePaid (block.now ∷ c) head.now members.now → cleared.old.items ≡ clearing_records c block.now → records.items ≡ money_records c block.now) }
+{
+    let mut records = Vec::new(alloc);
+    put_transactions(alloc, block, hashes, &mut records)?;
+    put_payment(payment_of(block, head), members, &mut records)?;
+    append(cleared, &mut records)?;
+    Ok(records)
 }
 
 /// Moves the records behind those that are there.

@@ -25,6 +25,7 @@ mod money;
 mod paying;
 mod sources;
 mod spending;
+mod telling;
 mod transactions;
 mod writing;
 
@@ -37,4 +38,5 @@ pub use money::{Money, Totals, TotalsOf, TransactionsOf};
 pub use paying::{Payment, pay_dividends, put_dividends};
 pub use sources::Sources;
 pub use spending::{put_spends, spend_inputs};
+pub use telling::put_transactions;
 pub use transactions::{write_transaction, write_transactions};

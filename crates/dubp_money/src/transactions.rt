@@ -1,4 +1,4 @@
-ghost use Rattle.std.specs.Prelude.{◌≡◌, ◌+◌, ◌*◌, ◌^◌, ◌≤◌, ◌++◌, List, map, take, length, OnOk, IfOk};
+ghost use Rattle.std.specs.Prelude.{◌≡◌, ◌+◌, ◌*◌, ◌^◌, ◌≤◌, List, map, length, OnOk, IfOk};
 ghost use Rattle.std.specs.List.{flat_map};
 ghost use Rattle.dubp_block.specs.Text.{IsBlock};
 ghost use Rattle.dubp_cond.specs.Transactions.{IsTx};
@@ -11,67 +11,55 @@ ghost use Rattle.dubp_money.specs.Index.{HasRows};
 ghost use Rattle.dubp_money.specs.Texts.{Grows};
 ghost use Rattle.dubp_money.specs.Writing.{without_inputs};
 ghost use Rattle.dubp_money.specs.Making.{outputs_at, CanFollow, with_made};
-ghost use Rattle.dubp_money.specs.Transactions.{all_outputs, all_written, records_at, records_of};
+ghost use Rattle.dubp_money.specs.Transactions.{all_outputs, all_written, records_of};
 
 use crate::counting::place_behind;
-use crate::making::{make_outputs, put_makes};
-use crate::spending::{put_spends, spend_inputs};
+use crate::making::make_outputs;
+use crate::spending::spend_inputs;
 use dubp_atoms::{Hash, NoMemory, Steps};
 use dubp_block::Block;
 use dubp_cond::Tx;
 use dubp_docs::TxHashes;
 use dubp_sindex::{SIndex, SourceRows};
 use dubp_undo::Tables;
-use dubp_validity::Record;
-use std::alloc::Global;
 use std::sync::ledger::Ledger as StepBook;
 
-/// What a transaction of this hash, at this time in seconds, spends and makes, with its records. Its outputs stand from this
-/// place on in the order of making. At most five sets a record.
+/// What a transaction of this hash, at this time in seconds, spends and makes. Its outputs stand from this place on in the order of
+/// making. At most five sets for each input and each output.
 ///
 /// On `NoMemory` some of it may be written; what is kept stays so.
-#[tactic(auto, using(crate::proofs::Begins::begins_on))]
 pub fn write_transaction<L: StepBook>(
     index: &mut SIndex,
-    alloc: Global,
     tx: &Tx,
     hash: &Hash,
     time: u64,
     order: u64,
-    out: &mut Vec<Record>,
     steps: &mut Steps<L>,
 ) -> Result<(), NoMemory>
     requires { IsTx tx.now }
     ensures at { OnOk result ((rows : List Entry) → AreRows rows → CanFollow (without_inputs tx.now.inputs rows) order (outputs_at time hash.now tx.now) → HasRows index.old rows → HasRows index.new (with_made (accounts index.new) (without_inputs tx.now.inputs rows) order (outputs_at time hash.now tx.now))) }
     ensures has { OnOk result (HasTexts (accounts index.new) (outputs_at time hash.now tx.now)) }
     ensures texts { Grows (accounts index.old) (accounts index.new) }
-    ensures records { OnOk result (out.new.items ≡ out.old.items ++ records_at time hash.now tx.now) }
-    ensures begins { take (length out.old.items) out.new.items ≡ out.old.items }
     ensures steps { OnOk result (steps.new ≤ steps.old + 5 * (length tx.now.inputs + length tx.now.outputs)) }
     ensures others { ⟦<SIndex as Tables<SourceRows>>⟧.others index.new ≡ ⟦<SIndex as Tables<SourceRows>>⟧.others index.old }
     ensures count { ⟦<SIndex as Tables<SourceRows>>⟧.count index.new + steps.old ≤ ⟦<SIndex as Tables<SourceRows>>⟧.count index.old + steps.new }
 {
-    put_spends(tx, out)?;
-    put_makes(alloc, tx, hash, out)?;
     spend_inputs(index, tx, steps)?;
     make_outputs(index, tx, hash, time, order, steps)?;
     Ok(())
 }
 
-/// What the transactions of the block, which have these hashes, spend and make at this time in seconds, one after the other, with
-/// their records. What they make stands from this place on in the order of making; the answer is the place behind it, where that is
-/// at most 2^63. At most five sets a record.
+/// What the transactions of the block, which have these hashes, spend and make at this time in seconds, one after the other. What they
+/// make stands from this place on in the order of making; the answer is the place behind it, where that is at most 2^63. At most five
+/// sets a record.
 ///
 /// On `NoMemory` some of it may be written; what is kept stays so.
-#[tactic(auto, using(crate::proofs::Begins::begins_behind))]
 pub fn write_transactions<L: StepBook>(
     index: &mut SIndex,
-    alloc: Global,
     block: &Block,
     hashes: &[TxHashes],
     time: u64,
     order: u64,
-    out: &mut Vec<Record>,
     steps: &mut Steps<L>,
 ) -> Result<u64, NoMemory>
     requires block { IsBlock block.now }
@@ -80,8 +68,6 @@ pub fn write_transactions<L: StepBook>(
     ensures order { IfOk result (λ n. order + length (all_outputs time block.now.currency block.now.transactions) ≤ 2 ^ 63 → n ≡ order + length (all_outputs time block.now.currency block.now.transactions)) }
     ensures has { OnOk result (HasTexts (accounts index.new) (all_outputs time block.now.currency block.now.transactions)) }
     ensures texts { Grows (accounts index.old) (accounts index.new) }
-    ensures records { OnOk result (out.new.items ≡ out.old.items ++ flat_map (records_of time block.now.currency) block.now.transactions) }
-    ensures begins { take (length out.old.items) out.new.items ≡ out.old.items }
     ensures steps { OnOk result (steps.new ≤ steps.old + 5 * length (flat_map (records_of time block.now.currency) block.now.transactions)) }
     ensures others { ⟦<SIndex as Tables<SourceRows>>⟧.others index.new ≡ ⟦<SIndex as Tables<SourceRows>>⟧.others index.old }
     ensures count { ⟦<SIndex as Tables<SourceRows>>⟧.count index.new + steps.old ≤ ⟦<SIndex as Tables<SourceRows>>⟧.count index.old + steps.new }
@@ -91,7 +77,7 @@ pub fn write_transactions<L: StepBook>(
     for i in 0..txs.len() {
         let tx = &txs[i];
         let hash = &hashes[i].whole;
-        write_transaction(index, alloc, tx, hash, time, place, out, steps)?;
+        write_transaction(index, tx, hash, time, place, steps)?;
         place = place_behind(place, tx.outputs.len() as u64);
     }
     Ok(place)

@@ -1,4 +1,4 @@
-ghost use Rattle.std.specs.Prelude.{◌≡◌, ◌+◌, ◌*◌, ◌≤◌, ◌∷◌, ◌++◌, List, Some, map, take, length, OnOk, IfOk};
+ghost use Rattle.std.specs.Prelude.{◌≡◌, ◌+◌, ◌*◌, ◌≤◌, ◌∷◌, List, Some, map, length, OnOk, IfOk};
 ghost use Rattle.dubp_atoms.specs.Same.{Text};
 ghost use Rattle.dubp_block.specs.Text.{IsBlock};
 ghost use Rattle.dubp_docs.specs.declared.hashing.TxHashes.{TxHashes as TxHashesValue};
@@ -7,6 +7,8 @@ ghost use Rattle.dubp_chain.specs.Money.{hashes_in, made_sources, dividends_at};
 ghost use Rattle.dubp_facts.specs.Facts.{IsNext};
 ghost use Rattle.dubp_sindex.specs.Accounts.{accounts};
 ghost use Rattle.dubp_money_steps.specs.Steps.{cleared_units_by};
+ghost use Rattle.dubp_money_steps.specs.Clearing.{clear_record};
+ghost use Rattle.dubp_validity.specs.Records.{clearing_records};
 ghost use Rattle.dubp_money.specs.Index.{StandsFor};
 ghost use Rattle.dubp_money.specs.Texts.{Grows};
 ghost use Rattle.dubp_money.specs.Blocks.{paid};
@@ -22,23 +24,25 @@ use crate::sources::Sources;
 use dubp_atoms::{Key, NoMemory, Steps};
 use dubp_block::Block;
 use dubp_chain::Head;
+use dubp_cond::SourceId;
 use dubp_docs::TxHashes;
 use dubp_facts::Facts;
-use dubp_sindex::{SIndex, SourceRows};
+use dubp_sindex::{SIndex, SourceRow, SourceRows};
 use dubp_undo::Tables;
-use dubp_validity::Record;
 use std::alloc::Global;
 use std::sync::ledger::Ledger as StepBook;
 
-/// How many sources the chain with a block made, and the units that the block cleared.
-#[derive(Clone, Copy, Debug, PartialEq, Eq)]
+/// What a block wrote into the index of sources: how many sources the chain with it made, and which it cleared, in the order of making,
+/// with their units.
+#[derive(Drop)]
 pub(crate) struct Written {
     pub made: u64,
     pub cleared: u128,
+    pub taken: Vec<(SourceId, SourceRow)>,
 }
 
 /// What the block, whose head this is, pays to each member.
-fn payment_of(block: &Block, head: &Head) -> Option<Payment>
+pub(crate) fn payment_of(block: &Block, head: &Head) -> Option<Payment>
     ensures { (keys : List Text) → paid result keys ≡ dividends_at block.now.number (Some head.now) keys }
 {
     match head.ud {
@@ -54,10 +58,9 @@ fn payment_of(block: &Block, head: &Head) -> Option<Payment>
     }
 }
 
-/// Writes the block, whose head this is, into the index of sources, and appends its records of money. At most five sets a record.
+/// Writes the block, whose head this is, into the index of sources. At most five sets a record of money.
 ///
 /// `made` is how many sources the chain made. What is handed out is exact behind a chain for which the index stands.
-#[tactic(auto, using(crate::proofs::Begins::begins_on))]
 fn write_index<L: StepBook>(
     index: &mut SIndex,
     alloc: Global,
@@ -66,16 +69,14 @@ fn write_index<L: StepBook>(
     members: &[Key],
     hashes: &[TxHashes],
     made: u64,
-    out: &mut Vec<Record>,
     steps: &mut Steps<L>,
 ) -> Result<Written, NoMemory>
     requires block { IsBlock block.now }
     requires hashes { map (λ (h : TxHashesValue). h.whole) hashes.now ≡ hashes_in block.now }
     ensures at { OnOk result ((c : Chain) → Follows c block.now head.now members.now made → StandsFor index.old c → StandsFor index.new (block.now ∷ c)) }
-    ensures records { OnOk result ((c : Chain) → Follows c block.now head.now members.now made → StandsFor index.old c → out.new.items ≡ out.old.items ++ money_records c block.now) }
-    ensures begins { take (length out.old.items) out.new.items ≡ out.old.items }
     ensures made { IfOk result (λ w. (c : Chain) → Follows c block.now head.now members.now made → StandsFor index.old c → w.made ≡ length (made_sources (block.now ∷ c))) }
     ensures cleared { IfOk result (λ w. (c : Chain) → Follows c block.now head.now members.now made → StandsFor index.old c → w.cleared ≡ cleared_units_by c block.now) }
+    ensures taken { IfOk result (λ w. (c : Chain) → Follows c block.now head.now members.now made → StandsFor index.old c → map clear_record w.taken.items ≡ clearing_records c block.now) }
     ensures steps { OnOk result ((c : Chain) → Follows c block.now head.now members.now made → StandsFor index.old c → steps.new ≤ steps.old + 5 * length (money_records c block.now)) }
     ensures texts { Grows (accounts index.old) (accounts index.new) }
     ensures others { ⟦<SIndex as Tables<SourceRows>>⟧.others index.new ≡ ⟦<SIndex as Tables<SourceRows>>⟧.others index.old }
@@ -86,21 +87,20 @@ fn write_index<L: StepBook>(
     let limit = units(100, head.unit_base);
     spend_and_make(
         index,
-        alloc,
         block,
         hashes,
         head.median_time,
         payment,
         members,
         made,
-        out,
         steps,
     )?;
-    let taken = clear_block(index, alloc, limit, out, steps)?;
+    let taken = clear_block(index, alloc, limit, steps)?;
     let cleared = units_of(taken.as_slice());
     Ok(Written {
         made: behind,
         cleared,
+        taken,
     })
 }
 
@@ -113,16 +113,14 @@ fn write_sources<L: StepBook>(
     members: &[Key],
     hashes: &[TxHashes],
     made: u64,
-    out: &mut Vec<Record>,
     steps: &mut Steps<L>,
 ) -> Result<Written, NoMemory>
     requires block { IsBlock block.now }
     requires hashes { map (λ (h : TxHashesValue). h.whole) hashes.now ≡ hashes_in block.now }
     ensures at { OnOk result ((c : Chain) → Follows c block.now head.now members.now made → ⟦<Sources as Tables<Block>>⟧.at sources.old c → ⟦<Sources as Tables<Block>>⟧.at sources.new (block.now ∷ c)) }
-    ensures records { OnOk result ((c : Chain) → Follows c block.now head.now members.now made → ⟦<Sources as Tables<Block>>⟧.at sources.old c → out.new.items ≡ out.old.items ++ money_records c block.now) }
-    ensures begins { take (length out.old.items) out.new.items ≡ out.old.items }
     ensures made { IfOk result (λ w. (c : Chain) → Follows c block.now head.now members.now made → ⟦<Sources as Tables<Block>>⟧.at sources.old c → w.made ≡ length (made_sources (block.now ∷ c))) }
     ensures cleared { IfOk result (λ w. (c : Chain) → Follows c block.now head.now members.now made → ⟦<Sources as Tables<Block>>⟧.at sources.old c → w.cleared ≡ cleared_units_by c block.now) }
+    ensures taken { IfOk result (λ w. (c : Chain) → Follows c block.now head.now members.now made → ⟦<Sources as Tables<Block>>⟧.at sources.old c → map clear_record w.taken.items ≡ clearing_records c block.now) }
     ensures others { ⟦<Sources as Tables<Block>>⟧.others sources.new ≡ ⟦<Sources as Tables<Block>>⟧.others sources.old }
     ensures count { ⟦<Sources as Tables<Block>>⟧.count sources.new + steps.old ≤ ⟦<Sources as Tables<Block>>⟧.count sources.old + steps.new }
     ensures stays { (n : ⟦<Sources as Tables<Block>>⟧.Now) (c : Chain) → ⟦<Sources as Tables<Block>>⟧.is (⟦<Sources as Tables<Block>>⟧.names sources.old) n c → ⟦<Sources as Tables<Block>>⟧.is (⟦<Sources as Tables<Block>>⟧.names sources.new) n c }
@@ -136,25 +134,24 @@ fn write_sources<L: StepBook>(
         members,
         hashes,
         made,
-        out,
         steps,
     )
 }
 
-/// The totals of a chain with a block, whose head this is, from the units that the chain cleared and what the block wrote, where no
-/// more was cleared than the head says was issued.
-fn totals_with(before: u128, head: &Head, written: Written) -> Totals
+/// The totals of a chain with a block, whose head this is, from the units that the chain cleared, those that the block cleared and how many
+/// sources were made, where no more was cleared than the head says was issued.
+fn totals_with(before: u128, head: &Head, cleared: u128, made: u64) -> Totals
     ensures issued { result.issued ≡ head.now.mass }
-    ensures whole { before + written.cleared ≤ head.now.mass → head.now.mass ≡ result.unspent + result.cleared }
-    ensures cleared { before + written.cleared ≤ head.now.mass → result.cleared ≡ before + written.cleared }
-    ensures made { result.made ≡ written.made }
+    ensures whole { before + cleared ≤ head.now.mass → head.now.mass ≡ result.unspent + result.cleared }
+    ensures cleared { before + cleared ≤ head.now.mass → result.cleared ≡ before + cleared }
+    ensures made { result.made ≡ made }
 {
-    let cleared = before.saturating_add(written.cleared);
+    let cleared = before.saturating_add(cleared);
     Totals {
         issued: head.mass,
         unspent: head.mass.saturating_sub(cleared),
         cleared,
-        made: written.made,
+        made,
     }
 }
 
@@ -174,7 +171,8 @@ fn write_facts<L: StepBook>(
     Ok(())
 }
 
-/// Writes the block, whose head this is, into the sources, the tables beside them and the facts, and appends its records of money.
+/// Writes the block, whose head this is, into the sources, the tables beside them and the facts, and hands out the sources that it clears,
+/// in the order of making.
 ///
 /// `before` are the totals of the chain. What is kept stays so.
 pub(crate) fn write_all<L: StepBook>(
@@ -187,14 +185,12 @@ pub(crate) fn write_all<L: StepBook>(
     members: &[Key],
     hashes: &[TxHashes],
     before: Totals,
-    out: &mut Vec<Record>,
     steps: &mut Steps<L>,
-) -> Result<(), NoMemory>
+) -> Result<Vec<(SourceId, SourceRow)>, NoMemory>
     requires block { IsBlock block.now }
     requires hashes { map (λ (h : TxHashesValue). h.whole) hashes.now ≡ hashes_in block.now }
     ensures at { OnOk result ((c : Chain) → IsApplied c block.now head.now → ArePaid (block.now ∷ c) head.now members.now → before ≡ totals_of c → ⟦<Sources as Tables<Block>>⟧.at sources.old c → ⟦<HashesAndTotals as Tables<Block>>⟧.at beside.old c → ⟦<Facts as Tables<Block>>⟧.at facts.old c → ⟦<Sources as Tables<Block>>⟧.at sources.new (block.now ∷ c) × ⟦<HashesAndTotals as Tables<Block>>⟧.at beside.new (block.now ∷ c) × ⟦<Facts as Tables<Block>>⟧.at facts.new (block.now ∷ c)) }
-    ensures records { OnOk result ((c : Chain) → IsApplied c block.now head.now → ArePaid (block.now ∷ c) head.now members.now → before ≡ totals_of c → ⟦<Sources as Tables<Block>>⟧.at sources.old c → out.new.items ≡ out.old.items ++ money_records c block.now) }
-    ensures begins { take (length out.old.items) out.new.items ≡ out.old.items }
+    ensures taken { IfOk result (λ taken. (c : Chain) → IsApplied c block.now head.now → ArePaid (block.now ∷ c) head.now members.now → before ≡ totals_of c → ⟦<Sources as Tables<Block>>⟧.at sources.old c → map clear_record taken.items ≡ clearing_records c block.now) }
     ensures sources_others { ⟦<Sources as Tables<Block>>⟧.others sources.new ≡ ⟦<Sources as Tables<Block>>⟧.others sources.old }
     ensures beside_others { ⟦<HashesAndTotals as Tables<Block>>⟧.others beside.new ≡ ⟦<HashesAndTotals as Tables<Block>>⟧.others beside.old }
     ensures facts_others { ⟦<Facts as Tables<Block>>⟧.others facts.new ≡ ⟦<Facts as Tables<Block>>⟧.others facts.old }
@@ -210,11 +206,10 @@ pub(crate) fn write_all<L: StepBook>(
         members,
         hashes,
         before.made,
-        out,
         steps,
     )?;
-    let totals = totals_with(before.cleared, head, written);
+    let totals = totals_with(before.cleared, head, written.cleared, written.made);
     write_beside(beside, hashes, totals, steps)?;
     write_facts(facts, block, head, steps)?;
-    Ok(())
+    Ok(written.taken)
 }

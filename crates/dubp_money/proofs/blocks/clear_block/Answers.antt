@@ -1,4 +1,4 @@
-use Rattle.std.proofs.Common.{◌++◌, ◌∷◌, map, sym, ap, ◌∙◌, subst}
+use Rattle.std.proofs.Common.{◌∷◌, map, sym, ap, ◌∙◌, subst}
 use Rattle.dubp_undo.specs.States.{states}
 use Rattle.dubp_sindex.specs.Accounts.{accounts}
 use Rattle.dubp_sindex.specs.contracts.sindex.SIndexTablesSourceRows.TheImpl as tables
@@ -13,14 +13,6 @@ returns-clause-at g c = λ chain b w has.
     let left = c.in_ok-taken.ensures.left (sources_before_clearing texts chain b) (cleared_are_rows texts chain b c.args.limit w) has in
     subst (λ l. (tables.ghosts).at c.clear_accounts.new.index (states (sources_left l) (b ∷ chain))) (sym c.in_ok-taken.ensures.texts)
     (subst (λ rows. (tables.ghosts).at c.clear_accounts.new.index (rows ∷ states (sources_left texts) chain)) (kept_is texts chain b c.args.limit w) left)
-
-pub returns-clause-records : goal.returns-clause-records
-returns-clause-records g c = λ chain b w has.
-    let texts = accounts c.args.index.now in
-    let took = c.in_ok-taken.ensures.taken (sources_before_clearing texts chain b) (cleared_are_rows texts chain b c.args.limit w) has in
-    c.in_ok-put_clears.ensures.appended
-    ∙ ap (λ l. c.args.out.now.items ++ map clear_record l) (c.as_slice.ensures.value ∙ took)
-    ∙ ap (λ l. c.args.out.now.items ++ l) (taken_is texts chain b c.args.limit w)
 
 pub returns-clause-taken : goal.returns-clause-taken
 returns-clause-taken g c = λ chain b w has.

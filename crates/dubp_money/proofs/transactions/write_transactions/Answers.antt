@@ -1,4 +1,4 @@
-use Rattle.std.proofs.Common.{List, ◌≡◌, ◌+◌, ◌<◌, ◌++◌, take, get_or, length, ap, sym, ◌∙◌, subst, append_assoc, append-nil, length-append, arith, refl}
+use Rattle.std.proofs.Common.{List, ◌≡◌, ◌+◌, ◌<◌, take, get_or, length, ap, ◌∙◌, subst, length-append, arith, refl}
 use Rattle.std.specs.List.{flat_map}
 use Rattle.dubp_docs.specs.Spelling.{tx_hash}
 use Rattle.dubp_chain.specs.Money.{outputs_made}
@@ -8,7 +8,7 @@ use Rattle.dubp_money_steps.specs.Left.{HasTexts}
 use Rattle.dubp_money.specs.Index.{HasRows}
 use Rattle.dubp_money.specs.Writing.{without_inputs}
 use Rattle.dubp_money.specs.Making.{outputs_at, CanFollow, with_made}
-use Rattle.dubp_money.specs.Transactions.{all_outputs, records_at, records_of}
+use Rattle.dubp_money.specs.Transactions.{all_outputs, records_of}
 use Rattle.dubp_money.proofs.Growing.{grows_none, grows_on}
 use Rattle.dubp_money.proofs.Made.{outputs-length}
 use Rattle.dubp_money.proofs.Written.{written_next, outputs_few, flat_next, records-length, has_written, hash_is}
@@ -20,7 +20,6 @@ loop-i-init g c = record {
   has = tt;
   texts = grows_none (accounts c.args.index.now);
   place = λ few. omega arith;
-  records = sym (append-nil c.args.out.now.items);
   steps = omega arith;
   others = refl;
   count = omega arith;
@@ -61,12 +60,6 @@ loop-i-preserved g c =
           ) in
           let was = c.loop-i.invariant.place (omega (arith, few, counted)) in
           omega (arith, few, counted, was, c.len.ensures, c.place_behind-place.ensures (omega (arith, few, counted, was, c.len.ensures)));
-      records =
-          c.in_ok-write_transaction.ensures.records
-          ∙ ap (λ h. c.loop-i.out.items ++ records_at time h tx) hash
-          ∙ ap (λ l. l ++ records_of time currency tx) c.loop-i.invariant.records
-          ∙ append_assoc c.args.out.now.items (flat_map (records_of time currency) (take i txs)) (records_of time currency tx)
-          ∙ ap (λ l. c.args.out.now.items ++ l) (sym more);
       steps = omega (arith, counted, c.in_ok-write_transaction.ensures.steps, c.loop-i.invariant.steps);
       others = c.in_ok-write_transaction.ensures.others ∙ c.loop-i.invariant.others;
       count = omega (arith, c.in_ok-write_transaction.ensures.count, c.loop-i.invariant.count);

@@ -1,4 +1,4 @@
-use Rattle.std.proofs.Common.{◌≡◌, ◌+◌, ◌*◌, ◌^◌, ◌≤◌, ◌++◌, List, take, length}
+use Rattle.std.proofs.Common.{◌≡◌, ◌+◌, ◌*◌, ◌^◌, ◌≤◌, List, take, length}
 use Rattle.std.specs.List.{flat_map}
 use Rattle.dubp_sindex.specs.Accounts.{accounts}
 use Rattle.dubp_sindex.specs.Rows.{Entry, AreRows}
@@ -16,7 +16,6 @@ invariant-loop-i g l = record {
   has : HasTexts (accounts l.index) (all_outputs l.fn.time l.fn.block.currency (take l.i l.fn.block.transactions));
   texts : Grows (accounts l.fn.index) (accounts l.index);
   place : l.fn.order + length (all_outputs l.fn.time l.fn.block.currency (take l.i l.fn.block.transactions)) ≤ 2 ^ 63 → l.place ≡ l.fn.order + length (all_outputs l.fn.time l.fn.block.currency (take l.i l.fn.block.transactions));
-  records : l.out.items ≡ l.fn.out.items ++ flat_map (records_of l.fn.time l.fn.block.currency) (take l.i l.fn.block.transactions);
   steps : l.steps ≤ l.fn.steps + 5 * length (flat_map (records_of l.fn.time l.fn.block.currency) (take l.i l.fn.block.transactions));
   others : (tables.ghosts).others l.index ≡ (tables.ghosts).others l.fn.index;
   count : (tables.ghosts).count l.index + l.initial.steps ≤ (tables.ghosts).count l.fn.index + l.steps;

@@ -18,8 +18,8 @@ returns-clause-at g c = λ chain applied are was at beside facts.
       c.in_ok-write_facts.ensures.at chain facts (record { block = applied.block; number = applied.sound.0 G51 refl; head = applied.head }),
     )
 
-pub returns-clause-records : goal.returns-clause-records
-returns-clause-records g c = λ chain applied are was at. c.in_ok-written.ensures.records chain (record { applied = applied; pays = are; behind = ap (λ (t : Totals). t.made) was }) at
+pub returns-clause-taken : goal.returns-clause-taken
+returns-clause-taken g c = λ chain applied are was at. c.in_ok-written.ensures.taken chain (record { applied = applied; pays = are; behind = ap (λ (t : Totals). t.made) was }) at
 
 pub returns-clause-steps : goal.returns-clause-steps
 returns-clause-steps g c = λ chain applied are was at.

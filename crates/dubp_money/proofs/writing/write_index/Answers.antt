@@ -6,7 +6,7 @@ use Rattle.dubp_money.specs.Texts.{Fits}
 use Rattle.dubp_money.specs.Transactions.{records_of}
 use Rattle.dubp_money.specs.Blocks.{paid}
 use Rattle.dubp_money.proofs.Growing.{grows_same, grows_on, fits_more}
-use Rattle.dubp_money.proofs.Applies.{rows_at, is_written, is_cleared, cleared_is, made_is, records_are, records_count}
+use Rattle.dubp_money.proofs.Applies.{rows_at, is_written, is_cleared, cleared_is, made_is, records_count}
 use Rattle.dubp_money.proofs.writing.write_index.Goals as goal
 
 pub returns-clause-at : goal.returns-clause-at
@@ -19,18 +19,15 @@ returns-clause-at g c = λ chain f stands.
     let before = c.in_ok-spend_and_make.ensures.at chain w stands.0 (rows_at c.args.index.now (accounts c.args.index.now) chain stands.1) in
     (subst (λ l. Fits l (b ∷ chain)) (sym c.in_ok-taken.ensures.texts) fits, c.in_ok-taken.ensures.at chain b cl before)
 
-pub returns-clause-records : goal.returns-clause-records
-returns-clause-records g c = λ chain f stands.
+pub returns-clause-taken : goal.returns-clause-taken
+returns-clause-taken g c = λ chain f stands.
     let b = c.args.block.now in
     let h = c.args.head.now in
-    let payment = c.payment_of-payment.result in
-    let keys = c.args.members.now in
-    let w = is_written chain b h f.applied payment keys c.args.made c.payment_of-payment.ensures f.pays f.behind in
+    let w = is_written chain b h f.applied c.payment_of-payment.result c.args.members.now c.args.made c.payment_of-payment.ensures f.pays f.behind in
     let fits = c.in_ok-spend_and_make.ensures.fits chain w stands.0 in
     let cl = is_cleared chain b h f.applied c.units-limit.result (accounts c.spend_and_make.new.index) c.units-limit.ensures fits in
     let before = c.in_ok-spend_and_make.ensures.at chain w stands.0 (rows_at c.args.index.now (accounts c.args.index.now) chain stands.1) in
-    records_are chain b h f.applied payment keys c.args.made c.payment_of-payment.ensures f.pays f.behind c.args.out.now.items c.spend_and_make.new.out.items c.clear_block.new.out.items
-    c.in_ok-spend_and_make.ensures.records (c.in_ok-taken.ensures.records chain b cl before)
+    c.in_ok-taken.ensures.taken chain b cl before
 
 pub returns-clause-made : goal.returns-clause-made
 returns-clause-made g c = λ chain f stands.

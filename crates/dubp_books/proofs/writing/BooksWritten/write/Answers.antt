@@ -4,15 +4,14 @@ use Rattle.dubp_money_checks.specs.OfMoney.money_tables_block as money
 use Rattle.dubp_people.specs.Applied as people_words
 use Rattle.dubp_money_checks.specs.OfMoney.applied as money_words
 use Rattle.dubp_people.specs.OfSteps.{people_records}
-use Rattle.dubp_money_checks.specs.OfMoney.{money_records}
-use Rattle.dubp_books.specs.Kinds.{is_ended, is_cleared}
+use Rattle.dubp_books.specs.Kinds.{is_ended}
 use Rattle.dubp_books.proofs.Asked.{whole_hashes_are}
-use Rattle.dubp_books.proofs.Chosen.{ended_of_people, cleared_of_money, are_paid, paid_by_head}
+use Rattle.dubp_books.proofs.Chosen.{ended_of_people, are_paid, paid_by_head}
 use Rattle.dubp_books.proofs.Records.{most_of_both, steps_of_both}
 use Rattle.dubp_books.proofs.writing.BooksWritten.write.Goals as goal
 
-pub apply_hashed-requires-clause-hashes : goal.apply_hashed-requires-clause-hashes
-apply_hashed-requires-clause-hashes g c = whole_hashes_are c.args.block.now c.args.hashes.now c.requires.hashes
+pub write-requires-clause-hashes : goal.write-requires-clause-hashes
+write-requires-clause-hashes g c = whole_hashes_are c.args.block.now c.args.hashes.now c.requires.hashes
 
 pub returns-clause-at : goal.returns-clause-at
 returns-clause-at g c = λ chain sound text head at.
@@ -22,7 +21,7 @@ returns-clause-at g c = λ chain sound text head at.
     let second : money_words.IsApplied chain b h = record { sound = sound; block = text; short = c.requires.short; head = head } in
     let people_at = c.in_ok-apply.ensures.at chain first at.0 in
     let paid = are_paid (b ∷ chain) h c.as_slice.result.now (c.as_slice.ensures.value ∙ c.in_ok-members.ensures (b ∷ chain) people_at sound) in
-    (people_at, c.in_ok-apply_hashed.ensures.at chain second paid at.1)
+    (people_at, c.in_ok-cleared.ensures.at chain second paid at.1)
 
 pub returns-clause-steps : goal.returns-clause-steps
 returns-clause-steps g c = λ chain sound text head at.
@@ -32,7 +31,7 @@ returns-clause-steps g c = λ chain sound text head at.
     let second : money_words.IsApplied chain b h = record { sound = sound; block = text; short = c.requires.short; head = head } in
     let people_at = c.in_ok-apply.ensures.at chain first at.0 in
     let paid = are_paid (b ∷ chain) h c.as_slice.result.now (c.as_slice.ensures.value ∙ c.in_ok-members.ensures (b ∷ chain) people_at sound) in
-    steps_of_both chain b c.args.steps.now c.apply.new.steps c.apply_hashed.new.steps (c.in_ok-apply.ensures.steps chain first at.0) (c.in_ok-apply_hashed.ensures.steps chain second paid at.1)
+    steps_of_both chain b c.args.steps.now c.apply.new.steps c.write.new.steps (c.in_ok-apply.ensures.steps chain first at.0) (c.in_ok-cleared.ensures.steps chain second paid at.1)
 
 pub returns-clause-left : goal.returns-clause-left
 returns-clause-left g c = λ chain sound text head at.
@@ -44,14 +43,13 @@ returns-clause-left g c = λ chain sound text head at.
     let keys = c.in_ok-members.ensures (b ∷ chain) people_at sound in
     let paid = are_paid (b ∷ chain) h c.as_slice.result.now (c.as_slice.ensures.value ∙ keys) in
     let of_people = c.in_ok-apply.ensures.records chain first at.0 ∙ ap (λ l. l ++ people_records chain b) c.new-of_people.ensures.items in
-    let of_money = c.in_ok-apply_hashed.ensures.records chain second paid at.1 ∙ ap (λ l. l ++ money_records chain b) c.new-of_money.ensures.items in
     let ended = c.left_of.ensures.ended ∙ ap (filter is_ended) of_people ∙ ended_of_people chain b in
     let members = c.left_of.ensures.paid ∙ keys ∙ paid_by_head chain b h head in
-    let cleared = c.left_of.ensures.cleared ∙ ap (filter is_cleared) of_money ∙ cleared_of_money chain b in
+    let cleared = c.left_of.ensures.cleared ∙ c.in_ok-cleared.ensures.cleared chain second paid at.1 in
     λ i. record { ended = ended i; paid = members i; cleared = cleared i }
 
 pub returns-clause-stays : goal.returns-clause-stays
-returns-clause-stays g c = λ n d is. (is.0, c.apply_hashed.ensures.stays n.1 d is.1)
+returns-clause-stays g c = λ n d is. (is.0, c.write.ensures.stays n.1 d is.1)
 
-pub returns-in_err-apply_hashed-clause-stays : goal.returns-in_err-apply_hashed-clause-stays
-returns-in_err-apply_hashed-clause-stays g c = λ n d is. (is.0, c.apply_hashed.ensures.stays n.1 d is.1)
+pub returns-in_err-write-clause-stays : goal.returns-in_err-write-clause-stays
+returns-in_err-write-clause-stays g c = λ n d is. (is.0, c.write.ensures.stays n.1 d is.1)
