@@ -1,5 +1,5 @@
 //! The live certifications of a key, a line each.
-ghost use Rattle.std.specs.Prelude.{◌≡◌, ◌+◌, ◌≤◌, ◌++◌, decimal, map, IfOk, OnOk};
+ghost use Rattle.std.specs.Prelude.{◌≡◌, ◌+◌, ◌≤◌, ◌++◌, [], decimal, map, IfOk, OnOk};
 ghost use Rattle.arrayvec.specs.ArrayVec.{array_vec_len};
 ghost use Rattle.dubp_chain.specs.Chains.{Chain};
 ghost use Rattle.dubp_validity.specs.Rules.{IsSound};
@@ -40,21 +40,23 @@ fn views_text(alloc: Global, views: &[CertificationView]) -> Result<Vec<u8>, NoM
 fn add_views(text: &mut Vec<u8>, views: &[CertificationView]) -> Result<(), NoMemory>
     ensures { OnOk result (text.new.items ≡ text.old.items ++ view_lines views.now) }
 {
+    let mut line: Line = ArrayVec::new();
     for view in views {
-        add(text, line_of(view).as_slice())?;
+        put_line(view, &mut line);
+        add(text, line.as_slice())?;
+        line.clear();
     }
     Ok(())
 }
 
-fn line_of(view: &CertificationView) -> Line
-    ensures { result.items ≡ view_line view.now }
+fn put_line(view: &CertificationView, line: &mut Line)
+    requires { line.old.items ≡ [] }
+    ensures { line.new.items ≡ view_line view.now }
 {
-    let mut line: Line = ArrayVec::new();
-    put_bytes(&mut line, b"CERT");
-    put_keys(&view.from, &view.to, &mut line);
-    put_times(view, &mut line);
-    put_bytes(&mut line, b"\n");
-    line
+    put_bytes(line, b"CERT");
+    put_keys(&view.from, &view.to, line);
+    put_times(view, line);
+    put_bytes(line, b"\n");
 }
 
 /// The issuer and the receiver. `line` has 300 free places.

@@ -1,8 +1,8 @@
 //! The difficulty of a key for the next block.
-ghost use Rattle.std.specs.Prelude.{◌≡◌};
+ghost use Rattle.std.specs.Prelude.{◌≡◌, []};
 ghost use Rattle.dubp_replay.specs.Answers.{diff_answer_of};
 
-use crate::values::{none_line, put_spaced};
+use crate::values::{put_none, put_spaced};
 use arrayvec::ArrayVec;
 use dubp_atoms::{Line, put_bytes};
 
@@ -11,12 +11,20 @@ use dubp_atoms::{Line, put_bytes};
 pub fn diff_line(difficulty: Option<u128>) -> Line
     ensures { result.items ≡ diff_answer_of difficulty }
 {
-    let Some(difficulty) = difficulty else {
-        return none_line();
-    };
     let mut line: Line = ArrayVec::new();
-    put_bytes(&mut line, b"DIFF");
-    put_spaced(difficulty, &mut line);
-    put_bytes(&mut line, b"\n");
+    put_diff_line(difficulty, &mut line);
     line
+}
+
+/// The same answer, put into an empty line.
+pub fn put_diff_line(difficulty: Option<u128>, line: &mut Line)
+    requires { line.old.items ≡ [] }
+    ensures { line.new.items ≡ diff_answer_of difficulty }
+{
+    let Some(difficulty) = difficulty else {
+        return put_none(line);
+    };
+    put_bytes(line, b"DIFF");
+    put_spaced(difficulty, line);
+    put_bytes(line, b"\n");
 }

@@ -1,7 +1,8 @@
 //! The texts of the answers to queries, over tables and heads alone.
 //!
 //! Each function gives the answer to one query. What stands behind it is that of the chain whose tables or heads are given, as
-//! `dubp_replay` defines it. A line lies in its value and takes no memory. The chapter on commands and answers in `docs/protocol`
+//! `dubp_replay` defines it. A line lies in its value and takes no memory; who has an empty one
+//! gives it (`put_money_line` beside `money_line`, and so on). The chapter on commands and answers in `docs/protocol`
 //! says the same in words.
 //!
 //! ```text
@@ -28,10 +29,10 @@ mod values;
 
 pub use blocks::show_text;
 pub use certifications::certs_text;
-pub use difficulties::diff_line;
-pub use distance::distance_line;
-pub use money::{balance_line, money_line};
+pub use difficulties::{diff_line, put_diff_line};
+pub use distance::{distance_line, put_distance_line};
+pub use money::{balance_line, money_line, put_balance_line, put_money_line};
 pub use moves::statement_text;
-pub use people::{identity_line, uid_line};
+pub use people::{identity_line, put_identity_line, put_uid_line, uid_line};
 pub use records::records_text;
 pub use sources::sources_text;

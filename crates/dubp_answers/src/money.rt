@@ -16,9 +16,19 @@ use dubp_undo::Tables;
 pub fn money_line(money: &Money) -> Line
     ensures { (c : Chain) → ⟦<Money as Tables<Block>>⟧.at money.now c → result.items ≡ money_answer c }
 {
+    let mut line: Line = ArrayVec::new();
+    put_money_line(money, &mut line);
+    line
+}
+
+/// The same answer, put into an empty line.
+pub fn put_money_line(money: &Money, line: &mut Line)
+    requires { line.old.items ≡ [] }
+    ensures { (c : Chain) → ⟦<Money as Tables<Block>>⟧.at money.now c → line.new.items ≡ money_answer c }
+{
     match money.totals() {
-        Some(totals) => totals_line(totals.issued, totals.unspent, totals.cleared),
-        None => totals_line(0, 0, 0),
+        Some(totals) => put_totals(totals.issued, totals.unspent, totals.cleared, line),
+        None => put_totals(0, 0, 0, line),
     }
 }
 
@@ -26,27 +36,35 @@ pub fn money_line(money: &Money) -> Line
 pub fn balance_line(money: &Money, cond: &CondText) -> Line
     ensures { (c : Chain) → ⟦<Money as Tables<Block>>⟧.at money.now c → result.items ≡ balance_answer c cond.now.items }
 {
-    units_line(balance(money, cond))
-}
-
-fn totals_line(issued: u128, unspent: u128, cleared: u128) -> Line
-    ensures { result.items ≡ values_line (codes "MONEY") (decimal issued ∷ decimal unspent ∷ decimal cleared ∷ []) }
-{
     let mut line: Line = ArrayVec::new();
-    put_bytes(&mut line, b"MONEY");
-    put_spaced(issued, &mut line);
-    put_spaced(unspent, &mut line);
-    put_spaced(cleared, &mut line);
-    put_bytes(&mut line, b"\n");
+    put_balance_line(money, cond, &mut line);
     line
 }
 
-fn units_line(units: u128) -> Line
-    ensures { result.items ≡ values_line (codes "BALANCE") (decimal units ∷ []) }
+/// The same answer, put into an empty line.
+pub fn put_balance_line(money: &Money, cond: &CondText, line: &mut Line)
+    requires { line.old.items ≡ [] }
+    ensures { (c : Chain) → ⟦<Money as Tables<Block>>⟧.at money.now c → line.new.items ≡ balance_answer c cond.now.items }
 {
-    let mut line: Line = ArrayVec::new();
-    put_bytes(&mut line, b"BALANCE");
-    put_spaced(units, &mut line);
-    put_bytes(&mut line, b"\n");
-    line
+    put_units(balance(money, cond), line);
+}
+
+fn put_totals(issued: u128, unspent: u128, cleared: u128, line: &mut Line)
+    requires { line.old.items ≡ [] }
+    ensures { line.new.items ≡ values_line (codes "MONEY") (decimal issued ∷ decimal unspent ∷ decimal cleared ∷ []) }
+{
+    put_bytes(line, b"MONEY");
+    put_spaced(issued, line);
+    put_spaced(unspent, line);
+    put_spaced(cleared, line);
+    put_bytes(line, b"\n");
+}
+
+fn put_units(units: u128, line: &mut Line)
+    requires { line.old.items ≡ [] }
+    ensures { line.new.items ≡ values_line (codes "BALANCE") (decimal units ∷ []) }
+{
+    put_bytes(line, b"BALANCE");
+    put_spaced(units, line);
+    put_bytes(line, b"\n");
 }

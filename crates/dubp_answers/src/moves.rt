@@ -1,5 +1,5 @@
 //! The moves of a condition, a line each.
-ghost use Rattle.std.specs.Prelude.{◌≡◌, ◌+◌, ◌≤◌, ◌++◌, decimal, map, IfOk, OnOk};
+ghost use Rattle.std.specs.Prelude.{◌≡◌, ◌+◌, ◌≤◌, ◌++◌, [], decimal, map, IfOk, OnOk};
 ghost use Rattle.arrayvec.specs.ArrayVec.{array_vec_len};
 ghost use Rattle.dubp_cond.specs.Sources.{input_text};
 ghost use Rattle.dubp_replay.specs.Answers.{ended, kind_text, move_line, moved_input, spaced};
@@ -27,22 +27,24 @@ pub fn statement_text(alloc: Global, moves: &[Move]) -> Result<Vec<u8>, NoMemory
 fn add_moves(text: &mut Vec<u8>, moves: &[Move]) -> Result<(), NoMemory>
     ensures { OnOk result (text.new.items ≡ text.old.items ++ move_lines moves.now) }
 {
+    let mut line: Line = ArrayVec::new();
     for item in moves {
-        add(text, line_of(item).as_slice())?;
+        put_line(item, &mut line);
+        add(text, line.as_slice())?;
+        line.clear();
     }
     Ok(())
 }
 
-fn line_of(item: &Move) -> Line
-    ensures { result.items ≡ move_line item.now }
+fn put_line(item: &Move, line: &mut Line)
+    requires { line.old.items ≡ [] }
+    ensures { line.new.items ≡ move_line item.now }
 {
-    let mut line: Line = ArrayVec::new();
-    put_bytes(&mut line, b"MOVE");
-    put_happening(item, &mut line);
-    put_moved(item, &mut line);
-    put_spaced(item.balance, &mut line);
-    put_bytes(&mut line, b"\n");
-    line
+    put_bytes(line, b"MOVE");
+    put_happening(item, line);
+    put_moved(item, line);
+    put_spaced(item.balance, line);
+    put_bytes(line, b"\n");
 }
 
 /// The number of the block, and what happened. `line` has 100 free places.

@@ -1,12 +1,12 @@
 //! What is said of an identity in one line.
-ghost use Rattle.std.specs.Prelude.{◌≡◌, ◌+◌, ◌≤◌, ◌++◌, codes, decimal};
+ghost use Rattle.std.specs.Prelude.{◌≡◌, ◌+◌, ◌≤◌, ◌++◌, [], codes, decimal};
 ghost use Rattle.arrayvec.specs.ArrayVec.{array_vec_len};
 ghost use Rattle.dubp_chain.specs.Chains.{Chain};
 ghost use Rattle.dubp_validity.specs.Rules.{IsSound};
 ghost use Rattle.dubp_people_views.specs.Views.{identity_texts, state_text};
 ghost use Rattle.dubp_replay.specs.Answers.{identity_answer, spaced, uid_answer, values_line};
 
-use crate::values::{none_line, put_spaced};
+use crate::values::{put_none, put_spaced};
 use arrayvec::ArrayVec;
 use dubp_atoms::{Key, Line, Uid, put_bytes};
 use dubp_block::Block;
@@ -17,9 +17,19 @@ use dubp_undo::Tables;
 pub fn identity_line(registry: &Registry, key: Key) -> Line
     ensures { (c : Chain) → ⟦<Registry as Tables<Block>>⟧.at registry.now c → IsSound c → result.items ≡ identity_answer c key }
 {
+    let mut line: Line = ArrayVec::new();
+    put_identity_line(registry, key, &mut line);
+    line
+}
+
+/// The same answer, put into an empty line.
+pub fn put_identity_line(registry: &Registry, key: Key, line: &mut Line)
+    requires { line.old.items ≡ [] }
+    ensures { (c : Chain) → ⟦<Registry as Tables<Block>>⟧.at registry.now c → IsSound c → line.new.items ≡ identity_answer c key }
+{
     match identity(registry, key) {
-        Some(view) => view_line(&view),
-        None => none_line(),
+        Some(view) => put_view(&view, line),
+        None => put_none(line),
     }
 }
 
@@ -27,22 +37,31 @@ pub fn identity_line(registry: &Registry, key: Key) -> Line
 pub fn uid_line(registry: &Registry, uid: Uid) -> Line
     ensures { (c : Chain) → ⟦<Registry as Tables<Block>>⟧.at registry.now c → IsSound c → result.items ≡ uid_answer c uid }
 {
+    let mut line: Line = ArrayVec::new();
+    put_uid_line(registry, uid, &mut line);
+    line
+}
+
+/// The same answer, put into an empty line.
+pub fn put_uid_line(registry: &Registry, uid: Uid, line: &mut Line)
+    requires { line.old.items ≡ [] }
+    ensures { (c : Chain) → ⟦<Registry as Tables<Block>>⟧.at registry.now c → IsSound c → line.new.items ≡ uid_answer c uid }
+{
     match key_of(registry, uid) {
-        Some(key) => identity_line(registry, key),
-        None => none_line(),
+        Some(key) => put_identity_line(registry, key, line),
+        None => put_none(line),
     }
 }
 
-fn view_line(view: &IdentityView) -> Line
-    ensures { result.items ≡ values_line (codes "IDENTITY") (identity_texts view.now) }
+fn put_view(view: &IdentityView, line: &mut Line)
+    requires { line.old.items ≡ [] }
+    ensures { line.new.items ≡ values_line (codes "IDENTITY") (identity_texts view.now) }
 {
-    let mut line: Line = ArrayVec::new();
-    put_bytes(&mut line, b"IDENTITY");
-    put_names(view, &mut line);
-    put_membership(view, &mut line);
-    put_counts(view, &mut line);
-    put_bytes(&mut line, b"\n");
-    line
+    put_bytes(line, b"IDENTITY");
+    put_names(view, line);
+    put_membership(view, line);
+    put_counts(view, line);
+    put_bytes(line, b"\n");
 }
 
 /// The key and the UID. `line` has 300 free places.

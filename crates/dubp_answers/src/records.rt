@@ -1,5 +1,5 @@
 //! The records of a block, a line each.
-ghost use Rattle.std.specs.Prelude.{◌≡◌, ◌++◌, All, IfOk, IfSome, OnOk, Some, true, option_copied};
+ghost use Rattle.std.specs.Prelude.{◌≡◌, ◌++◌, [], All, IfOk, IfSome, OnOk, Some, true, option_copied};
 ghost use Rattle.dubp_atoms.specs.Letters.{is_key};
 ghost use Rattle.dubp_cond.specs.Sources.{IsInput};
 ghost use Rattle.dubp_replay.specs.Answers.{records_answer_of};
@@ -43,21 +43,23 @@ fn add_records(text: &mut Vec<u8>, records: &[Record]) -> Result<(), NoMemory>
     requires { All HasNumbers records.now }
     ensures { OnOk result (text.new.items ≡ text.old.items ++ record_lines records.now) }
 {
+    let mut line: Line = ArrayVec::new();
     for item in records {
-        add(text, line_of(item).as_slice())?;
+        put_line(item, &mut line);
+        add(text, line.as_slice())?;
+        line.clear();
     }
     Ok(())
 }
 
-fn line_of(item: &Record) -> Line
-    requires { HasNumbers item.now }
-    ensures { result.items ≡ record_line item.now }
+fn put_line(item: &Record, line: &mut Line)
+    requires numbers { HasNumbers item.now }
+    requires empty { line.old.items ≡ [] }
+    ensures { line.new.items ≡ record_line item.now }
 {
     look_at_texts(item);
-    let mut line: Line = ArrayVec::new();
-    put_record(item, &mut line);
-    put_bytes(&mut line, b"\n");
-    line
+    put_record(item, line);
+    put_bytes(line, b"\n");
 }
 
 // Does nothing but look at the keys, names and hashes of the record, which are in range by their types.

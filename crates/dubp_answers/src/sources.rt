@@ -1,5 +1,5 @@
 //! The unspent sources of a condition, a line each.
-ghost use Rattle.std.specs.Prelude.{◌≡◌, ◌+◌, ◌≤◌, ◌++◌, map, IfOk, OnOk};
+ghost use Rattle.std.specs.Prelude.{◌≡◌, ◌+◌, ◌≤◌, ◌++◌, [], map, IfOk, OnOk};
 ghost use Rattle.arrayvec.specs.ArrayVec.{array_vec_len};
 ghost use Rattle.dubp_cond.specs.Sources.{source_text, input_text};
 ghost use Rattle.dubp_chain.specs.Chains.{Chain};
@@ -39,20 +39,22 @@ fn lines_of(alloc: Global, views: &[SourceView]) -> Result<Vec<u8>, NoMemory>
 fn add_views(text: &mut Vec<u8>, views: &[SourceView]) -> Result<(), NoMemory>
     ensures { OnOk result (text.new.items ≡ text.old.items ++ view_lines views.now) }
 {
+    let mut line: Line = ArrayVec::new();
     for view in views {
-        add(text, line_of(view).as_slice())?;
+        put_line(view, &mut line);
+        add(text, line.as_slice())?;
+        line.clear();
     }
     Ok(())
 }
 
-fn line_of(view: &SourceView) -> Line
-    ensures { result.items ≡ view_line view.now }
+fn put_line(view: &SourceView, line: &mut Line)
+    requires { line.old.items ≡ [] }
+    ensures { line.new.items ≡ view_line view.now }
 {
-    let mut line: Line = ArrayVec::new();
-    put_bytes(&mut line, b"SOURCE ");
-    put_view(view, &mut line);
-    put_bytes(&mut line, b"\n");
-    line
+    put_bytes(line, b"SOURCE ");
+    put_view(view, line);
+    put_bytes(line, b"\n");
 }
 
 /// The source as an input. `line` has 400 free places.

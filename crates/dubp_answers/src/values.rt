@@ -1,9 +1,8 @@
 //! The parts of a line.
-ghost use Rattle.std.specs.Prelude.{◌≡◌, ◌+◌, ◌≤◌, ◌++◌, decimal, OnOk, OnErr};
+ghost use Rattle.std.specs.Prelude.{◌≡◌, ◌+◌, ◌≤◌, ◌++◌, [], decimal, OnOk, OnErr};
 ghost use Rattle.arrayvec.specs.ArrayVec.{array_vec_len};
 ghost use Rattle.dubp_replay.specs.Answers.{none_answer, spaced};
 
-use arrayvec::ArrayVec;
 use dubp_atoms::{Line, NoMemory, put_bytes, put_number};
 
 /// A number behind a space. `line` has 41 free places.
@@ -17,12 +16,11 @@ pub(crate) fn put_spaced(n: u128, line: &mut Line)
 }
 
 /// The line that says that there is nothing.
-pub(crate) fn none_line() -> Line
-    ensures { result.items ≡ none_answer }
+pub(crate) fn put_none(line: &mut Line)
+    requires { line.old.items ≡ [] }
+    ensures { line.new.items ≡ none_answer }
 {
-    let mut line: Line = ArrayVec::new();
-    put_bytes(&mut line, b"NONE\n");
-    line
+    put_bytes(line, b"NONE\n");
 }
 
 /// Adds bytes to a text.
