@@ -3,6 +3,7 @@
 //! ```text
 //! let answer = answer(alloc, &ledger, &Query::Head)?;
 //! sink.write(answer.as_bytes())?;
+//! put_answer(alloc, &ledger, &Asked::Head, &mut line)?;
 //! let answer = statement_answer(alloc, &ledger, &cond)?;
 //! ```
 #![tactic(auto)]
@@ -10,10 +11,15 @@
 mod asking;
 mod lines;
 mod moves;
+mod telling;
 
 pub use asking::answer;
-pub use dubp_answers::{balance_line, identity_line, money_line, uid_line};
-pub use dubp_replay::{Answer, Query};
+pub use dubp_answers::{
+    balance_line, identity_line, money_line, put_balance_line, put_identity_line, put_money_line,
+    put_uid_line, uid_line,
+};
+pub use dubp_replay::{Answer, Asked, Query};
 pub use dubp_statement::CondText;
-pub use lines::head_line;
+pub use lines::{head_line, put_head_line};
 pub use moves::statement_answer;
+pub use telling::{put_answer, put_difficulty_line};

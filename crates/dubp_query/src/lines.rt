@@ -16,12 +16,20 @@ pub fn head_line<T: PeopleAndMoney>(ledger: &Ledger<T>) -> Line
     ensures { result.items ≡ head_answer (head_of ledger.now.chain) }
 {
     let mut line: Line = ArrayVec::new();
-    match ledger.head() {
-        None => put_bytes(&mut line, b"NONE"),
-        Some(head) => put_head(&head, &mut line),
-    }
-    put_bytes(&mut line, b"\n");
+    put_head_line(ledger, &mut line);
     line
+}
+
+/// The same answer, put into an empty line.
+pub fn put_head_line<T: PeopleAndMoney>(ledger: &Ledger<T>, line: &mut Line)
+    requires { line.old.items ≡ [] }
+    ensures { line.new.items ≡ head_answer (head_of ledger.now.chain) }
+{
+    match ledger.head() {
+        None => put_bytes(line, b"NONE"),
+        Some(head) => put_head(&head, line),
+    }
+    put_bytes(line, b"\n");
 }
 
 // `HEAD` and the values.
