@@ -11,20 +11,21 @@ ghost use Rattle.dubp_branches.specs.Deciding.{ShortBlockActs, Decided, IsDecide
 ghost use Rattle.dubp_forks.specs.Offers.{Offered};
 ghost use Rattle.dubp_forks.specs.Stores.{AreStored};
 ghost use Rattle.dubp_forks.specs.Switches.{Switched};
+ghost use Rattle.dubp_replay.specs.OneLine.{IsShort, query_of};
 ghost use Rattle.dubp_replay.specs.Turns.{is_stamped, no_branches, previous_stamp, without};
 ghost use Rattle.dubp_replay.specs.declared.command.Command.TheVariants.{Ask as AskCommand, Block as BlockCommand, Forget as ForgetCommand, Revert as RevertCommand, Statement as StatementCommand, Switch as SwitchCommand, Verdict as VerdictCommand};
 
 use crate::texts::{
-    accepted, forgotten, no_memory, noted, refusal_answer, refused, reverted, switch_answer,
-    too_deep, unknown, unread,
+    accepted, forgotten, no_memory, noted, put_one, refusal_answer, refused, reverted,
+    switch_answer, too_deep, unknown, unread,
 };
-use dubp_atoms::{Hash, Key, NoMemory, Secret, Sig, Stamp, Steps};
+use dubp_atoms::{Hash, Key, Line, NoMemory, Secret, Sig, Stamp, Steps};
 use dubp_block::laws::blocks_have_one_text;
 use dubp_block::{Block, ReadRefusal, read_block};
 use dubp_forks::{
     Ledger, OfferRefusal, PeopleAndMoney, Store, SubmitRefusal, SwitchRefusal, TooDeep,
 };
-use dubp_query::{Answer, CondText, Query, answer, statement_answer};
+use dubp_query::{Answer, Asked, CondText, Query, answer, put_answer, statement_answer};
 use dubp_replay::LONGEST_BLOCK;
 use dubp_verdict::Verdicts;
 use std::alloc::Global;
@@ -134,6 +135,18 @@ impl<T: PeopleAndMoney> Branches<T> {
         match answer(self.alloc, &self.ledger, query) {
             Ok(answer) => answer,
             Err(_) => no_memory(),
+        }
+    }
+
+    /// Puts the answer to a query that is answered in one line into an empty line; nothing changes.
+    pub fn tell(&self, asked: &Asked<'_>, line: &mut Line)
+        requires short { IsShort asked.now }
+        requires empty { line.old.items ≡ [] }
+        ensures { (frame : List ℕ) → BranchesActs self.now (AskCommand (query_of asked.now)) frame line.new.items self.now }
+    {
+        match put_answer(self.alloc, &self.ledger, asked, line) {
+            Ok(()) => {}
+            Err(_) => put_one(b"NOMEM", line),
         }
     }
 

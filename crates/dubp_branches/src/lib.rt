@@ -14,7 +14,8 @@ mod texts;
 
 pub use branches::Branches;
 pub use dubp_forks::{Ledger, OfferRefusal, PeopleAndMoney, SwitchRefusal};
-pub use dubp_query::{Answer, CondText, Query, head_line, money_line};
+pub use dubp_query::{Answer, Asked, CondText, Query, head_line, money_line};
 pub use texts::{
-    forgotten, full, no_memory, numbered, offer_answer, one, refused, switch_answer, unknown,
+    forgotten, full, no_memory, numbered, offer_answer, one, put_one, refused, switch_answer,
+    unknown,
 };

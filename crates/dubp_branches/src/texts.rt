@@ -1,4 +1,4 @@
-ghost use Rattle.std.specs.Prelude.{◌≡◌, ◌++◌, ◌≤◌, decimal, length};
+ghost use Rattle.std.specs.Prelude.{◌≡◌, ◌++◌, ◌≤◌, [], decimal, length};
 ghost use Rattle.dubp_atoms.specs.Spelling.{stamp_text};
 ghost use Rattle.dubp_replay.specs.AnswerBytes.{answer_bytes};
 ghost use Rattle.dubp_replay.specs.Answers.{accepted_answer, answer_line, branch_refused_answer, forgotten_answer, full_answer, no_memory_answer, noted_answer, refused_answer, reverted_answer, too_deep_answer, unknown_answer, unread_answer};
@@ -135,9 +135,18 @@ pub fn one(text: &[u8]) -> Answer
     ensures { answer_bytes result ≡ answer_line text.now }
 {
     let mut line: Line = ArrayVec::new();
-    put_bytes(&mut line, text);
-    put_bytes(&mut line, b"\n");
+    put_one(text, &mut line);
     Answer::One(line)
+}
+
+/// The same, put into an empty line.
+pub fn put_one(text: &[u8], line: &mut Line)
+    requires short { length text.now ≤ 64 }
+    requires empty { line.old.items ≡ [] }
+    ensures { line.new.items ≡ answer_line text.now }
+{
+    put_bytes(line, text);
+    put_bytes(line, b"\n");
 }
 
 /// `NOTED`: the verdict is among those that were given.

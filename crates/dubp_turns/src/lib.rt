@@ -7,6 +7,7 @@
 //! ```text
 //! let mut node = Node::<Books>::new(alloc);
 //! let answer = node.act(&command, frame, &mut steps);
+//! node.tell(&Asked::Head, &mut line);
 //! ```
 #![tactic(auto)]
 
@@ -16,5 +17,5 @@ mod node;
 mod seeing;
 mod texts;
 
-pub use dubp_branches::{Answer, head_line, money_line, numbered, one, refused};
+pub use dubp_branches::{Answer, Asked, head_line, money_line, numbered, one, put_one, refused};
 pub use node::Node;

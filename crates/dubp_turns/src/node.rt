@@ -5,17 +5,18 @@ ghost use Rattle.dubp_replay.specs.AnswerBytes.{answer_bytes};
 ghost use Rattle.dubp_block.specs.Text.{IsBlock, block_text};
 ghost use Rattle.dubp_validity.specs.Rules.{IsValid, longest_block};
 ghost use Rattle.dubp_turns.specs.Given.{IsGivenAll, block_given, verdict_given};
+ghost use Rattle.dubp_replay.specs.OneLine.{IsShort, query_of};
 ghost use Rattle.dubp_replay.specs.Turns.{IsTimely, left_over, start};
 ghost use Rattle.dubp_replay.specs.declared.command.Command.TheVariants.{Ask as AskCommand, Auto as AutoCommand, Block as BlockCommand, Failures as FailuresCommand, Forge as ForgeCommand, Forget as ForgetCommand, Offer as OfferCommand, Pend as PendCommand, Revert as RevertCommand, Statement as StatementCommand, Switch as SwitchCommand, Unpend as UnpendCommand, Verdict as VerdictCommand};
 
 use crate::choosing::{choose_behind, let_go, resolve};
 use crate::forging::forge_on;
 use crate::texts::{failures_text, pend_answer};
-use dubp_atoms::{Hash, Key, NoMemory, Secret, Sig, Stamp, Steps};
+use dubp_atoms::{Hash, Key, Line, NoMemory, Secret, Sig, Stamp, Steps};
 use dubp_block::Block;
 use dubp_branches::{
-    Answer, Branches, CondText, Ledger, PeopleAndMoney, Query, forgotten, no_memory, offer_answer,
-    one, refused, unknown,
+    Answer, Asked, Branches, CondText, Ledger, PeopleAndMoney, Query, forgotten, no_memory,
+    offer_answer, one, refused, unknown,
 };
 use dubp_pool::Pool;
 use dubp_replay::{Command, Failure, LONGEST_BLOCK};
@@ -127,6 +128,16 @@ impl<T: PeopleAndMoney> Node<T> {
     {
         self.branches.laws();
         let _ = &self.failures;
+    }
+
+    /// Puts the answer to a query that is answered in one line into an empty line, as `act` answers it: nothing changes. HEAD, MONEY, IDENTITY, UID
+    /// and BALANCE take no memory.
+    pub fn tell(&self, asked: &Asked<'_>, line: &mut Line)
+        requires short { IsShort asked.now }
+        requires empty { line.old.items ≡ [] }
+        ensures { (frame : List ℕ) → Acts self.now (AskCommand (query_of asked.now)) frame line.new.items self.now }
+    {
+        self.branches.tell(asked, line);
     }
 
     // The query is answered, and nothing changes.

@@ -1,0 +1,15 @@
+use Rattle.std.proofs.Common.{refl, subst}
+use Rattle.dubp_replay.specs.declared.command.Command.TheVariants.{Ask}
+use Rattle.dubp_replay.specs.Turns.{State}
+use Rattle.dubp_choosing.specs.States.{state_with}
+use Rattle.dubp_turns.specs.Acting.{Acts}
+use Rattle.dubp_replay.specs.OneLine.{query_of}
+use Rattle.dubp_turns.proofs.Turns.{acts_aside}
+use Rattle.dubp_turns.proofs.node.Node.tell.Goals as goal
+
+pub returns : goal.returns
+returns g c = λ frame.
+    let s = c.self.inside in
+    let old = state_with s.pool s.branches s.auto s.failures.items in
+    subst (λ (x : State). Acts x (Ask (query_of c.args.asked.now)) frame c.tell.new.line.items x) c.self.view_is
+    (acts_aside old (Ask (query_of c.args.asked.now)) frame c.tell.new.line.items s.branches tt c.self.invariant refl (c.tell.ensures frame))
