@@ -1,5 +1,5 @@
 -- The turn of an entry is that of the command that its item has.
-use Rattle.std.proofs.Common.{◌≡◌, ℕ, ◌<◌, ◌≤◌, List, [], length, Option, Some, None, refl}
+use Rattle.std.proofs.Common.{◌≡◌, ℕ, ◌<◌, ◌≤◌, List, [], length, Option, Some, None, inl, refl, sym, subst}
 use Rattle.std.specs.Prelude.{codes}
 use Rattle.std.specs.Option.{MatchOption}
 use Rattle.dubp_atoms.specs.Letters.{LF}
@@ -13,7 +13,7 @@ use Rattle.dubp_script.specs.Framed.{framed_command}
 use Rattle.dubp_script.specs.declared.framed.Framed.{Framed}
 use Rattle.dubp_script.specs.declared.framed.Framed.TheVariants as framed
 use Rattle.dubp_entries.proofs.Wholes.{heads_framed}
-use Rattle.dubp_entries.specs.Entries.{Line, Frame, IsWhole, IsBad, HeadsFrame, longest_line}
+use Rattle.dubp_entries.specs.Entries.{Entry, Line, Frame, IsWhole, IsBad, HeadsFrame, longest_line}
 use Rattle.dubp_turns.specs.Acting.{IsHanded, Acts}
 use Rattle.dubp_turns.proofs.Long.{long_block_turn, long_offer_turn}
 use Rattle.dubp_turns.proofs.Pending.{long_pend_turn}
@@ -82,3 +82,6 @@ long_frame_turn old held head frame answer last ends h long is =
 
 pub bad_turn : (old : State) (text answer : List ℕ) → IsBad text → answer ≡ bad_answer → EntryServed old (Line text) answer old
 bad_turn old text answer bad e = record { asked = None; means = bad; served = (e, refl) }
+
+pub long_line_turn : (old : State) (entry : Entry) (text answer : List ℕ) → entry ≡ Line text → longest_line < length text → answer ≡ bad_answer → EntryServed old entry answer old
+long_line_turn old entry text answer is long e = subst (λ (x : Entry). EntryServed old x answer old) (sym is) (bad_turn old text answer (inl long) e)

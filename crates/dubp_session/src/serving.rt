@@ -1,8 +1,8 @@
-ghost use Rattle.std.specs.Prelude.{◌≡◌, ◌+◌, ◌-◌, ◌≤◌, ◌++◌, List, ℕ, length, drop, IfOk, OnOk, OnErr, ◌<◌, MatchOption};
+ghost use Rattle.std.specs.Prelude.{◌≡◌, ◌+◌, ◌-◌, ◌≤◌, ◌++◌, [], IsTrue, List, ℕ, length, drop, IfOk, OnOk, OnErr, ◌<◌, MatchOption};
 ghost use Rattle.dubp_outside.specs.Causes.{HasCause};
 ghost use Rattle.dubp_entries.specs.Cut.{BeginsNone, lacking};
 ghost use Rattle.dubp_validity.specs.Rules.{longest_block};
-ghost use Rattle.dubp_entries.specs.Entries.{Entry, Frame as frame_entry, HeadsFrame, IsWhole, Line as line_entry};
+ghost use Rattle.dubp_entries.specs.Entries.{Entry, Frame as frame_entry, HeadsFrame, IsWhole, Line as line_entry, longest_line};
 ghost use Rattle.dubp_entries.specs.Turns.{EntryServed, EntryTurn};
 ghost use Rattle.dubp_script.specs.Framed.{framed_command, framed_len};
 ghost use Rattle.dubp_script.specs.Spelling.{Says};
@@ -15,7 +15,8 @@ ghost use Rattle.dubp_entries.specs.Gathering.{TurnOwed, TurnOwedBroke};
 ghost use Rattle.dubp_entries.specs.Serving.{TurnWritten, TurnBroke, ServedAll, Finished};
 
 use crate::texts::bad;
-use dubp_atoms::Steps;
+use arrayvec::ArrayVec;
+use dubp_atoms::{Line, Steps};
 use dubp_entries::{
     Found, Gathered, InputEnd, Item, LONGEST_LINE, Phase, flush, frame_head, is_question, keep,
     line_end, take_one,
@@ -23,8 +24,8 @@ use dubp_entries::{
 use dubp_gen::PeopleAndMoney;
 use dubp_laws::conserved;
 use dubp_outside::{Failed, Sink, write_whole};
-use dubp_script::{Framed, read_command};
-use dubp_turns::{Answer, Node, refused};
+use dubp_script::{Framed, begins_command, read_asked, read_command};
+use dubp_turns::{Answer, Node, put_one, refused};
 use std::sync::ledger::Ledger as StepBook;
 
 // An entry takes its turn. The answer of one that is sure to change nothing is gathered; before any other, what was gathered is written, and
@@ -33,6 +34,7 @@ fn take_turn<T: PeopleAndMoney, K: Sink, L: StepBook>(
     node: &mut Node<T>,
     sink: &mut K,
     gathered: &mut Gathered,
+    line: &mut Line,
     item: Item<'_>,
     steps: &mut Steps<L>,
 ) -> Result<(), Failed>
@@ -41,7 +43,7 @@ fn take_turn<T: PeopleAndMoney, K: Sink, L: StepBook>(
     ensures cause { HasCause (K.faults sink.old) (K.faults sink.new) result }
 {
     if is_question(&item) {
-        return gather_turn(node, sink, gathered, item, steps);
+        return gather_turn(node, sink, gathered, line, item, steps);
     }
     if let Err(failed) = flush(sink, gathered) {
         return Err(failed);
@@ -49,8 +51,29 @@ fn take_turn<T: PeopleAndMoney, K: Sink, L: StepBook>(
     write_turn(node, sink, item, steps)
 }
 
-// An entry that is sure to change nothing takes its turn, and its answer is gathered.
+// An entry that is sure to change nothing takes its turn, and its answer is gathered. Most are answered in one line, and for all of these there is one
+// place, `line`, since a place for a line is cleared whole where it is made.
 fn gather_turn<T: PeopleAndMoney, K: Sink, L: StepBook>(
+    node: &mut Node<T>,
+    sink: &mut K,
+    gathered: &mut Gathered,
+    line: &mut Line,
+    item: Item<'_>,
+    steps: &mut Steps<L>,
+) -> Result<(), Failed>
+    requires { ShowsQuestion item }
+    ensures owed { OnOk result (TurnOwed node.old node.new (K.held sink.old) (K.held sink.new) gathered.old gathered.new item.entry) }
+    ensures broke { OnErr result (TurnOwedBroke node.old node.new (K.held sink.old) (K.held sink.new) gathered.old item.entry) }
+    ensures cause { HasCause (K.faults sink.old) (K.faults sink.new) result }
+{
+    if tell_entry(node, &item, line) {
+        return keep(sink, gathered, line.as_slice());
+    }
+    gather_answer(node, sink, gathered, item, steps)
+}
+
+// The same of an entry whose answer may be of many lines.
+fn gather_answer<T: PeopleAndMoney, K: Sink, L: StepBook>(
     node: &mut Node<T>,
     sink: &mut K,
     gathered: &mut Gathered,
@@ -65,6 +88,63 @@ fn gather_turn<T: PeopleAndMoney, K: Sink, L: StepBook>(
     node.laws();
     let answer = answer_item(node, item, steps);
     keep(sink, gathered, answer.as_bytes())
+}
+
+// Puts the answer to an entry into the line, where it is a query that is answered in one line, or a line that is sure to be no command; and behind it
+// the money adds up. False of any other entry.
+fn tell_entry<T: PeopleAndMoney>(node: &Node<T>, item: &Item<'_>, line: &mut Line) -> bool
+    ensures { IsTrue result → (entry : Entry) → IsWhole entry → Shows item.now entry → EntryTurn node.now entry line.new.items node.now }
+{
+    node.ledger().laws();
+    conserved();
+    tell_item(node, item, line)
+}
+
+// Puts the answer to such an entry into the line.
+fn tell_item<T: PeopleAndMoney>(node: &Node<T>, item: &Item<'_>, line: &mut Line) -> bool
+    ensures { IsTrue result → (entry : Entry) → IsWhole entry → Shows item.now entry → EntryServed node.now entry line.new.items node.now }
+{
+    line.clear();
+    match item {
+        Item::LongLine => {
+            put_one(b"BAD", line);
+            true
+        }
+        Item::Line(text) => tell_line(node, text, line),
+        Item::Frame(_, _, _) => false,
+        Item::LongFrame(_) => false,
+    }
+}
+
+// The same of a line.
+fn tell_line<T: PeopleAndMoney>(node: &Node<T>, text: &[u8], line: &mut Line) -> bool
+    requires { line.old.items ≡ [] }
+    ensures { IsTrue result → IsWhole (line_entry text.now) → EntryServed node.now (line_entry text.now) line.new.items node.now }
+{
+    if text.len() > LONGEST_LINE {
+        put_one(b"BAD", line);
+        return true;
+    }
+    if begins_command(text) {
+        return tell_query(node, text, line);
+    }
+    put_one(b"BAD", line);
+    true
+}
+
+// The same of a line that is not too long and begins with the word of a command.
+fn tell_query<T: PeopleAndMoney>(node: &Node<T>, text: &[u8], line: &mut Line) -> bool
+    requires fits { length text.now ≤ longest_line }
+    requires empty { line.old.items ≡ [] }
+    ensures { IsTrue result → IsWhole (line_entry text.now) → EntryServed node.now (line_entry text.now) line.new.items node.now }
+{
+    match read_asked(text) {
+        Some(asked) => {
+            node.tell(&asked, line);
+            true
+        }
+        None => false,
+    }
 }
 
 /// The node takes its turn, and the answer is written.
@@ -178,6 +258,7 @@ pub fn serve<T: PeopleAndMoney, K: Sink, L: StepBook>(
     ensures cause { HasCause (K.faults sink.old) (K.faults sink.new) result }
 {
     let mut gathered = Gathered::new();
+    let mut line: Line = ArrayVec::new();
     let mut phase = phase;
     let mut rest = hand;
     'commands: loop {
@@ -193,7 +274,7 @@ pub fn serve<T: PeopleAndMoney, K: Sink, L: StepBook>(
                 rest = skip(rest, used);
             }
             Found::Got(used, item) => {
-                if let Err(failed) = take_turn(node, sink, &mut gathered, item, steps) {
+                if let Err(failed) = take_turn(node, sink, &mut gathered, &mut line, item, steps) {
                     return Err(failed);
                 }
                 phase = Phase::Start;

@@ -1,13 +1,13 @@
+use Rattle.std.proofs.Common.{refl}
 use Rattle.dubp_entries.proofs.Gatherings.{on_ok_then, on_err_then, turn_asked, turn_asked_broke}
-use Rattle.dubp_entries.proofs.Questions.{asks_same}
 use Rattle.dubp_session.proofs.serving.gather_turn.Goals as goal
 
-pub returns-clause-owed : goal.returns-clause-owed
-returns-clause-owed g c =
-    on_ok_then c.keep.result _ _ (turn_asked _ _ _ _ _ _ _ _ c.args.item c.as_bytes.ensures
-    (λ entry whole shows. asks_same _ _ _ entry c.laws.ensures.failures (c.requires entry whole shows) (c.answer_item-answer.ensures entry whole shows))) c.keep.ensures.passes
+pub returns-then-tell_entry-clause-owed : goal.returns-then-tell_entry-clause-owed
+returns-then-tell_entry-clause-owed g c =
+    on_ok_then c.keep.result _ _ (turn_asked _ _ _ _ _ _ _ _ c.args.item c.as_slice.ensures.value
+    (λ entry whole shows. (c.tell_entry.ensures c.if-tell_entry.true entry whole shows, refl))) c.keep.ensures.passes
 
-pub returns-clause-broke : goal.returns-clause-broke
-returns-clause-broke g c =
-    on_err_then c.keep.result _ _ (turn_asked_broke _ _ _ _ _ _ _ c.args.item c.as_bytes.ensures
-    (λ entry whole shows. asks_same _ _ _ entry c.laws.ensures.failures (c.requires entry whole shows) (c.answer_item-answer.ensures entry whole shows))) c.keep.ensures.part
+pub returns-then-tell_entry-clause-broke : goal.returns-then-tell_entry-clause-broke
+returns-then-tell_entry-clause-broke g c =
+    on_err_then c.keep.result _ _ (turn_asked_broke _ _ _ _ _ _ _ c.args.item c.as_slice.ensures.value
+    (λ entry whole shows. (c.tell_entry.ensures c.if-tell_entry.true entry whole shows, refl))) c.keep.ensures.part
