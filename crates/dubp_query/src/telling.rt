@@ -3,7 +3,6 @@ ghost use Rattle.dubp_replay.specs.Answers.{IsAnswered, diff_answer};
 ghost use Rattle.dubp_replay.specs.OneLine.{IsShort, query_of};
 ghost use Rattle.dubp_replay.specs.declared.query.Query.TheVariants as asked;
 ghost use Rattle.dubp_query.specs.Asked.{IsTold};
-ghost use Rattle.arrayvec.specs.ArrayVec.{ArrayVec};
 
 use crate::lines::put_head_line;
 use dubp_answers::{
