@@ -51,5 +51,5 @@ returns-clause-left g c = λ chain sound text head at.
 pub returns-clause-stays : goal.returns-clause-stays
 returns-clause-stays g c = λ n d is. (is.0, c.write.ensures.stays n.1 d is.1)
 
-pub returns-in_err-write-clause-stays : goal.returns-in_err-write-clause-stays
-returns-in_err-write-clause-stays g c = λ n d is. (is.0, c.write.ensures.stays n.1 d is.1)
+pub returns-in_err-cleared-clause-stays : goal.returns-in_err-cleared-clause-stays
+returns-in_err-cleared-clause-stays g c = λ n d is. (is.0, c.write.ensures.stays n.1 d is.1)
