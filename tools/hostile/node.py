@@ -26,16 +26,29 @@ class Broken(Exception):
     """The program did what it may not, or not what it has to."""
 
 
-class Node:
-    """A program that runs, with so many bytes of address space where a limit is given."""
+class Ended(Broken):
+    """The program ended with this status before it answered a command."""
 
-    def __init__(self, program: str, limit: int | None = None) -> None:
+    def __init__(self, status: int, command: str) -> None:
+        super().__init__(f"the program ended with status {status} before it answered {command}")
+        self.status = status
+
+
+class Node:
+    """A program that runs, with so many bytes of address space where a limit is given, and with more in its environment."""
+
+    def __init__(self, program: str, limit: int | None = None, environment: dict[str, str] | None = None) -> None:
         def limited() -> None:
             assert limit is not None
             resource.setrlimit(resource.RLIMIT_AS, (limit, limit))
 
         self.process = subprocess.Popen(
-            [program, "run"], stdin=subprocess.PIPE, stdout=subprocess.PIPE, bufsize=0, preexec_fn=limited if limit is not None else None
+            [program, "run"],
+            stdin=subprocess.PIPE,
+            stdout=subprocess.PIPE,
+            bufsize=0,
+            preexec_fn=limited if limit is not None else None,
+            env={**os.environ, **(environment or {})},
         )
         assert self.process.stdin and self.process.stdout
         self.given, self.taken = self.process.stdin, self.process.stdout
@@ -96,7 +109,7 @@ class Node:
                 begin, at = 0, at - begin
                 if not self.more():
                     command = commands[len(answers)].split(b"\n")[0].decode(errors="replace")
-                    raise Broken(f"the program ended with status {self.process.wait()} before it answered {command}")
+                    raise Ended(self.process.wait(), command)
                 continue
             if at > begin and self.buffer[at:end] == b"BAD\n":
                 answers.append(bytes(self.buffer[begin:at]))
@@ -163,7 +176,7 @@ ALLOWED = {
     "STATEMENT": rf"(?:MOVE {NUM} (?:MADE|SPENT|CLEARED) {SOURCE} {NUM}\n)*END\n|NOMEM\n",
     "DISTANCE": rf"NONE\n|DISTANCE {NUM} {NUM} (?:PASS|FAIL)\n|NOMEM\n",
     "DIFF": rf"NONE\n|DIFF {NUM}\n|NOMEM\n",
-    "RECORDS": rf"NONE\n|(?:[IMCS]IDX [^\n]+\n)*END\n|NOMEM\n",
+    "RECORDS": r"NONE\n|(?:[IMCS]IDX [^\n]+\n)*END\n|NOMEM\n",
     "SHOW": rf"NONE\n|{SHOWN}END\n|NOMEM\n",
     "": r"BAD\n",
 }
