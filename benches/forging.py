@@ -77,6 +77,18 @@ class Payer:
             self.source = f"{amount}:0:T:{digest}:0"
         return "".join(found), sources[:count]
 
+    def pays_each(self, conditions: list[str], units: int) -> str:
+        """The lines of payments of so many units to each of these conditions."""
+        found = []
+        for place in range(0, len(conditions), OUTPUTS):
+            paid = [f"{units}:0:{condition}" for condition in conditions[place : place + OUTPUTS]]
+            amount = int(self.source.split(":")[0]) - units * len(paid)
+            lines, signed = self.pays(self.source, [f"{amount}:0:SIG({self.key})", *paid])
+            self.commands.append(blocks.verdict(self.key, signed))
+            self.source = f"{amount}:0:T:{digest_of(signed)}:0"
+            found.append(lines)
+        return "".join(found)
+
     def grows(self, lines: int) -> int:
         """Blocks are issued until one with so many lines may follow, and no more; told is how many it may have."""
         most = 499

@@ -6,11 +6,14 @@ import sys
 import tempfile
 import threading
 import time
-from collections.abc import Sequence
+from collections.abc import Iterable, Sequence
 from dataclasses import dataclass
 
 TIME = "/usr/bin/time"
 CHUNK = 1 << 20
+# a line that is no command, whose answer stands behind those to the commands before it
+FENCE, REFUSED_LINE = b"FENCE\n", b"BAD\n"
+SECONDS_AT_MOST = 1200
 
 
 @dataclass
@@ -71,30 +74,45 @@ def first_line_apart(left: bytes, right: bytes, lines: int) -> str:
 
 
 class Fed:
-    """A program that is given commands and waited for, each of which it answers by one line."""
+    """A program that is given commands, none of them `BAD`, and waited for."""
 
     def __init__(self, command: Sequence[str]):
         self.child = subprocess.Popen(command, stdin=subprocess.PIPE, stdout=subprocess.PIPE)
-        self.lines, self.changed = 0, threading.Condition()
+        self.fences, self.wanted, self.changed = 0, 0, threading.Condition()
         threading.Thread(target=self.count, daemon=True).start()
 
     def count(self) -> None:
+        """Counts the answers to lines that are no commands."""
+        before = b""
         while piece := self.child.stdout.read1(CHUNK):
             with self.changed:
-                self.lines += piece.count(b"\n")
+                self.fences += (before + piece).count(REFUSED_LINE)
                 self.changed.notify()
+            before = (before + piece)[1 - len(REFUSED_LINE) :]
 
-    def give(self, commands: bytes, lines: int) -> None:
-        """Gives commands, and waits until so many lines have come in all."""
-        self.child.stdin.write(commands)
+    def give(self, commands: Iterable[bytes]) -> int:
+        """Gives commands, waits until all are answered, and tells how many bytes they have."""
+        length, self.wanted = 0, self.wanted + 1
+        for piece in commands:
+            length += len(piece)
+            self.child.stdin.write(piece)
+        self.child.stdin.write(FENCE)
         self.child.stdin.flush()
         with self.changed:
-            if not self.changed.wait_for(lambda: self.lines >= lines, timeout=600):
-                sys.exit(f"{self.child.args[0]} answered {self.lines} lines to {lines} commands in ten minutes")
+            if not self.changed.wait_for(lambda: self.fences >= self.wanted, timeout=SECONDS_AT_MOST):
+                sys.exit(f"{self.child.args[0]} answered not all commands in {SECONDS_AT_MOST} seconds")
+        # what follows the last answer is not to be counted with what is given next
+        time.sleep(0.05)
+        return length
 
     def seconds(self) -> float:
         """The seconds of a processor that it has used."""
         return int(pathlib.Path(f"/proc/{self.child.pid}/schedstat").read_text().split()[0]) / 1e9
+
+    def kibibytes(self) -> int:
+        """The greatest memory so far."""
+        said = pathlib.Path(f"/proc/{self.child.pid}/status").read_text()
+        return next(int(line.split()[1]) for line in said.splitlines() if line.startswith("VmHWM:"))
 
     def end(self) -> None:
         self.child.stdin.close()
@@ -102,15 +120,12 @@ class Fed:
             sys.exit(f"{self.child.args[0]} ends with status {self.child.returncode}")
 
 
-def seconds_behind(command: Sequence[str], chain: bytes, chain_lines: int, more: bytes, more_lines: int) -> float:
-    """The seconds of a processor that the commands behind a chain take."""
+def cost_behind(command: Sequence[str], before: Iterable[bytes], commands: Iterable[bytes]) -> tuple[int, Cost]:
+    """The bytes of some commands, the seconds that they take behind others, and the greatest memory with these."""
     fed = Fed(command)
-    fed.give(chain, chain_lines)
-    # what follows the last answer to the chain is not to be counted
-    time.sleep(0.05)
+    fed.give(before)
     begin = fed.seconds()
-    fed.give(more, chain_lines + more_lines)
-    time.sleep(0.05)
-    used = fed.seconds() - begin
+    length = fed.give(commands)
+    cost = Cost(fed.seconds() - begin, fed.kibibytes())
     fed.end()
-    return used
+    return length, cost
