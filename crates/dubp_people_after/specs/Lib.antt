@@ -1,3 +1,4 @@
+pub mod Empty
 pub mod Keys
 pub mod Lines
 pub mod Names

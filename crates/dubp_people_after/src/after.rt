@@ -1,4 +1,4 @@
-ghost use Rattle.std.specs.Prelude.{◌+◌, nat_lt, ◌≡◌, ◌∷◌, IfOk, Some, option_map};
+ghost use Rattle.std.specs.Prelude.{◌+◌, nat_lt, ◌≡◌, ◌∷◌, IfOk, OnOk, Some, option_map};
 ghost use Rattle.std.specs.List.{list_any};
 ghost use Rattle.indexmap.specs.IndexMap.{get};
 ghost use Rattle.indexmap.specs.IndexSet.{contains};
@@ -17,8 +17,8 @@ ghost use Rattle.dubp_people_after.specs.Near.{HasIssuers, HasReceivers};
 ghost use Rattle.dubp_people_after.specs.Names.{is_repeated, name_of, name_of_line, stamp_at};
 ghost use Rattle.dubp_people_after.specs.Partners.{is_partner};
 
-use crate::keys::{Keys, keys_of};
-use crate::near::{put_partners, put_rows};
+use crate::keys::{Keys, keys_of, put_all};
+use crate::near::put_rows;
 use dubp_atoms::{Hash, Key, NoMemory, Secret, Sig, Stamp, Uid};
 use dubp_block::{Block, CertLine, MemberLine};
 use dubp_params::Params;
@@ -157,10 +157,8 @@ impl<'a> WithBlock for After<'a> {
     }
 
     fn near(&self, alloc: Global, key: Key) -> Result<IndexSet<Key, Secret>, NoMemory> {
-        let rows = self.registry.cindex().rows_of(alloc, key)?;
         let mut near = IndexSet::with_hasher(alloc, self.registry.secret());
-        put_rows(&mut near, rows.as_slice())?;
-        put_partners(&mut near, self.keys.partners_of(key))?;
+        self.put_near(alloc, key, &mut near)?;
         Ok(near)
     }
 
@@ -188,6 +186,22 @@ impl<'a> After<'a> {
             next: *next,
             keys,
         })
+    }
+
+    /// Puts the keys into the set that the key has certifications with, on the chain before the block or by the block.
+    fn put_near(
+        &self,
+        alloc: Global,
+        key: Key,
+        near: &mut IndexSet<Key, Secret>,
+    ) -> Result<(), NoMemory>
+        ensures issuers { OnOk result ((c : Chain) (b : BlockValue) → ⟦<After<'a> as WithBlock>⟧.after self.now c b → HasIssuers c b key (contains same_text near.new)) }
+        ensures receivers { OnOk result ((c : Chain) (b : BlockValue) → ⟦<After<'a> as WithBlock>⟧.after self.now c b → HasReceivers c b key (contains same_text near.new)) }
+    {
+        let rows = self.registry.cindex().rows_of(alloc, key)?;
+        put_rows(near, rows.as_slice())?;
+        put_all(near, self.keys.partners_of(key))?;
+        Ok(())
     }
 
     /// Whether the last certification on the chain before the block, from one key to another, is live at the time of the block.

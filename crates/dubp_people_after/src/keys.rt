@@ -1,18 +1,19 @@
 ghost use Rattle.std.specs.Prelude.{◌≡◌, ◌||◌, IfOk, OnOk, Some, cond};
 ghost use Rattle.std.specs.List.{list_any};
-ghost use Rattle.indexmap.specs.IndexMap.{get};
+ghost use Rattle.indexmap.specs.IndexMap.{IsEmpty, get};
 ghost use Rattle.indexmap.specs.IndexSet.{contains};
 ghost use Rattle.dubp_atoms.specs.Same.{Text, same_text};
 ghost use Rattle.dubp_chain.specs.Words.{last_of};
 ghost use Rattle.dubp_chain.specs.Members.{is_of};
 ghost use Rattle.dubp_people_after.specs.Keys.{AreKeysOf, same_pair};
+ghost use Rattle.dubp_people_after.specs.Empty.{AreEmpty};
 ghost use Rattle.dubp_people_after.specs.Partners.{is_partner};
 ghost use Rattle.dubp_people_count.specs.OfSteps.{of_pair};
 
-use crate::partners::partner_map;
+use crate::partners::put_partners;
 use dubp_atoms::{Key, NoMemory, Secret};
 use dubp_block::{Block, CertLine, IdentityLine, MemberLine};
-use dubp_sets::{insert, set_of};
+use dubp_sets::insert;
 use indexmap::{IndexMap, IndexSet};
 use std::alloc::Global;
 
@@ -33,6 +34,21 @@ pub(crate) struct Keys {
 }
 
 impl Keys {
+    /// Those of a block without lines. The secret is what they are hashed by.
+    fn new(alloc: Global, secret: Secret) -> Keys
+        ensures { AreEmpty result }
+    {
+        Keys {
+            joining: IndexSet::with_hasher(alloc, secret),
+            coming: IndexSet::with_hasher(alloc, secret),
+            leaving: IndexSet::with_hasher(alloc, secret),
+            excluded: IndexSet::with_hasher(alloc, secret),
+            identities: IndexMap::with_hasher(alloc, secret),
+            certifications: IndexMap::with_hasher(alloc, secret),
+            partners: IndexMap::with_hasher(alloc, secret),
+        }
+    }
+
     /// The line of Identities of the key.
     pub(crate) fn line_of(&self, key: Key) -> Option<IdentityLine>
         ensures { result ≡ get same_text self.now.identities key }
@@ -68,36 +84,25 @@ impl Keys {
 pub(crate) fn keys_of(alloc: Global, secret: Secret, block: &Block) -> Result<Keys, NoMemory>
     ensures { IfOk result (λ keys. AreKeysOf block.now (contains same_text keys.joining) (contains same_text keys.coming) (contains same_text keys.leaving) (contains same_text keys.excluded) (get same_text keys.identities) (get same_pair keys.certifications) (is_partner keys.partners)) }
 {
-    let joining = key_set(alloc, secret, block.joiners.as_slice())?;
-    let mut coming = key_set(alloc, secret, block.joiners.as_slice())?;
-    put_keys(&mut coming, block.actives.as_slice())?;
-    let leaving = key_set(alloc, secret, block.leavers.as_slice())?;
-    let excluded = set_of(alloc, secret, block.excluded.as_slice())?;
-    let identities = identity_map(alloc, secret, block.identities.as_slice())?;
-    let certifications = certification_map(alloc, secret, block.certifications.as_slice())?;
-    let partners = partner_map(alloc, secret, block.certifications.as_slice())?;
-    Ok(Keys {
-        joining,
-        coming,
-        leaving,
-        excluded,
-        identities,
-        certifications,
-        partners,
-    })
+    let mut keys = Keys::new(alloc, secret);
+    put_block(alloc, &mut keys, block)?;
+    Ok(keys)
 }
 
-/// The keys of the lines.
-fn key_set(
-    alloc: Global,
-    secret: Secret,
-    lines: &[MemberLine],
-) -> Result<IndexSet<Key, Secret>, NoMemory>
-    ensures { IfOk result (λ set. (k : Text) → contains same_text set k ≡ list_any (is_of k) lines.now) }
+/// Puts in what the lines of the block name, where nothing is in any of them.
+fn put_block(alloc: Global, keys: &mut Keys, block: &Block) -> Result<(), NoMemory>
+    requires { AreEmpty keys.old }
+    ensures { OnOk result (AreKeysOf block.now (contains same_text keys.new.joining) (contains same_text keys.new.coming) (contains same_text keys.new.leaving) (contains same_text keys.new.excluded) (get same_text keys.new.identities) (get same_pair keys.new.certifications) (is_partner keys.new.partners)) }
 {
-    let mut set = IndexSet::with_hasher(alloc, secret);
-    put_keys(&mut set, lines)?;
-    Ok(set)
+    put_keys(&mut keys.joining, block.joiners.as_slice())?;
+    put_keys(&mut keys.coming, block.joiners.as_slice())?;
+    put_keys(&mut keys.coming, block.actives.as_slice())?;
+    put_keys(&mut keys.leaving, block.leavers.as_slice())?;
+    put_all(&mut keys.excluded, block.excluded.as_slice())?;
+    put_identities(&mut keys.identities, block.identities.as_slice())?;
+    put_certifications(&mut keys.certifications, block.certifications.as_slice())?;
+    put_partners(alloc, &mut keys.partners, block.certifications.as_slice())?;
+    Ok(())
 }
 
 /// Puts the keys of the lines into the set.
@@ -110,19 +115,28 @@ fn put_keys(set: &mut IndexSet<Key, Secret>, lines: &[MemberLine]) -> Result<(),
     Ok(())
 }
 
-/// The lines by their keys. Where a key stands twice its last line counts.
-fn identity_map(
-    alloc: Global,
-    secret: Secret,
-    lines: &[IdentityLine],
-) -> Result<IndexMap<Key, IdentityLine, Secret>, NoMemory>
-    ensures { IfOk result (λ map. (k : Text) → get same_text map k ≡ last_of (λ line. same_text k line.key) lines.now) }
+/// Puts the keys into the set.
+pub(crate) fn put_all(set: &mut IndexSet<Key, Secret>, keys: &[Key]) -> Result<(), NoMemory>
+    ensures { OnOk result ((k : Text) → contains same_text set.new k ≡ (contains same_text set.old k || list_any (same_text k) keys.now)) }
 {
-    let mut map = IndexMap::with_hasher(alloc, secret);
-    for line in lines {
-        insert_line(&mut map, *line)?;
+    for key in keys {
+        insert(set, *key)?;
     }
-    Ok(map)
+    Ok(())
+}
+
+/// Puts the lines into an empty map, by their keys. Where a key stands twice its last line counts.
+fn put_identities(
+    map: &mut IndexMap<Key, IdentityLine, Secret>,
+    lines: &[IdentityLine],
+) -> Result<(), NoMemory>
+    requires { IsEmpty map.old }
+    ensures { OnOk result ((k : Text) → get same_text map.new k ≡ last_of (λ line. same_text k line.key) lines.now) }
+{
+    for line in lines {
+        insert_line(map, *line)?;
+    }
+    Ok(())
 }
 
 /// Puts the line under its key, in the place of one that is there.
@@ -136,19 +150,18 @@ fn insert_line(
     Ok(())
 }
 
-/// The lines by their pairs. Where a pair stands twice its last line counts.
-fn certification_map(
-    alloc: Global,
-    secret: Secret,
+/// Puts the lines into an empty map, by their pairs. Where a pair stands twice its last line counts.
+fn put_certifications(
+    map: &mut IndexMap<(Key, Key), CertLine, Secret>,
     lines: &[CertLine],
-) -> Result<IndexMap<(Key, Key), CertLine, Secret>, NoMemory>
-    ensures { IfOk result (λ map. (x y : Text) → get same_pair map (x, y) ≡ last_of (of_pair x y) lines.now) }
+) -> Result<(), NoMemory>
+    requires { IsEmpty map.old }
+    ensures { OnOk result ((x y : Text) → get same_pair map.new (x, y) ≡ last_of (of_pair x y) lines.now) }
 {
-    let mut map = IndexMap::with_hasher(alloc, secret);
     for line in lines {
-        insert_certification(&mut map, *line)?;
+        insert_certification(map, *line)?;
     }
-    Ok(map)
+    Ok(())
 }
 
 /// Puts the line under its pair, in the place of one that is there.

@@ -22,19 +22,6 @@ pub(crate) fn put_rows(
     Ok(())
 }
 
-/// Puts the partners into the set.
-pub(crate) fn put_partners(
-    set: &mut IndexSet<Key, Secret>,
-    partners: &[Key],
-) -> Result<(), NoMemory>
-    ensures { OnOk result ((k : Text) → contains same_text set.new k ≡ (contains same_text set.old k || list_any (same_text k) partners.now)) }
-{
-    for partner in partners {
-        insert(set, *partner)?;
-    }
-    Ok(())
-}
-
 fn insert_both(set: &mut IndexSet<Key, Secret>, from: Key, to: Key) -> Result<(), NoMemory>
     ensures { OnOk result ((k : Text) → contains same_text set.new k ≡ (contains same_text set.old k || is_end from to k)) }
 {

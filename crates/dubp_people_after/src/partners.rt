@@ -1,5 +1,6 @@
-ghost use Rattle.std.specs.Prelude.{◌≡◌, ◌||◌, ◌&&◌, ◌++◌, ◌∷◌, [], IfOk, OnOk, cond};
+ghost use Rattle.std.specs.Prelude.{◌≡◌, ◌||◌, ◌&&◌, ◌++◌, ◌∷◌, [], OnOk, cond};
 ghost use Rattle.std.specs.List.{list_any};
+ghost use Rattle.indexmap.specs.IndexMap.{IsEmpty};
 ghost use Rattle.dubp_atoms.specs.Same.{Text, same_text};
 ghost use Rattle.dubp_people_after.specs.Keys.{is_between};
 ghost use Rattle.dubp_people_after.specs.Partners.{is_partner};
@@ -9,19 +10,19 @@ use dubp_block::CertLine;
 use indexmap::IndexMap;
 use std::alloc::Global;
 
-/// The partners of each key that a line names: the keys at the other ends of its lines.
-pub(crate) fn partner_map(
+/// Puts the partners of each key that a line names into an empty map: the keys at the other ends of its lines.
+pub(crate) fn put_partners(
     alloc: Global,
-    secret: Secret,
+    map: &mut IndexMap<Key, Vec<Key>, Secret>,
     lines: &[CertLine],
-) -> Result<IndexMap<Key, Vec<Key>, Secret>, NoMemory>
-    ensures { IfOk result (λ map. (x y : Text) → is_partner map x y ≡ list_any (is_between x y) lines.now) }
+) -> Result<(), NoMemory>
+    requires { IsEmpty map.old }
+    ensures { OnOk result ((x y : Text) → is_partner map.new x y ≡ list_any (is_between x y) lines.now) }
 {
-    let mut map = IndexMap::with_hasher(alloc, secret);
     for line in lines {
-        insert_ends(alloc, &mut map, line)?;
+        insert_ends(alloc, map, line)?;
     }
-    Ok(map)
+    Ok(())
 }
 
 /// Puts each end of the line under the other.

@@ -1,7 +1,7 @@
 use Rattle.indexmap.specs.IndexMap.{get}
 use Rattle.dubp_people_after.specs.Keys.{same_pair}
 use Rattle.dubp_people_after.proofs.Lists.{one_pair_more}
-use Rattle.dubp_people_after.proofs.keys.certification_map.Goals as goal
+use Rattle.dubp_people_after.proofs.keys.put_certifications.Goals as goal
 
 pub loop-line-preserved : goal.loop-line-preserved
 loop-line-preserved c =

@@ -1,7 +1,7 @@
 use Rattle.indexmap.specs.IndexMap.{get}
 use Rattle.dubp_atoms.specs.Same.{same_text}
 use Rattle.dubp_people_after.proofs.Lists.{one_line_more}
-use Rattle.dubp_people_after.proofs.keys.identity_map.Goals as goal
+use Rattle.dubp_people_after.proofs.keys.put_identities.Goals as goal
 
 pub loop-line-preserved : goal.loop-line-preserved
 loop-line-preserved c =
