@@ -1,6 +1,7 @@
-pub mod Every
+pub mod Rests
 pub mod Sections
 pub mod Sets
+pub mod Standing
 pub mod Told
 pub mod Walk
 pub mod OfLists

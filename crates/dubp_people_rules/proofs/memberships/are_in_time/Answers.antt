@@ -1,13 +1,20 @@
-use borrow.Author.Tests.{tests}
-use Rattle.std.proofs.Common.{rules}
-use Rattle.std.proofs.lemmas.Iterator.{cases_from_all, YieldsList-from_slice}
-use Rattle.dubp_block.specs.declared.block.MemberLine.{MemberLine}
+use Rattle.std.proofs.Common.{arith}
 use Rattle.dubp_people_rules.specs.Lines.{IsMembershipInTime}
-use Rattle.dubp_people_rules.proofs.Every.{every_if_all}
+use Rattle.dubp_people_rules.proofs.Rests.{rests_first, rests_one_more, fails_all, passes_all}
 use Rattle.dubp_people_rules.proofs.memberships.are_in_time.Goals as goal
 
+pub loop-line-init : goal.loop-line-init
+loop-line-init c = λ ch is sound. rests_first (IsMembershipInTime ch c.args.block.now c.args.next.now) _
+
+pub returns-then-not-is_in_time : goal.returns-then-not-is_in_time
+returns-then-not-is_in_time c = λ ch is sound.
+    fails_all (IsMembershipInTime ch c.args.block.now c.args.next.now) c.args.lines.now c.loop-line.line-index c.line-item.result _ c.loop-line-test.true c.line-item.is (c.is_in_time.ensures ch is sound) c.if-not-is_in_time.true
+    (c.loop-line.invariant ch is sound)
+
+pub loop-line-preserved : goal.loop-line-preserved
+loop-line-preserved c = λ ch is sound.
+    rests_one_more (IsMembershipInTime ch c.args.block.now c.args.next.now) c.args.lines.now c.loop-line.line-index c.line-item.result c.loop-line-test.true c.line-item.is ((c.is_in_time.ensures ch is sound).0 c.if-not-is_in_time.false)
+    (c.loop-line.invariant ch is sound)
+
 pub returns : goal.returns
-returns c = λ ch at sound.
-    let P : MemberLine → Type 0 = IsMembershipInTime ch c.args.block.now c.args.next.now in
-    every_if_all P c.args.lines.now c.all.result
-    (cases_from_all _ _ _ P (λ line. ¬ P line) c.all.ensures.ran (YieldsList-from_slice c.args.lines.now cc) (λ x q k. search (rules, tests)) (λ x q k. search (rules, tests)))
+returns c = λ ch is sound. passes_all (IsMembershipInTime ch c.args.block.now c.args.next.now) c.args.lines.now c.loop-line.line-index (omega arith) (c.loop-line.invariant ch is sound)

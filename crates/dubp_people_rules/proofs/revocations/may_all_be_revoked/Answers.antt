@@ -1,0 +1,20 @@
+use Rattle.std.proofs.Common.{arith}
+use Rattle.dubp_people_rules.specs.Lines.{MayBeRevoked}
+use Rattle.dubp_people_rules.proofs.Rests.{rests_first, rests_one_more, fails_all, passes_all}
+use Rattle.dubp_people_rules.proofs.revocations.may_all_be_revoked.Goals as goal
+
+pub loop-line-init : goal.loop-line-init
+loop-line-init c = λ ch is sound. rests_first (MayBeRevoked ch) _
+
+pub returns-then-not-may_be_revoked : goal.returns-then-not-may_be_revoked
+returns-then-not-may_be_revoked c = λ ch is sound.
+    fails_all (MayBeRevoked ch) c.args.lines.now c.loop-line.line-index c.line-item.result _ c.loop-line-test.true c.line-item.is (c.may_be_revoked.ensures ch is sound) c.if-not-may_be_revoked.true
+    (c.loop-line.invariant ch is sound)
+
+pub loop-line-preserved : goal.loop-line-preserved
+loop-line-preserved c = λ ch is sound.
+    rests_one_more (MayBeRevoked ch) c.args.lines.now c.loop-line.line-index c.line-item.result c.loop-line-test.true c.line-item.is ((c.may_be_revoked.ensures ch is sound).0 c.if-not-may_be_revoked.false)
+    (c.loop-line.invariant ch is sound)
+
+pub returns : goal.returns
+returns c = λ ch is sound. passes_all (MayBeRevoked ch) c.args.lines.now c.loop-line.line-index (omega arith) (c.loop-line.invariant ch is sound)
