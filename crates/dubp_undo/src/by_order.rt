@@ -1,5 +1,7 @@
 ghost use Rattle.std.specs.Prelude.{◌≡◌, None, get_or, IfSome, IfNone};
-ghost use Rattle.std.specs.BTreeMap.{get};
+ghost use Rattle.std.specs.declared.ops.Bound.TheVariants.{Unbounded};
+ghost use Rattle.std.specs.BTreeMap.{get, IsOrdered};
+ghost use Rattle.std.specs.BTreeMap.Range.{entries_between};
 ghost use Rattle.dubp_undo.specs.Finders.{order_respects};
 ghost use Rattle.dubp_undo.specs.Slots.{IsFirstHeld, HasNoneHeld};
 
@@ -7,7 +9,7 @@ use crate::finder::{Finder, OrderedFinder};
 use dubp_atoms::NoMemory;
 use std::alloc::Global;
 use std::collections::BTreeMap;
-use std::collections::btree_map::Entry;
+use std::collections::btree_map::{Entry, Range};
 use std::ops::Bound;
 
 /// Slots that are found by the order of their keys.
@@ -24,6 +26,14 @@ impl<K: Ord + Copy> ByOrder<K> {
         ByOrder {
             slots: BTreeMap::new(alloc),
         }
+    }
+
+    /// The keys from a bound on, in their order, each with its slot.
+    pub(crate) fn range_from(&self, from: Bound<K>) -> Range<'_, K, usize>
+        ensures between { result ≡ entries_between K.cmp from Unbounded self.now.slots.entries }
+        ensures ordered { IsOrdered K.cmp self.now.slots }
+    {
+        self.slots.range((from, Bound::Unbounded))
     }
 }
 
@@ -62,7 +72,7 @@ impl<K: Ord + Copy> OrderedFinder<K> for ByOrder<K> {
         ensures found { IfSome result (IsFirstHeld K.cmp (get K.cmp self.now.slots) slots.now from) }
         ensures none { IfNone result (HasNoneHeld K.cmp (get K.cmp self.now.slots) slots.now from) }
     {
-        for (k, slot) in self.slots.range((from, Bound::Unbounded)) {
+        for (k, slot) in self.range_from(from) {
             if let Some(v) = held(slots, *slot) {
                 return Some((*k, v));
             }
@@ -71,8 +81,8 @@ impl<K: Ord + Copy> OrderedFinder<K> for ByOrder<K> {
     }
 }
 
-// What the slot holds, if there is one.
-fn held<V: Copy>(slots: &[Option<V>], slot: usize) -> Option<V>
+/// What the slot holds, if there is one.
+pub(crate) fn held<V: Copy>(slots: &[Option<V>], slot: usize) -> Option<V>
     ensures { result ≡ get_or slots.now slot None }
 {
     if slot < slots.len() {

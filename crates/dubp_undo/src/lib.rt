@@ -37,6 +37,7 @@ mod slots;
 mod summary;
 mod table;
 mod three;
+mod walk;
 
 pub use along::{Along, StateOf};
 pub use both::Both;
@@ -51,3 +52,4 @@ pub use moving::{Definition, Shows, Tables};
 pub use summary::{NoSummary, Summary};
 pub use table::UndoTable;
 pub use three::Three;
+pub use walk::Walk;

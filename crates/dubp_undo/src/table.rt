@@ -10,6 +10,7 @@ use crate::moves::{Change, changes_since, drop_first, make_room, move_last, note
 use crate::places::{give_up_idle, place};
 use crate::slots::Slots;
 use crate::summary::{NoSummary, Summary};
+use crate::walk::Walk;
 use dubp_atoms::{NoMemory, Steps};
 use std::alloc::Global;
 use std::collections::VecDeque;
@@ -77,6 +78,15 @@ impl<K: Ord + Copy, V: Copy + Eq> UndoTable<K, V> {
         ensures { result ≡ empty }
     {
         UndoTable::over(ByOrder::new(alloc), NoSummary, alloc)
+    }
+
+    /// A walk over `now` in the order of its keys, from a bound on. It takes no memory.
+    pub fn walk_from(&self, from: Bound<K>) -> Walk<'_, K, V>
+        ensures { result ≡ record { map = self.now.now; from = from } }
+    {
+        let table = Snapshot::of(self);
+        let left = self.finder.range_from(from);
+        Walk::over(table, from, left, self.slots.values())
     }
 }
 
