@@ -165,17 +165,12 @@ fn make_room(issuers: &mut Vec<Option<Vec<usize>>>, size: usize) -> Result<(), N
 fn issuers_of<W: Web>(alloc: Global, web: &W, to: Key) -> Result<Vec<Key>, NoMemory>
     ensures { IfOk result (λ keys. (members : List Text) (pairs : List (Text × Text)) → W.shows web.now members pairs → AreIssuersOf members pairs to keys.items) }
 {
+    let all = web.issuers(alloc, to)?;
     let mut keys = Vec::new(alloc);
-    let mut after = None;
-    // what a web shows is no value, so no measure speaks of it; there are fewer issuers than turns
-    'issuers: for _ in 0..u64::MAX {
-        let Some(from) = web.next_issuer(to, after) else {
-            return Ok(keys);
-        };
-        if web.is_member(&from) {
-            push(&mut keys, from)?;
+    for from in &all {
+        if web.is_member(from) {
+            push(&mut keys, *from)?;
         }
-        after = Some(from);
     }
-    Err(NoMemory)
+    Ok(keys)
 }

@@ -1,11 +1,13 @@
-ghost use Rattle.std.specs.Prelude.{◌≡◌, ◌↔◌, List, IsTrue, Contains, length};
+ghost use Rattle.std.specs.Prelude.{◌≡◌, ◌↔◌, List, None, IfOk, IsTrue, Contains, length};
 ghost use Rattle.dubp_atoms.specs.Same.{Text};
 ghost use Rattle.dubp_atoms.specs.Walks.{received_of, stock_of};
-ghost use Rattle.dubp_wot.specs.Order.{IsInOrder, IsNextMember, IsNextIssuer};
+ghost use Rattle.dubp_wot.specs.Order.{IsInOrder, IsNextMember, IsNextIssuer, AreNextIssuers};
 
-use dubp_atoms::{Key, Secret};
+use crate::sentry::push;
+use dubp_atoms::{Key, NoMemory, Secret};
+use std::alloc::Global;
 
-/// The members of a chain and its live certifications. No call takes memory.
+/// The members of a chain and its live certifications. Only `issuers` takes memory.
 ///
 /// Contracts see two lists that a web shows, `shows w members pairs`:
 /// - the members, each once, in the order of their texts;
@@ -31,6 +33,23 @@ pub trait Web {
     /// The least key above `after` that certifies `to`, or the least of all. None exactly where there is none.
     fn next_issuer(&self, to: Key, after: Option<Key>) -> Option<Key>
         ensures { (members : List Text) (pairs : List (Text × Text)) → shows self.now members pairs → IsNextIssuer pairs to after result };
+
+    /// All keys that certify `to`, in the order of their texts. `NoMemory` where there is none for the list.
+    fn issuers(&self, alloc: Global, to: Key) -> Result<Vec<Key>, NoMemory>
+        ensures { IfOk result (λ keys. (members : List Text) (pairs : List (Text × Text)) → shows self.now members pairs → AreNextIssuers pairs to None keys.items) }
+    {
+        let mut keys = Vec::new(alloc);
+        let mut after = None;
+        // what a web shows is no value, so no measure speaks of it; there are fewer issuers than turns
+        'issuers: for _ in 0..u64::MAX {
+            let Some(from) = self.next_issuer(to, after) else {
+                return Ok(keys);
+            };
+            push(&mut keys, from)?;
+            after = Some(from);
+        }
+        Err(NoMemory)
+    }
 
     /// How many keys this key certifies.
     fn stock(&self, key: &Key) -> u64
