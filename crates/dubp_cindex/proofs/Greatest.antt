@@ -9,6 +9,7 @@ use Rattle.dubp_undo.specs.MovingTable.{get}
 use Rattle.dubp_cindex.specs.declared.row.CertRow.{CertRow}
 use Rattle.dubp_cindex.specs.Orders.{text_cmp, Place, place_cmp, less, is_above}
 use Rattle.dubp_cindex.specs.Following.{Follows}
+use Rattle.dubp_cindex.specs.Putting.{IsGreatestBesides}
 use Rattle.dubp_cindex.proofs.Texts.{text_exact, same_text_is, same_text_own}
 
 -- so far: of the rows up to a key
@@ -70,3 +71,16 @@ module _ (m : List (Place × CertRow)) (from to : Text) (least : ℕ) where
               | false ↦ λ c g. more after n k a row f is (omega (arith, g)) (λ _. grind (arith, c, g)) (inl g)
             ] refl h
       ] refl e
+
+  pub greatest-none : IsGreatestUpTo rows_of to least None least
+  greatest-none = record { above_least = omega arith; bound = λ y other h. absurd (true≢false h); stands = inl refl }
+
+  pub greatest-all : (after : Option Text) (n : ℕ) → Follows m from after None → IsGreatestUpTo rows_of to least after n → IsGreatestBesides rows_of to least n
+  greatest-all after n f is = record {
+    above_least = is.above_least;
+    bound = λ y other. elim (is_above after y) as (λ b. is_above after y ≡ b → IfSome (rows_of y) (λ (r : CertRow). r.written ≤ n)) [
+      | false ↦ λ t. is.bound y other t
+      | true ↦ λ t. subst (λ o. IfSome o (λ (r : CertRow). r.written ≤ n)) (sym (f y t)) tt
+    ] refl;
+    stands = is.stands;
+  }

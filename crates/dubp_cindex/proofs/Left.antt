@@ -1,8 +1,10 @@
 -- A walk ends: behind each entry that it finds fewer are left.
-use Rattle.std.proofs.Common.{◌≡◌, ℕ, ◌<◌, ◌≤◌, Bool, true, false, cond, List, [], ◌∷◌, Option, Some, refl, ap, sym, ◌∙◌, true≢false, arith}
+use Rattle.std.proofs.Common.{◌≡◌, ℕ, ◌<◌, ◌≤◌, Bool, true, false, cond, List, [], ◌∷◌, Option, Some, None, refl, ap, sym, ◌∙◌, true≢false, arith}
 use Rattle.std.specs.Prelude.{count_by}
 use Rattle.std.specs.Ordering.{is_lt, is_eq}
 use Rattle.std.specs.declared.cmp.Ordering.TheVariants.{Less}
+use Rattle.std.specs.declared.ops.Bound.{Bound}
+use Rattle.std.specs.declared.ops.Bound.TheVariants.{Included, Excluded, Unbounded}
 use Rattle.std.proofs.lemmas.Cmp.{tied_itself}
 use Rattle.std.proofs.lemmas.List.Sums.{sum_by-cons}
 use Rattle.std.proofs.lemmas.Option.{none-some}
@@ -20,6 +22,16 @@ bits : (a b : Bool) → (a ≡ true → b ≡ true) → bit a ≤ bit b
 bits true true f = omega arith
 bits true false f = absurd (true≢false (sym (f refl)))
 bits false b f = omega arith
+
+-- the other key of the place behind which a walk stands
+abbrev pub other_of : Bound Place → Option Text
+other_of (Included p) = p.1
+other_of (Excluded p) = p.1
+other_of Unbounded = None
+
+-- where a walk has gone on, it stands behind a place of the owner again
+pub other-behind : (owner : Text) (other : Option Text) (from : Bound Place) → from ≡ Excluded (owner, other) → from ≡ Excluded (owner, other_of from)
+other-behind owner other from is = is ∙ ap (λ (b : Bound Place). Excluded (owner, other_of b)) (sym is)
 
 module _ {V : Type 0} where
   abbrev behind : Place → Place × V → Bool
@@ -51,3 +63,7 @@ module _ {V : Type 0} where
 
   pub left-falls : (m : List (Place × V)) (owner : Text) (after : Option Text) (a : Text) (v : V) → Follows m owner after (Some (a, v)) → left owner (Some a) m < left owner after m
   left-falls m owner after a v f = falls (owner, after) (owner, Some a) (above_behind owner after a f.1) v m f.0
+
+  -- the same of a walk, which stands behind a place of the owner
+  pub walk-falls : (m n : List (Place × V)) (owner : Text) (from to : Bound Place) (a : Text) (v : V) → n ≡ m → to ≡ Excluded (owner, Some a) → Follows m owner (other_of from) (Some (a, v)) → left owner (other_of to) n < left owner (other_of from) m
+  walk-falls m n owner from to a v same is f = rw (same, is) (left-falls m owner (other_of from) a v f)

@@ -4,15 +4,15 @@ use Rattle.std.specs.Prelude.{is_some}
 use Rattle.std.specs.List.{All, Contains}
 use Rattle.std.specs.FinMap.{entries, entries_sorted}
 use Rattle.std.specs.FinMap as finite
-use Rattle.std.proofs.lemmas.List.{append-nil, map-append, append_assoc}
+use Rattle.std.proofs.lemmas.List.{append-nil, map-append, append_assoc, append_cancel_left}
 use Rattle.std.proofs.lemmas.List.Elements.{All-nil, All-cons, All-weaker, All-contains, Contains-append_left, Contains-append_right, Contains-push}
 use Rattle.std.proofs.lemmas.Option.{none-some}
 use Rattle.dubp_atoms.specs.Same.{Text, same_text}
 use Rattle.dubp_undo.specs.MovingTable.{get}
 use Rattle.dubp_cindex.specs.declared.row.CertRow.{CertRow}
-use Rattle.dubp_cindex.specs.Orders.{Place, place_cmp, is_above, IsNextIssuer}
+use Rattle.dubp_cindex.specs.Orders.{Place, place_cmp, is_above, IsNext, IsNextIssuer, AreNext}
 use Rattle.dubp_cindex.specs.Following.{Follows}
-use Rattle.dubp_cindex.specs.Rows.{Rows, Entry, live_to, live_from, lives, one_if, row_at, received_by_at, live_pairs, told}
+use Rattle.dubp_cindex.specs.Rows.{Rows, Entry, live_to, live_from, lives, one_if, row_at, received_by_at, live_pairs}
 use Rattle.dubp_cindex.proofs.Texts.{same_text_is, same_text_own}
 use Rattle.dubp_cindex.proofs.Walked.{IsIn, up_to, up_to-none, walk-next, walk-end}
 use Rattle.dubp_cindex.proofs.Entries.{got_in, in_got, first_true, second_true, both_true, to_climbs, from_climbs}
@@ -70,18 +70,16 @@ module _ (rows : Rows) (key : Text) where
   issued-none = up_to-none (live_from key) (λ (e : Entry). e.0.1) (entries rows)
 
 -- what is found, one more, and at the end
-abbrev Line : Type 0
-Line = Text × Text × CertRow
+module _ {A : Type 0} (f : Entry → A) where
+  pub told-none : (items : List A) (xs : List Entry) → xs ≡ [] → items ≡ items ++ map f xs
+  told-none items xs e = sym (ap (λ l. items ++ map f l) e ∙ append-nil items)
 
-pub told-none : (items : List Line) (xs : List Entry) → xs ≡ [] → items ≡ items ++ map told xs
-told-none items xs e = sym (ap (λ l. items ++ map told l) e ∙ append-nil items)
+  pub told-more : (items now next : List A) (xs ys : List Entry) (e : Entry) → now ≡ items ++ map f xs → next ≡ now ++ f e ∷ [] → ys ≡ xs ++ e ∷ [] → next ≡ items ++ map f ys
+  told-more items now next xs ys e is more up =
+      more ∙ ap (λ l. l ++ f e ∷ []) is ∙ append_assoc items (map f xs) (f e ∷ []) ∙ ap (λ l. items ++ l) (sym (map-append f xs (e ∷ [])) ∙ ap (map f) (sym up))
 
-pub told-more : (items now next : List Line) (xs ys : List Entry) (e : Entry) → now ≡ items ++ map told xs → next ≡ now ++ told e ∷ [] → ys ≡ xs ++ e ∷ [] → next ≡ items ++ map told ys
-told-more items now next xs ys e is more up =
-    more ∙ ap (λ l. l ++ told e ∷ []) is ∙ append_assoc items (map told xs) (told e ∷ []) ∙ ap (λ l. items ++ l) (sym (map-append told xs (e ∷ [])) ∙ ap (map told) (sym up))
-
-pub told-all : (items now : List Line) (xs ys : List Entry) → now ≡ items ++ map told xs → xs ≡ ys → now ≡ items ++ map told ys
-told-all items now xs ys is e = is ∙ ap (λ l. items ++ map told l) e
+  pub told-all : (items now : List A) (xs ys : List Entry) → now ≡ items ++ map f xs → xs ≡ ys → now ≡ items ++ map f ys
+  told-all items now xs ys is e = is ∙ ap (λ l. items ++ map f l) e
 
 -- ---- the live pairs
 
@@ -142,3 +140,19 @@ module _ (rows : Rows) (to : Text) (m : List (Place × Unit {0})) (is : (k : Pla
     | true ↦ λ h. absurd (none-some tt (sym (f a h) ∙ there a c))
     | false ↦ λ h. refl
   ] refl
+
+-- ---- all issuers, one behind the other
+
+-- one more was put
+pub begins-more : (old now new some : List Text) (k : Text) → new ≡ now ++ k ∷ [] → now ≡ old ++ some → new ≡ old ++ (some ++ k ∷ [])
+begins-more old now new some k put is = put ∙ ap (λ xs. xs ++ k ∷ []) is ∙ append_assoc old some (k ∷ [])
+
+pub next-more : (P : Text → Type 0) (after : Option Text) (some : List Text) (k : Text) → IsNext P after (Some k)
+    → ((rest : List Text) → AreNext P after rest → AreNext P None (some ++ rest)) → (rest : List Text) → AreNext P (Some k) rest → AreNext P None ((some ++ k ∷ []) ++ rest)
+next-more P after some k next before rest more = subst (AreNext P None) (sym (append_assoc some (k ∷ []) rest)) (before (k ∷ rest) (next, more))
+
+-- no more is there
+pub next-all : (P : Text → Type 0) (after : Option Text) (some old new keys : List Text) → IsNext P after None → ((rest : List Text) → AreNext P after rest → AreNext P None (some ++ rest))
+    → new ≡ old ++ some → new ≡ old ++ keys → AreNext P None keys
+next-all P after some old new keys none before is put =
+    subst (AreNext P None) (append-nil some ∙ append_cancel_left old some keys (sym is ∙ put)) (before [] none)

@@ -1,5 +1,5 @@
 -- The orders of keys and of pairs of keys, and the next of some keys. Protocol: certifications, tables.
-use Rattle.std.specs.Prelude.{◌≡◌, Bool, true, false, List, Option, Some, None, MatchOption}
+use Rattle.std.specs.Prelude.{◌≡◌, Bool, true, false, List, [], ◌∷◌, Option, Some, None, MatchOption}
 use Rattle.std.specs.List.{Contains}
 use Rattle.std.specs.Option.{option_cmp}
 use Rattle.std.specs.Ordering.{nat_cmp, is_lt, ordering_then}
@@ -41,3 +41,12 @@ IsNext P after answer =
 -- the next key that certifies `to`
 abbrev pub IsNextIssuer : List (Text × Text) → Text → Option Text → Option Text → Type 0
 IsNextIssuer pairs to after answer = IsNext (λ a. Contains pairs (a, to)) after answer
+
+-- all keys above `after` that have P, each the next behind the one before it
+abbrev pub AreNext : (Text → Type 0) → Option Text → List Text → Type 0
+AreNext P after [] = IsNext P after None
+AreNext P after (k ∷ keys) = IsNext P after (Some k) × AreNext P (Some k) keys
+
+-- all keys above `after` that certify `to`, in order
+abbrev pub AreNextIssuers : List (Text × Text) → Text → Option Text → List Text → Type 0
+AreNextIssuers pairs to after keys = AreNext (λ a. Contains pairs (a, to)) after keys

@@ -49,6 +49,10 @@ issuer_in rows k = cond (list_any (is_from k) (entries rows)) (Some (record { st
 abbrev pub live_pairs : Rows → List (Text × Text)
 live_pairs rows = map (λ e. e.0) (filter (λ e. e.1.live) (entries rows))
 
+-- who has a live certification to the key, in order
+abbrev pub issuers_to : Rows → Text → List Text
+issuers_to rows to = map (λ e. e.0.0) (filter (live_to to) (entries rows))
+
 -- the live rows to the key, by issuer, and then those from it, by receiver: the issuer, the receiver and the row
 abbrev pub told : Entry → Text × Text × CertRow
 told e = (e.0.0, e.0.1, e.1)

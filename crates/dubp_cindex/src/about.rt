@@ -1,16 +1,18 @@
-ghost use Rattle.std.specs.Prelude.{◌≡◌, List, [], ◌∷◌, ◌++◌, Some, OnOk, IfOk, map, filter};
+ghost use Rattle.std.specs.Prelude.{◌≡◌, List, [], ◌∷◌, ◌++◌, None, Some, OnOk, OnErr, IfOk, map, filter};
 ghost use Rattle.std.specs.FinMap as finite;
+ghost use Rattle.dubp_atoms.specs.Same.{Text};
 ghost use Rattle.dubp_undo.specs.MovingTable.{get};
 ghost use Rattle.dubp_undo.specs.States.{newest};
-ghost use Rattle.dubp_cindex.specs.Orders.{place_cmp};
-ghost use Rattle.dubp_cindex.specs.Rows.{Rows, live_to, live_from, told, rows_about};
+ghost use Rattle.dubp_cindex.specs.Orders.{place_cmp, AreNextIssuers};
+ghost use Rattle.dubp_cindex.specs.Rows.{Rows, live_pairs, live_to, live_from, issuers_to, told, rows_about};
 
 use crate::index::CIndex;
 use crate::row::{CertRow, CertRows};
-use crate::walking::next_of;
+use crate::walking::next_in;
 use dubp_atoms::{Key, NoMemory};
 use dubp_undo::Tables;
 use std::alloc::Global;
+use std::ops::Bound;
 
 impl CIndex {
     /// The live certifications that the key has received, by issuer, and then those that it has issued, by receiver: the issuer,
@@ -24,14 +26,39 @@ impl CIndex {
         Ok(found)
     }
 
+    /// Appends the issuers of the live certifications that the key has received, in the order of their texts. It looks at these alone.
+    ///
+    /// `NoMemory` where there is none for the list; it begins with what stood in it then.
+    pub fn put_issuers(&self, issuers: &mut Vec<Key>, to: &Key) -> Result<(), NoMemory>
+        ensures put { OnOk result ((s : List Rows) → ⟦<CIndex as Tables<CertRows>>⟧.at self.now s → issuers.new.items ≡ issuers.old.items ++ issuers_to (newest finite.empty s) to.now) }
+        ensures next { OnOk result ((s : List Rows) (keys : List Text) → ⟦<CIndex as Tables<CertRows>>⟧.at self.now s → issuers.new.items ≡ issuers.old.items ++ keys → AreNextIssuers (live_pairs (newest finite.empty s)) to.now None keys) }
+
+        ensures refused { OnErr result ((some : List Text) × (issuers.new.items ≡ issuers.old.items ++ some)) }
+    {
+        let mut walk = self
+            .tables
+            .second
+            .tables
+            .first
+            .walk_from(Bound::Excluded((*to, None)));
+        while let Some((from, ())) = next_in(&mut walk, to) {
+            put(issuers, from)?;
+        }
+        Ok(())
+    }
+
     // The live certifications that the key has received, behind those that were found.
     fn put_received(&self, found: &mut Vec<(Key, Key, CertRow)>, key: &Key) -> Result<(), NoMemory>
         ensures { OnOk result ((s : List Rows) → ⟦<CIndex as Tables<CertRows>>⟧.at self.now s → found.new.items ≡ found.old.items ++ map told (filter (live_to key.now) (finite.entries (newest finite.empty s)))) }
     {
-        let mut after = None;
-        while let Some((from, ())) = next_of(&self.tables.second.tables.first, key, &after) {
+        let mut walk = self
+            .tables
+            .second
+            .tables
+            .first
+            .walk_from(Bound::Excluded((*key, None)));
+        while let Some((from, ())) = next_in(&mut walk, key) {
             self.put_told(found, &from, key)?;
-            after = Some(from);
         }
         Ok(())
     }
@@ -40,10 +67,14 @@ impl CIndex {
     fn put_issued(&self, found: &mut Vec<(Key, Key, CertRow)>, key: &Key) -> Result<(), NoMemory>
         ensures { OnOk result ((s : List Rows) → ⟦<CIndex as Tables<CertRows>>⟧.at self.now s → found.new.items ≡ found.old.items ++ map told (filter (live_from key.now) (finite.entries (newest finite.empty s)))) }
     {
-        let mut after = None;
-        while let Some((to, ())) = next_of(&self.tables.third.tables.first, key, &after) {
+        let mut walk = self
+            .tables
+            .third
+            .tables
+            .first
+            .walk_from(Bound::Excluded((*key, None)));
+        while let Some((to, ())) = next_in(&mut walk, key) {
             self.put_told(found, key, &to)?;
-            after = Some(to);
         }
         Ok(())
     }
@@ -62,4 +93,12 @@ impl CIndex {
             None => Ok(()),
         }
     }
+}
+
+// Appends the key.
+fn put(keys: &mut Vec<Key>, key: Key) -> Result<(), NoMemory>
+    ensures put { OnOk result (keys.new.items ≡ keys.old.items ++ key ∷ []) }
+    ensures refused { OnErr result (keys.new.items ≡ keys.old.items) }
+{
+    keys.push(key).map_err(|_| NoMemory)
 }

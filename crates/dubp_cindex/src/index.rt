@@ -16,7 +16,7 @@ use std::sync::ledger::Ledger as StepBook;
 
 /// The certifications, each under its issuer and receiver, with what is counted in them.
 ///
-/// Contracts see it along a chain of states, as `Tables` does. No reading call takes memory but `rows_of`. Protocol: certifications, tables.
+/// Contracts see it along a chain of states, as `Tables` does. No reading call takes memory but `rows_of` and `put_issuers`. Protocol: certifications, tables.
 #[derive(Drop)]
 pub struct CIndex {
     pub(crate) tables: CertTables,

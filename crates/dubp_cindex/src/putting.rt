@@ -14,9 +14,10 @@ use crate::changing::{Change, make, ready_for};
 use crate::index::CIndex;
 use crate::row::{CertRow, CertRows, IssuerRow};
 use crate::tables::{Written, make_side, ready_side};
-use crate::walking::{Place, next_of};
+use crate::walking::{Place, next_in};
 use dubp_atoms::{Key, NoMemory, Steps};
 use dubp_undo::{Leaf, Tables};
+use std::ops::Bound;
 use std::sync::ledger::Ledger as StepBook;
 
 // What is to be written, and what becomes of the other tables.
@@ -135,10 +136,9 @@ fn greatest_besides(
     ensures { IsGreatestBesides (λ y. get place_cmp rows.now.table.now (from.now, Some y)) to.now least result }
 {
     let mut best = least;
-    let mut after = None;
-    while let Some((other, row)) = next_of(rows, from, &after) {
+    let mut walk = rows.walk_from(Bound::Excluded((*from, None)));
+    while let Some((other, row)) = next_in(&mut walk, from) {
         best = higher(best, row.written, &other, to);
-        after = Some(other);
     }
     best
 }

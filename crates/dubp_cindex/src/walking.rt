@@ -1,7 +1,11 @@
+ghost use Rattle.std.specs.Prelude.{◌≡◌, Option, Some, IfSome};
+ghost use Rattle.std.specs.declared.ops.Bound.TheVariants.{Excluded};
+ghost use Rattle.dubp_atoms.specs.Same.{Text};
 ghost use Rattle.dubp_cindex.specs.Following.{Follows};
 
 use dubp_atoms::Key;
-use dubp_undo::{Definition, Leaf};
+use dubp_undo::{Definition, Leaf, Walk};
+use std::ops::Bound;
 
 /// Two keys, where no second one is before all others.
 pub type Place = (Key, Option<Key>);
@@ -14,8 +18,17 @@ pub fn next_of<B, V: Copy + Eq, D: Definition<B, Place, V>>(
 ) -> Option<(Key, V)>
     ensures { Follows table.now.table.now owner.now after.now result }
 {
-    let from = Some((*owner, *after));
-    let (place, value) = table.next_after(from)?;
+    let mut walk = table.walk_from(Bound::Excluded((*owner, *after)));
+    next_in(&mut walk, owner)
+}
+
+/// The next entry of the owner in a walk that stands behind a place of this owner.
+pub fn next_in<'a, V: Copy>(walk: &mut Walk<'a, Place, V>, owner: &Key) -> Option<(Key, V)>
+    ensures follows { (after : Option Text) → walk.old.from ≡ Excluded (owner.now, after) → Follows walk.old.map owner.now after result }
+    ensures map { walk.new.map ≡ walk.old.map }
+    ensures from { IfSome result (λ e. walk.new.from ≡ Excluded (owner.now, Some e.0)) }
+{
+    let (place, value) = walk.next()?;
     let (found, other) = place;
     if found != *owner {
         return None;
