@@ -16,6 +16,7 @@ NESTED, SHORT, SIGNED = "(" * 63 + "CSV(0)" + ")" * 63, "CSV(0)", f"SIG({blocks.
 FRAMES, SOME_STORED = 50, 16
 CRAFTED_SOURCES, PAYMENTS_IN_A_BLOCK, STATEMENTS = 500, 45, 50
 VARIED = "varied.."
+RIVALS_NUMBER, FIRST_NONCE = 3, 10_000_000
 WEB_CERTIFYING = 340
 Pieces = Iterable[bytes]
 
@@ -77,6 +78,17 @@ def collided(text: str) -> str:
     if not ground().ground((ctypes.c_uint8 * len(whole)).from_buffer(whole), len(whole), text.index(VARIED)):
         raise ValueError("no comment was found with which the text collides")
     return whole[: len(text)].decode()
+
+
+@functools.cache
+def colliding_nonces() -> list[int]:
+    """As many nonces as there are rivals, with which their stamps collide."""
+    text = list(inputs.rivals_fail([0]))[-1]
+    hashed = text[text.rindex(b"InnerHash: ") : -1].replace(b"\nNonce: 0\n", b"\nNonce: %d\n" % FIRST_NONCE)
+    found = [FIRST_NONCE - 1]
+    while len(found) < inputs.STORED - 1:
+        found.append(ground().ground_nonce(hashed, len(hashed), hashed.index(b"%d" % FIRST_NONCE), ctypes.c_uint64(RIVALS_NUMBER), found[-1] + 1))
+    return found[1:]
 
 
 @functools.cache
@@ -175,6 +187,7 @@ def branches_and_people() -> list[Beside]:
     """Rivals that fail, beside a path that is chosen; the worst web; and documents of which a block is forged."""
     return [
         Beside(alone("rivals_fail", inputs.rivals_fail), alone("path_chosen", inputs.path_chosen)),
+        Beside(alone("rivals_of_crafted_stamps", lambda: inputs.rivals_fail(colliding_nonces())), alone("rivals_fail", inputs.rivals_fail)),
         Beside(
             Input("joiners_of_a_web", lambda: behind_a_web(lambda web: web.joined())),
             Input("certifications_of_a_web", lambda: behind_a_web(lambda web: web.certified(WEB_CERTIFYING))),

@@ -92,16 +92,16 @@ def path_chosen(stored: int = STORED) -> Iterator[bytes]:
         yield from [*verdicts, offered(block.decode())]
 
 
-def rivals_fail(stored: int = STORED) -> Iterator[bytes]:
-    """Two blocks on a first one, and on them so many rivals that the store is full, offered while the node chooses by itself: each is tried, and fails by its
-    median time."""
+def rivals_fail(nonces: Iterable[int] = range(STORED - 2)) -> Iterator[bytes]:
+    """Two blocks on a first one, and on them rivals with these nonces, as many as fill the store, offered while the node chooses by itself: each is tried,
+    and fails by its median time."""
     chain, members = blocks.Chain(), [blocks.Member(number) for number in range(GENERATED_ISSUERS)]
     first = blocks.next_block(chain, blocks.key(0), len(members), blocks.sections_of_members(members))
     yield "".join([*blocks.verdicts_of(members), first.verdict, first.command(), "AUTO ON\n"]).encode()
     for number in (1, 2):
         block = blocks.next_block(chain, blocks.key(number), len(members), blocks.sections())
         yield block.verdict.encode() + offered(block.command())
-    for nonce in range(stored - 2):
+    for nonce in nonces:
         rival = blocks.next_block(copy.deepcopy(chain), blocks.key(3), len(members), blocks.sections(), early=1, nonce=nonce)
         yield rival.verdict.encode() + offered(rival.command())
 
