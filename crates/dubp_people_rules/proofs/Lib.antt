@@ -1,7 +1,6 @@
 pub mod Rests
 pub mod Sections
 pub mod Sets
-pub mod Standing
 pub mod Told
 pub mod Walk
 pub mod OfLists

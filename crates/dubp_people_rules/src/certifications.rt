@@ -7,7 +7,6 @@ ghost use Rattle.dubp_validity.specs.Rules.{IsSound};
 ghost use Rattle.dubp_validity.specs.PeopleRules.{CertificationsAreInTime, IssuersWaited, LivePairsAreRenewed};
 ghost use Rattle.dubp_registry.specs.OfLeft.{IsAsked};
 ghost use Rattle.dubp_people_rules.specs.Lines.{IsCertificationInTime, HasIssuerWaited, IsRowRenewed, MayFollow, MayFollowLast, is_live_then};
-ghost use Rattle.dubp_people_rules.specs.Standing.{IsOf};
 
 use crate::windows::{has_waited, has_waited_since, is_in_window, is_past};
 use dubp_block::{Block, CertLine};
@@ -26,7 +25,7 @@ pub fn certifications_are_in_time(registry: &Registry, next: &Next, block: &Bloc
 }
 
 fn are_in_time(registry: &Registry, next: &Next, block: &Block, lines: &[CertLine]) -> bool
-    ensures { (c : Chain) → IsOf registry.now c → (IsTrue result ↔ AllByRecursion (IsCertificationInTime c block.now next.now) lines.now) }
+    ensures { (c : Chain) → ⟦<Registry as Tables<Block>>⟧.at registry.now c → (IsTrue result ↔ AllByRecursion (IsCertificationInTime c block.now next.now) lines.now) }
 {
     for line in lines {
         if !is_in_time(registry, next, block, line) {
@@ -37,7 +36,7 @@ fn are_in_time(registry: &Registry, next: &Next, block: &Block, lines: &[CertLin
 }
 
 fn is_in_time(registry: &Registry, next: &Next, block: &Block, line: &CertLine) -> bool
-    ensures { (c : Chain) → IsOf registry.now c → (IsTrue result ↔ IsCertificationInTime c block.now next.now line.now) }
+    ensures { (c : Chain) → ⟦<Registry as Tables<Block>>⟧.at registry.now c → (IsTrue result ↔ IsCertificationInTime c block.now next.now line.now) }
 {
     let made = registry.certification_made(block, line);
     is_in_window(next.time, next.params.sig_window, made)
@@ -52,7 +51,7 @@ pub fn issuers_waited(registry: &Registry, next: &Next, block: &Block) -> bool
 }
 
 fn all_issuers_waited(registry: &Registry, next: &Next, lines: &[CertLine]) -> bool
-    ensures { (c : Chain) → IsOf registry.now c → IsSound c → (IsTrue result ↔ AllByRecursion (HasIssuerWaited c next.now) lines.now) }
+    ensures { (c : Chain) → ⟦<Registry as Tables<Block>>⟧.at registry.now c → IsSound c → (IsTrue result ↔ AllByRecursion (HasIssuerWaited c next.now) lines.now) }
 {
     for line in lines {
         if !issuer_has_waited(registry, next, line) {
@@ -63,7 +62,7 @@ fn all_issuers_waited(registry: &Registry, next: &Next, lines: &[CertLine]) -> b
 }
 
 fn issuer_has_waited(registry: &Registry, next: &Next, line: &CertLine) -> bool
-    ensures { (c : Chain) → IsOf registry.now c → IsSound c → (IsTrue result ↔ HasIssuerWaited c next.now line.now) }
+    ensures { (c : Chain) → ⟦<Registry as Tables<Block>>⟧.at registry.now c → IsSound c → (IsTrue result ↔ HasIssuerWaited c next.now line.now) }
 {
     let last = registry.last_issued(line.from);
     has_waited_since(registry, next.time, next.params.sig_period, last)
@@ -79,7 +78,7 @@ pub fn live_pairs_are_renewed(registry: &Registry, next: &Next, block: &Block) -
 }
 
 fn may_all_follow(registry: &Registry, next: &Next, block: &Block, lines: &[CertLine]) -> bool
-    ensures { (c : Chain) → IsOf registry.now c → (IsTrue result ↔ AllByRecursion (MayFollowLast c block.now next.now) lines.now) }
+    ensures { (c : Chain) → ⟦<Registry as Tables<Block>>⟧.at registry.now c → (IsTrue result ↔ AllByRecursion (MayFollowLast c block.now next.now) lines.now) }
 {
     for line in lines {
         if !may_follow_last(registry, next, block, line) {
@@ -90,7 +89,7 @@ fn may_all_follow(registry: &Registry, next: &Next, block: &Block, lines: &[Cert
 }
 
 fn may_follow_last(registry: &Registry, next: &Next, block: &Block, line: &CertLine) -> bool
-    ensures { (c : Chain) → IsOf registry.now c → (IsTrue result ↔ MayFollowLast c block.now next.now line.now) }
+    ensures { (c : Chain) → ⟦<Registry as Tables<Block>>⟧.at registry.now c → (IsTrue result ↔ MayFollowLast c block.now next.now line.now) }
 {
     let last = registry.certification(line.from, line.to);
     may_follow(registry, next, block, line, last)
@@ -104,7 +103,7 @@ fn may_follow(
     line: &CertLine,
     last: Option<CertRow>,
 ) -> bool
-    ensures { (c : Chain) → IsOf registry.now c → (IsTrue result ↔ MayFollow c block.now next.now line.now last) }
+    ensures { (c : Chain) → ⟦<Registry as Tables<Block>>⟧.at registry.now c → (IsTrue result ↔ MayFollow c block.now next.now line.now last) }
 {
     match last {
         Some(row) => !is_still_live(&row, next) || is_renewed(registry, next, block, line, &row),
@@ -120,7 +119,6 @@ fn is_still_live(row: &CertRow, next: &Next) -> bool
 }
 
 /// Whether the line may renew the certification of the row.
-#[tactic(auto, unfolding(crate::specs::Standing::IsOf))]
 fn is_renewed(
     registry: &Registry,
     next: &Next,
@@ -128,7 +126,7 @@ fn is_renewed(
     line: &CertLine,
     row: &CertRow,
 ) -> bool
-    ensures { (c : Chain) → IsOf registry.now c → (IsTrue result ↔ IsRowRenewed c block.now next.now line.now row.now) }
+    ensures { (c : Chain) → ⟦<Registry as Tables<Block>>⟧.at registry.now c → (IsTrue result ↔ IsRowRenewed c block.now next.now line.now row.now) }
 {
     block.version == RENEWING_VERSION
         && is_past(registry, next.time, next.params.ms_window, row.written)

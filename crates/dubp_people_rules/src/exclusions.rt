@@ -10,7 +10,6 @@ ghost use Rattle.dubp_chain.specs.Live.{kick};
 ghost use Rattle.dubp_validity.specs.PeopleRules.{ExcludedAreKicked, KickedAreExcluded};
 ghost use Rattle.dubp_iindex.specs.Rows.{texts};
 ghost use Rattle.dubp_people_rules.specs.Lines.{IsKicked};
-ghost use Rattle.dubp_people_rules.specs.Standing.{IsOf};
 
 use dubp_atoms::{Key, NoMemory};
 use dubp_block::Block;
@@ -23,13 +22,7 @@ use std::collections::BTreeSet;
 pub fn excluded_are_kicked(registry: &Registry, block: &Block) -> bool
     ensures { (c : Chain) → ⟦<Registry as Tables<Block>>⟧.at registry.now c → (IsTrue result ↔ ExcludedAreKicked c block.now) }
 {
-    are_kicked(registry, block.excluded.as_slice())
-}
-
-/// Each of the keys is one that the chain has to exclude.
-fn are_kicked(registry: &Registry, keys: &[Key]) -> bool
-    ensures { (c : Chain) → IsOf registry.now c → (IsTrue result ↔ AllByRecursion (IsKicked c) keys.now) }
-{
+    let keys = block.excluded.as_slice();
     for key in keys {
         if !is_kicked(registry, key) {
             return false;
@@ -38,9 +31,8 @@ fn are_kicked(registry: &Registry, keys: &[Key]) -> bool
     true
 }
 
-#[tactic(auto, unfolding(crate::specs::Standing::IsOf))]
 fn is_kicked(registry: &Registry, key: &Key) -> bool
-    ensures { (c : Chain) → IsOf registry.now c → (IsTrue result ↔ IsKicked c key.now) }
+    ensures { (c : Chain) → ⟦<Registry as Tables<Block>>⟧.at registry.now c → (IsTrue result ↔ IsKicked c key.now) }
 {
     registry.is_kicked(*key)
 }

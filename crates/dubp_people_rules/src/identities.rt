@@ -7,7 +7,6 @@ ghost use Rattle.dubp_validity.specs.Rules.{IsSound};
 ghost use Rattle.dubp_validity.specs.PeopleRules.{IdentitiesAreFew, IdentitiesAreInTime, UidsAreNew, IdentitiesAreNew};
 ghost use Rattle.dubp_registry.specs.OfLeft.{IsAsked};
 ghost use Rattle.dubp_people_rules.specs.Lines.{IsIdentityInTime, IsUidNew, IsIdentityNew};
-ghost use Rattle.dubp_people_rules.specs.Standing.{IsOf};
 
 use crate::windows::is_in_window;
 use dubp_atoms::Key;
@@ -34,7 +33,7 @@ pub fn identities_are_in_time(registry: &Registry, next: &Next, block: &Block) -
 }
 
 fn are_in_time(registry: &Registry, next: &Next, block: &Block, lines: &[IdentityLine]) -> bool
-    ensures { (c : Chain) → IsOf registry.now c → IsSound c → (IsTrue result ↔ AllByRecursion (IsIdentityInTime c block.now next.now) lines.now) }
+    ensures { (c : Chain) → ⟦<Registry as Tables<Block>>⟧.at registry.now c → IsSound c → (IsTrue result ↔ AllByRecursion (IsIdentityInTime c block.now next.now) lines.now) }
 {
     for line in lines {
         if !is_in_time(registry, next, block, line) {
@@ -45,7 +44,7 @@ fn are_in_time(registry: &Registry, next: &Next, block: &Block, lines: &[Identit
 }
 
 fn is_in_time(registry: &Registry, next: &Next, block: &Block, line: &IdentityLine) -> bool
-    ensures { (c : Chain) → IsOf registry.now c → IsSound c → (IsTrue result ↔ IsIdentityInTime c block.now next.now line.now) }
+    ensures { (c : Chain) → ⟦<Registry as Tables<Block>>⟧.at registry.now c → IsSound c → (IsTrue result ↔ IsIdentityInTime c block.now next.now line.now) }
 {
     let made = registry.made(block, &line.stamp);
     is_in_window(next.time, next.params.idty_window, made)
@@ -55,13 +54,7 @@ fn is_in_time(registry: &Registry, next: &Next, block: &Block, line: &IdentityLi
 pub fn uids_are_new(registry: &Registry, block: &Block) -> bool
     ensures { (c : Chain) → ⟦<Registry as Tables<Block>>⟧.at registry.now c → IsSound c → (IsTrue result ↔ UidsAreNew c block.now) }
 {
-    have_new_uids(registry, block.identities.as_slice())
-}
-
-/// None of the UIDs stands in the chain.
-fn have_new_uids(registry: &Registry, lines: &[IdentityLine]) -> bool
-    ensures { (c : Chain) → IsOf registry.now c → IsSound c → (IsTrue result ↔ AllByRecursion (IsUidNew c) lines.now) }
-{
+    let lines = block.identities.as_slice();
     for line in lines {
         if !uid_is_new(registry, line) {
             return false;
@@ -71,7 +64,7 @@ fn have_new_uids(registry: &Registry, lines: &[IdentityLine]) -> bool
 }
 
 fn uid_is_new(registry: &Registry, line: &IdentityLine) -> bool
-    ensures { (c : Chain) → IsOf registry.now c → IsSound c → (IsTrue result ↔ IsUidNew c line.now) }
+    ensures { (c : Chain) → ⟦<Registry as Tables<Block>>⟧.at registry.now c → IsSound c → (IsTrue result ↔ IsUidNew c line.now) }
 {
     !registry.has_uid(line.uid)
 }
@@ -80,13 +73,7 @@ fn uid_is_new(registry: &Registry, line: &IdentityLine) -> bool
 pub fn identities_are_new(registry: &Registry, block: &Block) -> bool
     ensures { (c : Chain) → ⟦<Registry as Tables<Block>>⟧.at registry.now c → (IsTrue result ↔ IdentitiesAreNew c block.now) }
 {
-    have_new_keys(registry, block.identities.as_slice())
-}
-
-/// None of the keys has an identity in the chain.
-fn have_new_keys(registry: &Registry, lines: &[IdentityLine]) -> bool
-    ensures { (c : Chain) → IsOf registry.now c → (IsTrue result ↔ AllByRecursion (IsIdentityNew c) lines.now) }
-{
+    let lines = block.identities.as_slice();
     for line in lines {
         if !identity_is_new(registry, line) {
             return false;
@@ -96,15 +83,14 @@ fn have_new_keys(registry: &Registry, lines: &[IdentityLine]) -> bool
 }
 
 fn identity_is_new(registry: &Registry, line: &IdentityLine) -> bool
-    ensures { (c : Chain) → IsOf registry.now c → (IsTrue result ↔ IsIdentityNew c line.now) }
+    ensures { (c : Chain) → ⟦<Registry as Tables<Block>>⟧.at registry.now c → (IsTrue result ↔ IsIdentityNew c line.now) }
 {
     !has_identity(registry, line.key)
 }
 
 /// Whether the key has an identity in the chain.
-#[tactic(auto, unfolding(crate::specs::Standing::IsOf))]
 pub(crate) fn has_identity(registry: &Registry, key: Key) -> bool
-    ensures { (c : Chain) → IsOf registry.now c → result ≡ is_some (identity c key) }
+    ensures { (c : Chain) → ⟦<Registry as Tables<Block>>⟧.at registry.now c → result ≡ is_some (identity c key) }
 {
     registry.identity(key).is_some()
 }

@@ -7,7 +7,6 @@ ghost use Rattle.dubp_validity.specs.Rules.{IsSound};
 ghost use Rattle.dubp_validity.specs.PeopleRules.{MembershipsAreInTime, MembershipsAreNewer, MembershipsAreApart, JoinersAreNoMembers, ActivesAreMembers, LeaversMayLeave, NobodyRevokedMoves};
 ghost use Rattle.dubp_registry.specs.OfLeft.{IsAsked};
 ghost use Rattle.dubp_people_rules.specs.Lines.{InSections, IsApart, IsMembershipInTime, IsMembershipNewer, IsMembershipApart, IsNewerThan, IsNoMember, IsMember, MayLeave, IsNotRevoked};
-ghost use Rattle.dubp_people_rules.specs.Standing.{IsOf};
 
 use crate::windows::{has_waited_since, is_in_window};
 use dubp_atoms::Key;
@@ -27,7 +26,7 @@ pub fn memberships_are_in_time(registry: &Registry, next: &Next, block: &Block) 
 }
 
 fn sections_are_in_time(registry: &Registry, next: &Next, block: &Block) -> bool
-    ensures { (c : Chain) → IsOf registry.now c → IsSound c → (IsTrue result ↔ InSections (IsMembershipInTime c block.now next.now) block.now) }
+    ensures { (c : Chain) → ⟦<Registry as Tables<Block>>⟧.at registry.now c → IsSound c → (IsTrue result ↔ InSections (IsMembershipInTime c block.now next.now) block.now) }
 {
     are_in_time(registry, next, block, block.joiners.as_slice())
         && are_in_time(registry, next, block, block.actives.as_slice())
@@ -35,7 +34,7 @@ fn sections_are_in_time(registry: &Registry, next: &Next, block: &Block) -> bool
 }
 
 fn are_in_time(registry: &Registry, next: &Next, block: &Block, lines: &[MemberLine]) -> bool
-    ensures { (c : Chain) → IsOf registry.now c → IsSound c → (IsTrue result ↔ AllByRecursion (IsMembershipInTime c block.now next.now) lines.now) }
+    ensures { (c : Chain) → ⟦<Registry as Tables<Block>>⟧.at registry.now c → IsSound c → (IsTrue result ↔ AllByRecursion (IsMembershipInTime c block.now next.now) lines.now) }
 {
     for line in lines {
         if !is_in_time(registry, next, block, line) {
@@ -46,7 +45,7 @@ fn are_in_time(registry: &Registry, next: &Next, block: &Block, lines: &[MemberL
 }
 
 fn is_in_time(registry: &Registry, next: &Next, block: &Block, line: &MemberLine) -> bool
-    ensures { (c : Chain) → IsOf registry.now c → IsSound c → (IsTrue result ↔ IsMembershipInTime c block.now next.now line.now) }
+    ensures { (c : Chain) → ⟦<Registry as Tables<Block>>⟧.at registry.now c → IsSound c → (IsTrue result ↔ IsMembershipInTime c block.now next.now line.now) }
 {
     let made = registry.made(block, &line.stamp);
     is_in_window(next.time, next.params.ms_window, made)
@@ -61,7 +60,7 @@ pub fn memberships_are_newer(registry: &Registry, block: &Block) -> bool
 }
 
 fn sections_are_newer(registry: &Registry, block: &Block) -> bool
-    ensures { (c : Chain) → IsOf registry.now c → (IsTrue result ↔ InSections (IsMembershipNewer c) block.now) }
+    ensures { (c : Chain) → ⟦<Registry as Tables<Block>>⟧.at registry.now c → (IsTrue result ↔ InSections (IsMembershipNewer c) block.now) }
 {
     are_newer(registry, block.joiners.as_slice())
         && are_newer(registry, block.actives.as_slice())
@@ -69,7 +68,7 @@ fn sections_are_newer(registry: &Registry, block: &Block) -> bool
 }
 
 fn are_newer(registry: &Registry, lines: &[MemberLine]) -> bool
-    ensures { (c : Chain) → IsOf registry.now c → (IsTrue result ↔ AllByRecursion (IsMembershipNewer c) lines.now) }
+    ensures { (c : Chain) → ⟦<Registry as Tables<Block>>⟧.at registry.now c → (IsTrue result ↔ AllByRecursion (IsMembershipNewer c) lines.now) }
 {
     for line in lines {
         if !is_newer(registry, line) {
@@ -80,7 +79,7 @@ fn are_newer(registry: &Registry, lines: &[MemberLine]) -> bool
 }
 
 fn is_newer(registry: &Registry, line: &MemberLine) -> bool
-    ensures { (c : Chain) → IsOf registry.now c → (IsTrue result ↔ IsMembershipNewer c line.now) }
+    ensures { (c : Chain) → ⟦<Registry as Tables<Block>>⟧.at registry.now c → (IsTrue result ↔ IsMembershipNewer c line.now) }
 {
     is_newer_than(line, registry.membership(line.key))
 }
@@ -110,7 +109,7 @@ fn all_are_apart(registry: &Registry, next: &Next, block: &Block) -> bool
 }
 
 fn sections_are_apart(registry: &Registry, next: &Next, block: &Block) -> bool
-    ensures { (c : Chain) → IsOf registry.now c → (IsTrue result ↔ InSections (IsMembershipApart c next.now) block.now) }
+    ensures { (c : Chain) → ⟦<Registry as Tables<Block>>⟧.at registry.now c → (IsTrue result ↔ InSections (IsMembershipApart c next.now) block.now) }
 {
     are_apart(registry, next, block.joiners.as_slice())
         && are_apart(registry, next, block.actives.as_slice())
@@ -118,7 +117,7 @@ fn sections_are_apart(registry: &Registry, next: &Next, block: &Block) -> bool
 }
 
 fn are_apart(registry: &Registry, next: &Next, lines: &[MemberLine]) -> bool
-    ensures { (c : Chain) → IsOf registry.now c → (IsTrue result ↔ AllByRecursion (IsMembershipApart c next.now) lines.now) }
+    ensures { (c : Chain) → ⟦<Registry as Tables<Block>>⟧.at registry.now c → (IsTrue result ↔ AllByRecursion (IsMembershipApart c next.now) lines.now) }
 {
     for line in lines {
         if !is_apart(registry, next, line) {
@@ -129,16 +128,15 @@ fn are_apart(registry: &Registry, next: &Next, lines: &[MemberLine]) -> bool
 }
 
 fn is_apart(registry: &Registry, next: &Next, line: &MemberLine) -> bool
-    ensures { (c : Chain) → IsOf registry.now c → (IsTrue result ↔ IsMembershipApart c next.now line.now) }
+    ensures { (c : Chain) → ⟦<Registry as Tables<Block>>⟧.at registry.now c → (IsTrue result ↔ IsMembershipApart c next.now line.now) }
 {
     let last = last_written(registry, line.key);
     has_waited_since(registry, next.time, next.params.ms_window, last)
 }
 
 /// The number of the block with the last membership of the key, or None where it has none.
-#[tactic(auto, unfolding(crate::specs::Standing::IsOf))]
 fn last_written(registry: &Registry, key: Key) -> Option<u64>
-    ensures { (c : Chain) → IsOf registry.now c → result ≡ option_map (λ w. w.block.number) (membership c key) }
+    ensures { (c : Chain) → ⟦<Registry as Tables<Block>>⟧.at registry.now c → result ≡ option_map (λ w. w.block.number) (membership c key) }
 {
     match registry.membership(key) {
         Some(last) => Some(last.written),
@@ -150,13 +148,7 @@ fn last_written(registry: &Registry, key: Key) -> Option<u64>
 pub fn joiners_are_no_members(registry: &Registry, block: &Block) -> bool
     ensures { (c : Chain) → ⟦<Registry as Tables<Block>>⟧.at registry.now c → IsSound c → (IsTrue result ↔ JoinersAreNoMembers c block.now) }
 {
-    are_no_members(registry, block.joiners.as_slice())
-}
-
-/// None of the keys of the lines is a member.
-fn are_no_members(registry: &Registry, lines: &[MemberLine]) -> bool
-    ensures { (c : Chain) → IsOf registry.now c → IsSound c → (IsTrue result ↔ AllByRecursion (IsNoMember c) lines.now) }
-{
+    let lines = block.joiners.as_slice();
     for line in lines {
         if !is_no_member(registry, line) {
             return false;
@@ -166,7 +158,7 @@ fn are_no_members(registry: &Registry, lines: &[MemberLine]) -> bool
 }
 
 fn is_no_member(registry: &Registry, line: &MemberLine) -> bool
-    ensures { (c : Chain) → IsOf registry.now c → IsSound c → (IsTrue result ↔ IsNoMember c line.now) }
+    ensures { (c : Chain) → ⟦<Registry as Tables<Block>>⟧.at registry.now c → IsSound c → (IsTrue result ↔ IsNoMember c line.now) }
 {
     !registry.is_member(line.key)
 }
@@ -175,13 +167,7 @@ fn is_no_member(registry: &Registry, line: &MemberLine) -> bool
 pub fn actives_are_members(registry: &Registry, block: &Block) -> bool
     ensures { (c : Chain) → ⟦<Registry as Tables<Block>>⟧.at registry.now c → IsSound c → (IsTrue result ↔ ActivesAreMembers c block.now) }
 {
-    are_members(registry, block.actives.as_slice())
-}
-
-/// Each key of the lines is a member.
-fn are_members(registry: &Registry, lines: &[MemberLine]) -> bool
-    ensures { (c : Chain) → IsOf registry.now c → IsSound c → (IsTrue result ↔ AllByRecursion (IsMember c) lines.now) }
-{
+    let lines = block.actives.as_slice();
     for line in lines {
         if !is_member(registry, line) {
             return false;
@@ -191,7 +177,7 @@ fn are_members(registry: &Registry, lines: &[MemberLine]) -> bool
 }
 
 fn is_member(registry: &Registry, line: &MemberLine) -> bool
-    ensures { (c : Chain) → IsOf registry.now c → IsSound c → (IsTrue result ↔ IsMember c line.now) }
+    ensures { (c : Chain) → ⟦<Registry as Tables<Block>>⟧.at registry.now c → IsSound c → (IsTrue result ↔ IsMember c line.now) }
 {
     registry.is_member(line.key)
 }
@@ -200,13 +186,7 @@ fn is_member(registry: &Registry, line: &MemberLine) -> bool
 pub fn leavers_may_leave(registry: &Registry, block: &Block) -> bool
     ensures { (c : Chain) → ⟦<Registry as Tables<Block>>⟧.at registry.now c → IsSound c → (IsTrue result ↔ LeaversMayLeave c block.now) }
 {
-    may_all_leave(registry, block.leavers.as_slice())
-}
-
-/// Each key of the lines is a member and not leaving.
-fn may_all_leave(registry: &Registry, lines: &[MemberLine]) -> bool
-    ensures { (c : Chain) → IsOf registry.now c → IsSound c → (IsTrue result ↔ AllByRecursion (MayLeave c) lines.now) }
-{
+    let lines = block.leavers.as_slice();
     for line in lines {
         if !may_leave(registry, line) {
             return false;
@@ -215,9 +195,8 @@ fn may_all_leave(registry: &Registry, lines: &[MemberLine]) -> bool
     true
 }
 
-#[tactic(auto, unfolding(crate::specs::Standing::IsOf))]
 fn may_leave(registry: &Registry, line: &MemberLine) -> bool
-    ensures { (c : Chain) → IsOf registry.now c → IsSound c → (IsTrue result ↔ MayLeave c line.now) }
+    ensures { (c : Chain) → ⟦<Registry as Tables<Block>>⟧.at registry.now c → IsSound c → (IsTrue result ↔ MayLeave c line.now) }
 {
     registry.is_member(line.key) && !registry.is_leaving(line.key)
 }
@@ -230,7 +209,7 @@ pub fn nobody_revoked_moves(registry: &Registry, block: &Block) -> bool
 }
 
 fn sections_are_not_revoked(registry: &Registry, block: &Block) -> bool
-    ensures { (c : Chain) → IsOf registry.now c → IsSound c → (IsTrue result ↔ InSections (IsNotRevoked c) block.now) }
+    ensures { (c : Chain) → ⟦<Registry as Tables<Block>>⟧.at registry.now c → IsSound c → (IsTrue result ↔ InSections (IsNotRevoked c) block.now) }
 {
     are_not_revoked(registry, block.joiners.as_slice())
         && are_not_revoked(registry, block.actives.as_slice())
@@ -238,7 +217,7 @@ fn sections_are_not_revoked(registry: &Registry, block: &Block) -> bool
 }
 
 fn are_not_revoked(registry: &Registry, lines: &[MemberLine]) -> bool
-    ensures { (c : Chain) → IsOf registry.now c → IsSound c → (IsTrue result ↔ AllByRecursion (IsNotRevoked c) lines.now) }
+    ensures { (c : Chain) → ⟦<Registry as Tables<Block>>⟧.at registry.now c → IsSound c → (IsTrue result ↔ AllByRecursion (IsNotRevoked c) lines.now) }
 {
     for line in lines {
         if !is_not_revoked(registry, line) {
@@ -249,7 +228,7 @@ fn are_not_revoked(registry: &Registry, lines: &[MemberLine]) -> bool
 }
 
 fn is_not_revoked(registry: &Registry, line: &MemberLine) -> bool
-    ensures { (c : Chain) → IsOf registry.now c → IsSound c → (IsTrue result ↔ IsNotRevoked c line.now) }
+    ensures { (c : Chain) → ⟦<Registry as Tables<Block>>⟧.at registry.now c → IsSound c → (IsTrue result ↔ IsNotRevoked c line.now) }
 {
     !registry.is_revoked(line.key)
 }

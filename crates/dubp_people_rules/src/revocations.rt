@@ -1,12 +1,10 @@
 //! Rules on the lines of Revoked.
 ghost use Rattle.std.specs.Prelude.{◌↔◌, IsTrue};
 ghost use Rattle.std.specs.Option.{IsSomeAnd};
-ghost use Rattle.std.specs.List.{AllByRecursion};
 ghost use Rattle.dubp_chain.specs.Chains.{Chain};
 ghost use Rattle.dubp_validity.specs.Rules.{IsSound};
 ghost use Rattle.dubp_validity.specs.PeopleRules.{RevokedHaveIdentities, RevocationsAreSigned};
 ghost use Rattle.dubp_people_rules.specs.Lines.{MayBeRevoked, IsRevocationSigned, IsSignedRevocation};
-ghost use Rattle.dubp_people_rules.specs.Standing.{IsOf};
 
 use crate::identities::has_identity;
 use dubp_atoms::Currency;
@@ -21,13 +19,7 @@ use dubp_verdict::Verdicts;
 pub fn revoked_have_identities(registry: &Registry, block: &Block) -> bool
     ensures { (c : Chain) → ⟦<Registry as Tables<Block>>⟧.at registry.now c → IsSound c → (IsTrue result ↔ RevokedHaveIdentities c block.now) }
 {
-    may_all_be_revoked(registry, block.revoked.as_slice())
-}
-
-/// Each key of the lines has an identity and is not revoked.
-fn may_all_be_revoked(registry: &Registry, lines: &[RevokedLine]) -> bool
-    ensures { (c : Chain) → IsOf registry.now c → IsSound c → (IsTrue result ↔ AllByRecursion (MayBeRevoked c) lines.now) }
-{
+    let lines = block.revoked.as_slice();
     for line in lines {
         if !may_be_revoked(registry, line) {
             return false;
@@ -36,9 +28,8 @@ fn may_all_be_revoked(registry: &Registry, lines: &[RevokedLine]) -> bool
     true
 }
 
-#[tactic(auto, unfolding(crate::specs::Standing::IsOf))]
 fn may_be_revoked(registry: &Registry, line: &RevokedLine) -> bool
-    ensures { (c : Chain) → IsOf registry.now c → IsSound c → (IsTrue result ↔ MayBeRevoked c line.now) }
+    ensures { (c : Chain) → ⟦<Registry as Tables<Block>>⟧.at registry.now c → IsSound c → (IsTrue result ↔ MayBeRevoked c line.now) }
 {
     has_identity(registry, line.key) && !registry.is_revoked(line.key)
 }
@@ -48,18 +39,7 @@ fn may_be_revoked(registry: &Registry, line: &RevokedLine) -> bool
 pub fn revocations_are_signed(registry: &Registry, block: &Block, verdicts: &Verdicts) -> bool
     ensures { (c : Chain) → ⟦<Registry as Tables<Block>>⟧.at registry.now c → (IsTrue result ↔ RevocationsAreSigned verdicts.now c block.now) }
 {
-    are_signed(registry, block, verdicts, block.revoked.as_slice())
-}
-
-/// Each of the lines has a verdict by its key over the revocation document of the key's identity.
-fn are_signed(
-    registry: &Registry,
-    block: &Block,
-    verdicts: &Verdicts,
-    lines: &[RevokedLine],
-) -> bool
-    ensures { (c : Chain) → IsOf registry.now c → (IsTrue result ↔ AllByRecursion (IsRevocationSigned verdicts.now c block.now) lines.now) }
-{
+    let lines = block.revoked.as_slice();
     for line in lines {
         if !revocation_is_signed(registry, block, verdicts, line) {
             return false;
@@ -74,7 +54,7 @@ fn revocation_is_signed(
     verdicts: &Verdicts,
     line: &RevokedLine,
 ) -> bool
-    ensures { (c : Chain) → IsOf registry.now c → (IsTrue result ↔ IsRevocationSigned verdicts.now c block.now line.now) }
+    ensures { (c : Chain) → ⟦<Registry as Tables<Block>>⟧.at registry.now c → (IsTrue result ↔ IsRevocationSigned verdicts.now c block.now line.now) }
 {
     is_signed_by(registry.identity(line.key), &block.currency, verdicts, line)
 }

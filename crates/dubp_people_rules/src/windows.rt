@@ -3,10 +3,10 @@ ghost use Rattle.std.specs.Prelude.{◌↔◌, ◌+◌, ◌≤◌, IsTrue, Match
 ghost use Rattle.dubp_chain.specs.Chains.{Chain};
 ghost use Rattle.dubp_validity.specs.PeopleRules.{IsInWindow};
 ghost use Rattle.dubp_people_rules.specs.Lines.{IsPast};
-ghost use Rattle.dubp_people_rules.specs.Standing.{IsOf};
 
 use dubp_block::Block;
 use dubp_registry::Registry;
+use dubp_undo::Tables;
 
 /// Whether what was made at this time is at most `window` seconds old at `now`. Times are in seconds; what has none is not.
 pub(crate) fn is_in_window(now: u64, window: u64, made: Option<u64>) -> bool
@@ -32,7 +32,7 @@ pub(crate) fn has_waited_since(
     wait: u64,
     number: Option<u64>,
 ) -> bool
-    ensures { (c : Chain) → IsOf registry.now c → (IsTrue result ↔ MatchOption number ⊤ (IsPast c now wait)) }
+    ensures { (c : Chain) → ⟦<Registry as Tables<Block>>⟧.at registry.now c → (IsTrue result ↔ MatchOption number ⊤ (IsPast c now wait)) }
 {
     match number {
         Some(number) => is_past(registry, now, wait, number),
@@ -41,9 +41,8 @@ pub(crate) fn has_waited_since(
 }
 
 /// Whether `now` is at least `wait` seconds behind the median time of the block of the number.
-#[tactic(auto, unfolding(crate::specs::Standing::IsOf))]
 pub(crate) fn is_past(registry: &Registry, now: u64, wait: u64, number: u64) -> bool
-    ensures { (c : Chain) → IsOf registry.now c → (IsTrue result ↔ IsPast c now wait number) }
+    ensures { (c : Chain) → ⟦<Registry as Tables<Block>>⟧.at registry.now c → (IsTrue result ↔ IsPast c now wait number) }
 {
     match registry.time_numbered(number) {
         Some(time) => has_waited(now, wait, time),

@@ -4,17 +4,18 @@ use Rattle.dubp_people_rules.proofs.Rests.{rests_first, rests_one_more, fails_al
 use Rattle.dubp_people_rules.proofs.memberships.are_apart.Goals as goal
 
 pub loop-line-init : goal.loop-line-init
-loop-line-init c = λ ch is. rests_first (IsMembershipApart ch c.args.next.now) _
+loop-line-init c = λ ch at. rests_first (IsMembershipApart ch c.args.next.now) _
 
 pub returns-then-not-is_apart : goal.returns-then-not-is_apart
-returns-then-not-is_apart c = λ ch is.
-    fails_all (IsMembershipApart ch c.args.next.now) c.args.lines.now c.loop-line.line-index c.line-item.result _ c.loop-line-test.true c.line-item.is (c.is_apart.ensures ch is) c.if-not-is_apart.true
-    (c.loop-line.invariant ch is)
+returns-then-not-is_apart c = λ ch at.
+    fails_all (IsMembershipApart ch c.args.next.now) c.args.lines.now c.loop-line.line-index c.line-item.result _ c.loop-line-test.true c.line-item.is (c.is_apart.ensures ch at) c.if-not-is_apart.true
+    (c.loop-line.invariant ch at)
 
 pub loop-line-preserved : goal.loop-line-preserved
-loop-line-preserved c = λ ch is.
-    rests_one_more (IsMembershipApart ch c.args.next.now) c.args.lines.now c.loop-line.line-index c.line-item.result c.loop-line-test.true c.line-item.is ((c.is_apart.ensures ch is).0 c.if-not-is_apart.false)
-    (c.loop-line.invariant ch is)
+loop-line-preserved c = λ ch at.
+    rests_one_more (IsMembershipApart ch c.args.next.now) c.args.lines.now c.loop-line.line-index c.line-item.result c.loop-line-test.true c.line-item.is ((c.is_apart.ensures ch at).0 c.if-not-is_apart.false)
+    (c.loop-line.invariant ch at)
 
 pub returns : goal.returns
-returns c = λ ch is. passes_all (IsMembershipApart ch c.args.next.now) c.args.lines.now c.loop-line.line-index (omega arith) (c.loop-line.invariant ch is)
+returns c = λ ch at.
+    passes_all (IsMembershipApart ch c.args.next.now) c.args.lines.now c.loop-line.line-index (omega arith) (c.loop-line.invariant ch at)

@@ -4,17 +4,18 @@ use Rattle.dubp_people_rules.proofs.Rests.{rests_first, rests_one_more, fails_al
 use Rattle.dubp_people_rules.proofs.memberships.are_in_time.Goals as goal
 
 pub loop-line-init : goal.loop-line-init
-loop-line-init c = λ ch is sound. rests_first (IsMembershipInTime ch c.args.block.now c.args.next.now) _
+loop-line-init c = λ ch at sound. rests_first (IsMembershipInTime ch c.args.block.now c.args.next.now) _
 
 pub returns-then-not-is_in_time : goal.returns-then-not-is_in_time
-returns-then-not-is_in_time c = λ ch is sound.
-    fails_all (IsMembershipInTime ch c.args.block.now c.args.next.now) c.args.lines.now c.loop-line.line-index c.line-item.result _ c.loop-line-test.true c.line-item.is (c.is_in_time.ensures ch is sound) c.if-not-is_in_time.true
-    (c.loop-line.invariant ch is sound)
+returns-then-not-is_in_time c = λ ch at sound.
+    fails_all (IsMembershipInTime ch c.args.block.now c.args.next.now) c.args.lines.now c.loop-line.line-index c.line-item.result _ c.loop-line-test.true c.line-item.is (c.is_in_time.ensures ch at sound) c.if-not-is_in_time.true
+    (c.loop-line.invariant ch at sound)
 
 pub loop-line-preserved : goal.loop-line-preserved
-loop-line-preserved c = λ ch is sound.
-    rests_one_more (IsMembershipInTime ch c.args.block.now c.args.next.now) c.args.lines.now c.loop-line.line-index c.line-item.result c.loop-line-test.true c.line-item.is ((c.is_in_time.ensures ch is sound).0 c.if-not-is_in_time.false)
-    (c.loop-line.invariant ch is sound)
+loop-line-preserved c = λ ch at sound.
+    rests_one_more (IsMembershipInTime ch c.args.block.now c.args.next.now) c.args.lines.now c.loop-line.line-index c.line-item.result c.loop-line-test.true c.line-item.is ((c.is_in_time.ensures ch at sound).0 c.if-not-is_in_time.false)
+    (c.loop-line.invariant ch at sound)
 
 pub returns : goal.returns
-returns c = λ ch is sound. passes_all (IsMembershipInTime ch c.args.block.now c.args.next.now) c.args.lines.now c.loop-line.line-index (omega arith) (c.loop-line.invariant ch is sound)
+returns c = λ ch at sound.
+    passes_all (IsMembershipInTime ch c.args.block.now c.args.next.now) c.args.lines.now c.loop-line.line-index (omega arith) (c.loop-line.invariant ch at sound)

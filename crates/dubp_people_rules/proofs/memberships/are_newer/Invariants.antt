@@ -1,8 +1,8 @@
 use Rattle.dubp_chain.specs.Chains.{Chain}
+use Rattle.dubp_registry.specs.contracts.registry.RegistryTablesBlock.TheImpl as tables
 use Rattle.dubp_people_rules.specs.Lines.{IsMembershipNewer}
-use Rattle.dubp_people_rules.specs.Standing.{IsOf}
 use Rattle.dubp_people_rules.proofs.Rests.{Rests}
 use Rattle.dubp_people_rules.proofs.memberships.are_newer.Given as goal
 
 abbrev pub invariant-loop-line : goal.invariant-loop-line
-invariant-loop-line l = (c : Chain) → IsOf l.registry c → Rests (IsMembershipNewer c) l.lines l.line-index
+invariant-loop-line l = (c : Chain) → (tables.ghosts).at l.registry c → Rests (IsMembershipNewer c) l.lines l.line-index

@@ -1,7 +1,24 @@
+use Rattle.std.proofs.Common.{true, false, arith}
 use Rattle.dubp_people_rules.specs.Lines.{MayLeave}
+use Rattle.dubp_people_rules.proofs.Rests.{rests_first, rests_one_more, fails_all, passes_all}
 use Rattle.dubp_people_rules.proofs.Sections.{on_lines}
-use Rattle.dubp_people_rules.proofs.Standing.{is_of}
 use Rattle.dubp_people_rules.proofs.memberships.leavers_may_leave.Goals as goal
 
+pub loop-line-init : goal.loop-line-init
+loop-line-init c = λ ch at sound. rests_first (MayLeave ch) _
+
+pub returns-then-not-may_leave : goal.returns-then-not-may_leave
+returns-then-not-may_leave c = λ ch at sound.
+    on_lines (MayLeave ch) false c.as_slice-lines.ensures
+    (fails_all (MayLeave ch) c.as_slice-lines.result.now c.loop-line.line-index c.line-item.result _ c.loop-line-test.true c.line-item.is (c.may_leave.ensures ch at sound) c.if-not-may_leave.true
+    (c.loop-line.invariant ch at sound))
+
+pub loop-line-preserved : goal.loop-line-preserved
+loop-line-preserved c = λ ch at sound.
+    rests_one_more (MayLeave ch) c.as_slice-lines.result.now c.loop-line.line-index c.line-item.result c.loop-line-test.true c.line-item.is ((c.may_leave.ensures ch at sound).0 c.if-not-may_leave.false)
+    (c.loop-line.invariant ch at sound)
+
 pub returns : goal.returns
-returns c = λ ch at sound. on_lines (MayLeave ch) c.may_all_leave.result c.as_slice.ensures (c.may_all_leave.ensures ch (is_of c.args.registry.now ch at) sound)
+returns c = λ ch at sound.
+    on_lines (MayLeave ch) true c.as_slice-lines.ensures
+    (passes_all (MayLeave ch) c.as_slice-lines.result.now c.loop-line.line-index (omega arith) (c.loop-line.invariant ch at sound))

@@ -1,8 +1,0 @@
-use Rattle.dubp_chain.specs.Chains.{Chain}
-use Rattle.dubp_people_rules.specs.Lines.{IsIdentityNew}
-use Rattle.dubp_people_rules.specs.Standing.{IsOf}
-use Rattle.dubp_people_rules.proofs.Rests.{Rests}
-use Rattle.dubp_people_rules.proofs.identities.have_new_keys.Given as goal
-
-abbrev pub invariant-loop-line : goal.invariant-loop-line
-invariant-loop-line l = (c : Chain) → IsOf l.registry c → Rests (IsIdentityNew c) l.lines l.line-index

@@ -1,8 +1,0 @@
-use Rattle.std.proofs.Common.{sym, ◌∙◌}
-use Rattle.dubp_people_rules.proofs.Standing.{at_of}
-use Rattle.dubp_people_rules.proofs.memberships.is_member.Goals as goal
-
-pub returns : goal.returns
-returns c = λ ch is sound.
-    let same = c.is_member.ensures ch (at_of c.args.registry.now ch is) sound in
-    (λ holds. sym same ∙ holds, λ told. same ∙ told)
