@@ -1,5 +1,5 @@
 -- What one source more, and one less, makes of the names, and that rows stay such rows.
-use Rattle.std.proofs.Common.{◌≡◌, ℕ, ◌+◌, ◌-◌, ◌<◌, ◌≤◌, Bool, true, false, cond, not, ◌||◌, ◌&&◌, ◌==◌, List, [], ◌∷◌, ◌++◌, Some, None, option_map, filter, nat_lt, refl, ap, sym, ◌∙◌, subst, true≢false, inl, inr, arith, append-nil, min}
+use Rattle.std.proofs.Common.{◌≡◌, ℕ, ◌<◌, ◌≤◌, Bool, true, false, cond, not, ◌||◌, ◌&&◌, ◌==◌, List, [], ◌∷◌, ◌++◌, Some, None, option_map, filter, nat_lt, refl, ap, sym, ◌∙◌, subst, true≢false, inl, inr, arith, append-nil, min}
 use Rattle.std.specs.Prelude.{find}
 use Rattle.std.specs.Option.{option_or}
 use Rattle.std.specs.List.{list_any}
@@ -10,14 +10,16 @@ use Rattle.std.proofs.lemmas.List.Elements.{filter-append}
 use Rattle.std.proofs.lemmas.Bool.{ltb-true, ltb-false, le-ltb}
 use Rattle.std.proofs.lemmas.List.Folds.{find-append, list_any-append}
 use Rattle.std.proofs.lemmas.Bool.Decides.{Decides-eqb}
-use Rattle.std.proofs.lemmas.Map.Text.{is_eq-slice_cmp}
 use Rattle.dubp_cond.specs.declared.source.SourceId.{SourceId}
-use Rattle.dubp_cond.specs.declared.source.SourceId.TheVariants.{D, T}
-use Rattle.dubp_cond.specs.SourceOrder.{derived_cmp}
+use Rattle.dubp_sindex.specs.declared.origins.Name.{Name}
+use Rattle.dubp_sindex.specs.declared.origins.Name.TheVariants.{Dividend, Output}
+use Rattle.dubp_sindex.specs.contracts.origins.NameOrd.TheImpl as derived
+use Rattle.dubp_sindex.specs.Origins.{OriginTexts, is_known, AreKnown, name_of, same_name, has_name}
 use Rattle.dubp_sindex.specs.Rows.{Entry, same_source, units, is_named, without, Rises, IsBelow, IsInRange, IsNewRow, IsFreeRow, is_before, with_row, AreRows}
 use Rattle.dubp_sindex.specs.Derived.{place_of, place_at}
 use Rattle.dubp_sindex.proofs.Elements.{or_left, is_false, not_true, IsIn, in_left, in_right, in_append, in_all, all_from_in, in_any, none_in, in_filter, filter_on, filter_true}
 use Rattle.dubp_sindex.proofs.Once.{once-filter, once-append, once-parts, each_once-map}
+use Rattle.dubp_sindex.proofs.Named.{same_name_is, one_name}
 use Rattle.dubp_sindex.proofs.Sources.{same_source_is, same_source_own, OnceEach, once_each, one_of_name}
 
 -- ---- keys that compare as equal
@@ -34,15 +36,15 @@ tied_numbers x y =
       | false ↦ λ _. elim (x == y) as (λ r. is_eq (cond r Equal Greater) ≡ r) [ true ↦ refl | false ↦ refl ]
     ] refl
 
-pub tied_sources : (a b : SourceId) → is_eq (derived_cmp a b) ≡ same_source a b
-tied_sources (D k n) (D k' n') = is_eq_then _ (nat_cmp n n') ∙ (λ i. is_eq-slice_cmp k k' i && tied_numbers n n' i)
-tied_sources (D k n) (T t m) = refl
-tied_sources (T t m) (D k n) = refl
-tied_sources (T t m) (T t' m') = is_eq_then _ (nat_cmp m m') ∙ (λ i. is_eq-slice_cmp t t' i && tied_numbers m m' i)
+pub tied_names : (a b : Name) → is_eq ((derived.ghosts).cmp a b) ≡ same_name a b
+tied_names (Dividend k n) (Dividend k' n') = is_eq_then _ (nat_cmp n n') ∙ (λ i. tied_numbers k k' i && tied_numbers n n' i)
+tied_names (Dividend k n) (Output t m) = refl
+tied_names (Output t m) (Dividend k n) = refl
+tied_names (Output t m) (Output t' m') = is_eq_then _ (nat_cmp m m') ∙ (λ i. tied_numbers t t' i && tied_numbers m m' i)
 
 -- ---- what is found at a key
 
-find_none : (p : Entry → Bool) (rows : List Entry) → list_any p rows ≡ false → find p rows ≡ None
+pub find_none : (p : Entry → Bool) (rows : List Entry) → list_any p rows ≡ false → find p rows ≡ None
 find_none p [] none = refl
 find_none p (x ∷ rows) none =
     elim (p x) as (λ k. (k || list_any p rows) ≡ false → cond k (Some x) (find p rows) ≡ None) [ true ↦ λ e. absurd (true≢false e) | false ↦ λ e. find_none p rows e ] none
@@ -115,10 +117,14 @@ free_between rows r free = record {
 }
 
 -- the new row stands between the others
-pub more_name : (front back : List Entry) (r : Entry) → IsFree (front ++ back) r → (id : SourceId) → place_at id (front ++ r ∷ back) ≡ cond (same_source id r.0) (Some r.1.order) (place_at id (front ++ back))
-more_name front back r free id =
-    put_found place_of (is_named id) front back (front ++ back) refl r
-    (λ is. subst (λ name. list_any (is_named name) (front ++ back) ≡ false) (sym (same_source_is id r.0 is)) free.unnamed)
+pub more_name : (o : OriginTexts) (front back : List Entry) (r : Entry) → IsFree (front ++ back) r → AreKnown o (front ++ back) → is_known o r.0 ≡ true
+    → (x : Name) → place_at o x (front ++ r ∷ back) ≡ cond (same_name x (name_of o r.0)) (Some r.1.order) (place_at o x (front ++ back))
+more_name o front back r free all known x =
+    put_found place_of (has_name o x) front back (front ++ back) refl r
+    (λ is. none_in (has_name o x) (front ++ back) (λ e there. is_false (has_name o x e) (λ also. (
+    let named : is_known o e.0 ≡ true = in_all (λ (y : Entry). is_known o y.0 ≡ true) (front ++ back) all e there in
+    let one : r.0 ≡ e.0 = one_name o r.0 e.0 known named (sym (same_name_is x (name_of o r.0) is) ∙ same_name_is x (name_of o e.0) also) in
+    true≢false (sym (in_any (is_named r.0) (front ++ back) e there (subst (λ id. same_source r.0 id ≡ true) one (same_source_own r.0))) ∙ free.unnamed)))))
 
 -- a row between others, where all before it come earlier, and all behind it later
 pub made_rows : (front back : List Entry) (r : Entry) → AreRows (front ++ back) → IsFree (front ++ back) r → IsInRange r → ((x : Entry) → IsIn x front → x.1.order < r.1.order) → ((x : Entry) → IsIn x back → r.1.order < x.1.order)
@@ -217,11 +223,13 @@ rises-filter p (x ∷ xs) rises =
       | false ↦ later
     ]
 
-pub gone_name : (rows : List Entry) (r : Entry) → AreRows rows → IsIn r rows → (id : SourceId) → place_at id (without r.0 rows) ≡ cond (same_source id r.0) None (place_at id rows)
-gone_name rows r order there id =
-    gone_found place_of (is_named id) rows r (once_each rows order) there
-    (λ x in_rows is also. one_of_name rows (once_each rows order) x r in_rows there
-    (subst (λ name. same_source name r.0 ≡ true) (sym (sym (same_source_is id x.0 is) ∙ same_source_is id r.0 also)) (same_source_own r.0)))
+pub gone_name : (o : OriginTexts) (rows : List Entry) (r : Entry) → AreRows rows → AreKnown o rows → IsIn r rows → (x : Name) → place_at o x (without r.0 rows) ≡ cond (same_name x (name_of o r.0)) None (place_at o x rows)
+gone_name o rows r order all there x =
+    gone_found place_of (has_name o x) rows r (once_each rows order) there
+    (λ e in_rows is also. (
+    let named = in_all (λ (y : Entry). is_known o y.0 ≡ true) rows all in
+    let one : r.0 ≡ e.0 = one_name o r.0 e.0 (named r there) (named e in_rows) (sym (same_name_is x (name_of o r.0) also) ∙ same_name_is x (name_of o e.0) is) in
+    one_of_name rows (once_each rows order) e r in_rows there (subst (λ id. same_source e.0 id ≡ true) (sym one) (same_source_own e.0))))
 
 -- a source that is spent leaves those before it and those behind it
 pub without_is : (front : List Entry) (r : Entry) (back : List Entry) → AreRows (front ++ r ∷ back) → without r.0 (front ++ r ∷ back) ≡ front ++ back

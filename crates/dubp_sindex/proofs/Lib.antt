@@ -3,6 +3,7 @@ pub mod Elements
 pub mod Linked
 pub mod Lookups
 pub mod Moves
+pub mod Named
 pub mod Once
 pub mod Places
 pub mod Sources

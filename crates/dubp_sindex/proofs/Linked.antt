@@ -9,6 +9,7 @@ use Rattle.std.proofs.lemmas.List.Folds.{find-append}
 use Rattle.std.proofs.lemmas.List.Sums.{sum_by-append, sum_by-cons}
 use Rattle.dubp_sindex.specs.declared.rows.LinkedRow.{LinkedRow}
 use Rattle.dubp_sindex.specs.Rows.{Entry, is_of, of_account, units_of_entry, Rises}
+use Rattle.dubp_sindex.specs.Origins.{OriginTexts, name_of}
 use Rattle.dubp_sindex.specs.Derived.{first_place, last_of, last_place, before, after, linked, is_at, linked_at, balance_of, balance_at}
 use Rattle.dubp_sindex.specs.Changes.{is_place, with_after, with_before, changed, joined, parted}
 use Rattle.dubp_sindex.proofs.Elements.{IsIn, all_more, all_append, all-filter, kept_in, in_filter, all_fail, found_in, in_append, in_left, in_right}
@@ -17,7 +18,7 @@ use Rattle.dubp_sindex.proofs.Places.{IsBetween, between, last_in, first_in, las
 
 -- a row that is changed at both sides
 changed_row : (here here' : Bool) (at_front at_back : Option ℕ) (r : LinkedRow)
-    → changed here' (with_before at_front) (changed here (with_after at_back) (Some r)) ≡ Some (record { id = r.id; row = r.row; before = cond here' at_front r.before; after = cond here at_back r.after })
+    → changed here' (with_before at_front) (changed here (with_after at_back) (Some r)) ≡ Some (record { name = r.name; row = r.row; before = cond here' at_front r.before; after = cond here at_back r.after })
 changed_row true true at_front at_back r = refl
 changed_row true false at_front at_back r = refl
 changed_row false true at_front at_back r = refl
@@ -27,7 +28,7 @@ changed_none : (here : Bool) (change : LinkedRow → LinkedRow) → changed here
 changed_none true change = refl
 changed_none false change = refl
 
-module _ (front : List Entry) (s : Entry) (back : List Entry) (rises : Rises (front ++ s ∷ back)) where
+module _ (o : OriginTexts) (front : List Entry) (s : Entry) (back : List Entry) (rises : Rises (front ++ s ∷ back)) where
   abbrev all : List Entry
   all = front ++ s ∷ back
 
@@ -82,10 +83,10 @@ module _ (front : List Entry) (s : Entry) (back : List Entry) (rises : Rises (fr
   pub found_own : find (is_at s.1.order) all ≡ Some s
   found_own = find-append (is_at s.1.order) front (s ∷ back) ∙ (λ i. option_or (all_fail (is_at s.1.order) front not_front i) (cond (eq-eqb s.1.order s.1.order refl i) (Some s) (find (is_at s.1.order) back)))
 
-  pub own_row : linked_at s.1.order all ≡ Some (record { id = s.0; row = s.1; before = prev; after = next })
+  pub own_row : linked_at o s.1.order all ≡ Some (record { name = name_of o s.0; row = s.1; before = prev; after = next })
   own_row =
-      ap (option_map (linked all)) found_own
-      ∙ (λ i. Some (record { id = s.0; row = s.1; before = prev_is i; after = next_is i }))
+      ap (option_map (linked o all)) found_own
+      ∙ (λ i. Some (record { name = name_of o s.0; row = s.1; before = prev_is i; after = next_is i }))
     where
       prev_is : before s.1.order (of_account own_account all) ≡ prev
       prev_is = ap (before s.1.order) of_own ∙ own_prev (of_account own_account front) s (of_account own_account back) own
@@ -189,28 +190,28 @@ module _ (front : List Entry) (s : Entry) (back : List Entry) (rises : Rises (fr
   module _ (xs ys : List Entry) (at_front at_back : Option ℕ)
       (after_is : (t : Entry) → IsIn t front ⊎ IsIn t back → after t.1.order (of_account t.1.account ys) ≡ cond (is_place t.1.order prev) at_back (after t.1.order (of_account t.1.account xs)))
       (before_is : (t : Entry) → IsIn t front ⊎ IsIn t back → before t.1.order (of_account t.1.account ys) ≡ cond (is_place t.1.order next) at_front (before t.1.order (of_account t.1.account xs))) where
-    row_by : (q : ℕ) (o : Option Entry) → find (is_at q) rest ≡ o
-        → option_map (linked ys) o ≡ changed (is_place q next) (with_before at_front) (changed (is_place q prev) (with_after at_back) (option_map (linked xs) o))
+    row_by : (q : ℕ) (found : Option Entry) → find (is_at q) rest ≡ found
+        → option_map (linked o ys) found ≡ changed (is_place q next) (with_before at_front) (changed (is_place q prev) (with_after at_back) (option_map (linked o xs) found))
     row_by q None e = sym (ap (changed (is_place q next) (with_before at_front)) (changed_none (is_place q prev) (with_after at_back)) ∙ changed_none (is_place q next) (with_before at_front))
     row_by q (Some t) e =
         let f = found_in (is_at q) rest t e in
         let is : t.1.order ≡ q = eqb-true t.1.order q f.1 in
         let there = in_append t front back f.0 in
         rw (← is) (
-        (λ i. Some (record { id = t.0; row = t.1; before = before_is t there i; after = after_is t there i }))
-        ∙ sym (changed_row (is_place t.1.order prev) (is_place t.1.order next) at_front at_back (linked xs t)))
+        (λ i. Some (record { name = name_of o t.0; row = t.1; before = before_is t there i; after = after_is t there i }))
+        ∙ sym (changed_row (is_place t.1.order prev) (is_place t.1.order next) at_front at_back (linked o xs t)))
 
-  pub gone_row : (q : ℕ) → linked_at q rest ≡ cond (q == s.1.order) None (changed (is_place q next) (with_before prev) (changed (is_place q prev) (with_after next) (linked_at q all)))
+  pub gone_row : (q : ℕ) → linked_at o q rest ≡ cond (q == s.1.order) None (changed (is_place q next) (with_before prev) (changed (is_place q prev) (with_after next) (linked_at o q all)))
   gone_row q = elim (cases_Bool (q == s.1.order)) [
     | inl is ↦ (
         let same : q ≡ s.1.order = eqb-true q s.1.order is in
-        rw (is, same) (ap (option_map (linked rest)) found_gone))
+        rw (is, same) (ap (option_map (linked o rest)) found_gone))
     | inr off ↦ (
         let other : s.1.order ≡ q → ⊥ = λ e. eqb-false q s.1.order off (sym e) in
         rw (off, found_other q other) (row_by all rest prev next after_gone before_gone q (find (is_at q) rest) refl))
   ]
 
-  pub more_row : (q : ℕ) → linked_at q all ≡ cond (q == s.1.order) (Some (record { id = s.0; row = s.1; before = prev; after = next })) (changed (is_place q next) (with_before (Some s.1.order)) (changed (is_place q prev) (with_after (Some s.1.order)) (linked_at q rest)))
+  pub more_row : (q : ℕ) → linked_at o q all ≡ cond (q == s.1.order) (Some (record { name = name_of o s.0; row = s.1; before = prev; after = next })) (changed (is_place q next) (with_before (Some s.1.order)) (changed (is_place q prev) (with_after (Some s.1.order)) (linked_at o q rest)))
   more_row q = elim (cases_Bool (q == s.1.order)) [
     | inl is ↦ (
         let same : q ≡ s.1.order = eqb-true q s.1.order is in

@@ -78,3 +78,11 @@ no_row id (x ∷ rows) none =
       | true ↦ λ some. absurd (none-some x.1 (sym some))
       | false ↦ λ later. no_row id rows later
     ] none
+
+pub row_none : (id : SourceId) (rows : List Entry) → list_any (is_named id) rows ≡ false → row_at id rows ≡ None
+row_none id [] none = refl
+row_none id (x ∷ rows) none =
+    elim (same_source id x.0) as (λ k. (k || list_any (is_named id) rows) ≡ false → option_map (λ (e : Entry). e.1) (cond k (Some x) (find (is_named id) rows)) ≡ None) [
+      | true ↦ λ there. absurd (true≢false there)
+      | false ↦ λ later. row_none id rows later
+    ] none

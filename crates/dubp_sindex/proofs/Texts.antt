@@ -2,7 +2,7 @@
 use Rattle.std.proofs.Common.{◌≡◌, ℕ, suc, zero, ◌+◌, ◌<◌, IfSome, Bool, true, false, cond, not, ◌||◌, List, [], ◌∷◌, ◌++◌, map, length, slice_get, Some, None, option_map, refl, ap, sym, subst, ◌∙◌, true≢false, nat_lt, arith, position}
 use Rattle.std.specs.List.{list_any, position_or_len, AllByRecursion, IsDistinct}
 use Rattle.std.proofs.lemmas.Option.{none-some}
-use Rattle.std.proofs.lemmas.Bool.{lt-ltb, ltb-true, ltb-false}
+use Rattle.std.proofs.lemmas.Bool.{lt-ltb, ltb-true}
 use Rattle.dubp_atoms.specs.Same.{Text, same_text}
 use Rattle.indexmap.specs.IndexMap.{IndexMap, get}
 use Rattle.dubp_sindex.specs.Numbering.{AreApart, AreNumbers, number_of, signed_text, with_text}
@@ -69,7 +69,7 @@ module _ (t : Text) where
   lacks : (xs : List Text) → position_or_len (same_text t) xs ≡ length xs → number_of xs t ≡ None
   lacks xs e = ap (λ m. cond (nat_lt m (length xs)) (Some m) None) e ∙ ap (λ b. cond b (Some (length xs)) None) (itself (length xs))
 
-  text_there : (xs : List Text) (n : ℕ) → number_of xs t ≡ Some n → list_any (same_text t) xs ≡ true
+  pub text_there : (xs : List Text) (n : ℕ) → number_of xs t ≡ Some n → list_any (same_text t) xs ≡ true
   text_there xs n is =
       elim (list_any (same_text t) xs) as (λ r. list_any (same_text t) xs ≡ r → r ≡ true) [
         | true ↦ λ _. refl
@@ -84,10 +84,10 @@ module _ (t : Text) where
         | false ↦ λ later. omega (arith, place_within xs later)
       ] e
 
-  number_there : (xs : List Text) → list_any (same_text t) xs ≡ true → number_of xs t ≡ Some (position_or_len (same_text t) xs)
+  pub number_there : (xs : List Text) → list_any (same_text t) xs ≡ true → number_of xs t ≡ Some (position_or_len (same_text t) xs)
   number_there xs e = ap (λ b. cond b (Some (position_or_len (same_text t) xs)) None) (lt-ltb (position_or_len (same_text t) xs) (length xs) (place_within xs e))
 
-  place_stays : (xs more : List Text) → list_any (same_text t) xs ≡ true → position_or_len (same_text t) (xs ++ more) ≡ position_or_len (same_text t) xs
+  pub place_stays : (xs more : List Text) → list_any (same_text t) xs ≡ true → position_or_len (same_text t) (xs ++ more) ≡ position_or_len (same_text t) xs
   place_stays [] more e = absurd (true≢false (sym e))
   place_stays (x ∷ xs) more e =
       elim (same_text t x) as (λ r. (r || list_any (same_text t) xs) ≡ true → cond (not r) (1 + position_or_len (same_text t) (xs ++ more)) 0 ≡ cond (not r) (1 + position_or_len (same_text t) xs) 0) [
@@ -95,7 +95,7 @@ module _ (t : Text) where
         | false ↦ λ later. ap (λ n. 1 + n) (place_stays xs more later)
       ] e
 
-  any_more : (xs more : List Text) → list_any (same_text t) xs ≡ true → list_any (same_text t) (xs ++ more) ≡ true
+  pub any_more : (xs more : List Text) → list_any (same_text t) xs ≡ true → list_any (same_text t) (xs ++ more) ≡ true
   any_more [] more e = absurd (true≢false (sym e))
   any_more (x ∷ xs) more e =
       elim (same_text t x) as (λ r. (r || list_any (same_text t) xs) ≡ true → (r || list_any (same_text t) (xs ++ more)) ≡ true) [ true ↦ λ _. refl | false ↦ λ later. any_more xs more later ] e

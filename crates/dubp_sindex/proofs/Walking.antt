@@ -5,27 +5,30 @@ use Rattle.std.specs.List.{list_any}
 use Rattle.std.specs.Option.{IfSome}
 use Rattle.std.proofs.lemmas.Bool.{eqb-true, eq-eqb}
 use Rattle.std.proofs.lemmas.Option.{none-some}
+use Rattle.dubp_cond.specs.declared.source.SourceId.{SourceId}
 use Rattle.dubp_sindex.specs.declared.rows.LinkedRow.{LinkedRow}
 use Rattle.dubp_sindex.specs.declared.rows.Balance.{Balance}
 use Rattle.dubp_sindex.specs.Rows.{Entry, is_of, of_account, Rises, IsInRange, AreRows}
+use Rattle.dubp_sindex.specs.Origins.{OriginTexts, source_in, is_known, AreKnown}
 use Rattle.dubp_sindex.specs.Links.{place_in, place_in_fits}
 use Rattle.dubp_sindex.specs.Derived.{first_place, last_place, before, after, linked, is_at, linked_at, balance_of, balance_at}
 use Rattle.dubp_sindex.proofs.Elements.{IsIn, in_all, in_any, all_more, in_filter, in_middle}
 use Rattle.dubp_sindex.proofs.Derived.{rises-filter}
+use Rattle.dubp_sindex.proofs.Named.{source_is}
 use Rattle.dubp_sindex.proofs.Places.{AreAbove, AreBelow, between, own_next, own_prev, next_between, prev_between, last_in, last_most}
 use Rattle.dubp_sindex.proofs.Moves.{row_of_place}
 
 -- ---- a source of an account, between the others of it
 
-module _ (rows : List Entry) (order : AreRows rows) (a : ℕ) (front : List Entry) (x : Entry) (back : List Entry) (is : of_account a rows ≡ front ++ x ∷ back) where
+module _ (o : OriginTexts) (rows : List Entry) (order : AreRows rows) (a : ℕ) (front : List Entry) (x : Entry) (back : List Entry) (is : of_account a rows ≡ front ++ x ∷ back) where
   rises : Rises (front ++ x ∷ back)
   rises = subst Rises is (rises-filter (is_of a) rows order.rises)
 
   own : IsIn x rows × (is_of a x ≡ true)
   own = in_filter (is_of a) rows x (subst (IsIn x) (sym is) (in_middle front back x))
 
-  pub row_here : linked_at x.1.order rows ≡ Some (linked rows x)
-  row_here = row_of_place rows order.rises x own.0
+  pub row_here : linked_at o x.1.order rows ≡ Some (linked o rows x)
+  row_here = row_of_place o rows order.rises x own.0
 
   all_is : of_account x.1.account rows ≡ front ++ x ∷ back
   all_is = ap (λ c. of_account c rows) (sym (eqb-true a x.1.account own.1)) ∙ is
@@ -77,46 +80,60 @@ walk_counted rows a turns here found b balance w all = by w.rest w.is
     by [] is = sym (is ∙ append-nil found)
     by (x ∷ rest) is = absurd (omega (arith, all, count_known a (of_account a rows) b balance, ap length is, length-append found (x ∷ rest), w.counted))
 
-module _ (rows : List Entry) (order : AreRows rows) (a turns place : ℕ) (found : List Entry) (w : IsWalked rows a turns (Some place) found) where
+module _ (o : OriginTexts) (rows : List Entry) (order : AreRows rows) (a turns place : ℕ) (found : List Entry) (w : IsWalked rows a turns (Some place) found) where
   -- where the walk is, there is a source of the account
-  record IsHere : Type 0 where
+  pub record IsHere : Type 0 where
     pub x : Entry
     pub rest : List Entry
     pub is : of_account a rows ≡ found ++ x ∷ rest
     pub place_is : x.1.order ≡ place
 
-  here : IsHere
+  pub here : IsHere
   here = by w.rest w.is w.begins
     where
       by : (rest : List Entry) → of_account a rows ≡ found ++ rest → Some place ≡ first_place rest → IsHere
       by [] is e = absurd (none-some place (sym e))
       by (x ∷ rest) is e = record { x = x; rest = rest; is = is; place_is = ap (λ o. unwrap_or o place) (sym e) }
 
-  row_is : linked_at place rows ≡ Some (linked rows here.x)
-  row_is = subst (λ p. linked_at p rows ≡ Some (linked rows here.x)) here.place_is (row_here rows order a found here.x here.rest here.is)
+  row_is : linked_at o place rows ≡ Some (linked o rows here.x)
+  row_is = subst (λ p. linked_at o p rows ≡ Some (linked o rows here.x)) here.place_is (row_here o rows order a found here.x here.rest here.is)
 
-  pub walk_is_here : linked_at place rows ≡ None → ⊥
+  pub walk_is_here : linked_at o place rows ≡ None → ⊥
   walk_is_here none = none-some _ (sym none ∙ row_is)
 
-  pub walk_goes : (l : LinkedRow) → linked_at place rows ≡ Some l → (now : List Entry) → now ≡ found ++ (l.id, l.row) ∷ [] → IsWalked rows a (turns + 1) l.after now
-  walk_goes l at now put =
-      let same : l ≡ linked rows here.x = ap (λ o. unwrap_or o l) (sym at ∙ row_is) in
-      let whole : here.x ≡ (l.id, l.row) = ap (λ (y : LinkedRow). (y.id, y.row)) (sym same) in
+  -- a row without a source is none of them
+  pub walk_names : AreKnown o rows → (l : LinkedRow) → linked_at o place rows ≡ Some l → source_in o l.name ≡ Some here.x.0
+  walk_names all l at =
+      let same : l ≡ linked o rows here.x = ap (λ found. unwrap_or found l) (sym at ∙ row_is) in
+      let known : is_known o here.x.0 ≡ true = in_all (λ (e : Entry). is_known o e.0 ≡ true) rows all here.x (own o rows order a found here.x here.rest here.is).0 in
+      ap (λ (y : LinkedRow). source_in o y.name) same ∙ source_is o here.x.0 known
+
+  pub walk_source : AreKnown o rows → (l : LinkedRow) → linked_at o place rows ≡ Some l → option_map (λ (id : SourceId). (id, l.row)) (source_in o l.name) ≡ Some here.x
+  walk_source all l at =
+      let same : l ≡ linked o rows here.x = ap (λ found. unwrap_or found l) (sym at ∙ row_is) in
+      ap (option_map (λ (id : SourceId). (id, l.row))) (walk_names all l at) ∙ ap (λ (y : LinkedRow). Some (here.x.0, y.row)) same
+
+  pub walk_goes : AreKnown o rows → (l : LinkedRow) → linked_at o place rows ≡ Some l → (e : Entry) → Some e ≡ option_map (λ (id : SourceId). (id, l.row)) (source_in o l.name) → (now : List Entry) → now ≡ found ++ e ∷ [] → IsWalked rows a (turns + 1) l.after now
+  walk_goes all l at e named now put =
+      let same : l ≡ linked o rows here.x = ap (λ found. unwrap_or found l) (sym at ∙ row_is) in
+      let whole : here.x ≡ e = ap (λ found. unwrap_or found e) (sym (named ∙ walk_source all l at)) in
       record {
         rest = here.rest;
         is = here.is ∙ sym (append_assoc found (here.x ∷ []) here.rest) ∙ ap (λ (y : Entry). (found ++ y ∷ []) ++ here.rest) whole ∙ ap (λ l. l ++ here.rest) (sym put);
-        begins = ap (λ (y : LinkedRow). y.after) same ∙ after_here rows order a found here.x here.rest here.is;
-        counted = ap length put ∙ length-append found ((l.id, l.row) ∷ []) ∙ ap (λ n. n + 1) w.counted;
+        begins = ap (λ (y : LinkedRow). y.after) same ∙ after_here o rows order a found here.x here.rest here.is;
+        counted = ap length put ∙ length-append found (e ∷ []) ∙ ap (λ n. n + 1) w.counted;
       }
 
 -- the first source of an account
-pub first_is : (rows : List Entry) → AreRows rows → (a : ℕ) (b : Balance) (l : LinkedRow) → balance_at a rows ≡ Some b → linked_at b.first rows ≡ Some l → Some (l.id, l.row) ≡ slice_get (of_account a rows) 0
-first_is rows order a b l balance at =
-    let w = walk_goes rows order a 0 b.first [] (walk_begins rows a b balance) l at ((l.id, l.row) ∷ []) refl in
-    sym (ap (λ xs. slice_get xs 0) w.is)
+pub first_is : (o : OriginTexts) (rows : List Entry) → AreRows rows → AreKnown o rows → (a : ℕ) (b : Balance) (l : LinkedRow) → balance_at a rows ≡ Some b → linked_at o b.first rows ≡ Some l → option_map (λ (id : SourceId). (id, l.row)) (source_in o l.name) ≡ slice_get (of_account a rows) 0
+first_is o rows order all a b l balance at =
+    let begun = walk_begins rows a b balance in
+    let e = here o rows order a 0 b.first [] begun in
+    let w = walk_goes o rows order a 0 b.first [] begun all l at e.x (sym (walk_source o rows order a 0 b.first [] begun all l at)) (e.x ∷ []) refl in
+    walk_source o rows order a 0 b.first [] begun all l at ∙ sym (ap (λ xs. slice_get xs 0) w.is)
 
-pub first_there : (rows : List Entry) → AreRows rows → (a : ℕ) (b : Balance) → balance_at a rows ≡ Some b → linked_at b.first rows ≡ None → ⊥
-first_there rows order a b balance = walk_is_here rows order a 0 b.first [] (walk_begins rows a b balance)
+pub first_there : (o : OriginTexts) (rows : List Entry) → AreRows rows → (a : ℕ) (b : Balance) → balance_at a rows ≡ Some b → linked_at o b.first rows ≡ None → ⊥
+first_there o rows order a b balance = walk_is_here o rows order a 0 b.first [] (walk_begins rows a b balance)
 
 -- ---- back
 
@@ -174,23 +191,23 @@ module _ (rows : List Entry) (order : AreRows rows) (a place : ℕ) where
       front_rises (x ∷ xs) ys r = (left_all x.1.order xs ys r.0, front_rises xs ys r.1)
 
   -- a source above the place is stepped over
-  pub back_goes : (here : ℕ) (next prev' : Option ℕ) → IsBack rows a place (Some here) next → (here < place → ⊥) → list_any (is_at place) rows ≡ false
-      → ((l : LinkedRow) → linked_at here rows ≡ Some l → IfSome l.before (λ p. p < here) → prev' ≡ l.before) → IsBack rows a place prev' (Some here)
-  back_goes here next prev' w over free step = by (last_split w.front here (sym w.ends))
+  pub back_goes : (o : OriginTexts) (here : ℕ) (next prev' : Option ℕ) → IsBack rows a place (Some here) next → (here < place → ⊥) → list_any (is_at place) rows ≡ false
+      → ((l : LinkedRow) → linked_at o here rows ≡ Some l → IfSome l.before (λ p. p < here) → prev' ≡ l.before) → IsBack rows a place prev' (Some here)
+  back_goes o here next prev' w over free step = by (last_split w.front here (sym w.ends))
     where
       by : IsLast w.front here → IsBack rows a place prev' (Some here)
       by l =
           let is : of_account a rows ≡ l.front ++ l.x ∷ w.back = w.is ∙ ap (λ xs. xs ++ w.back) l.is ∙ append_assoc l.front (l.x ∷ []) w.back in
           let in_rows : IsIn l.x rows = (in_filter (is_of a) rows l.x (subst (IsIn l.x) (sym is) (in_middle l.front w.back l.x))).0 in
           let apart : l.x.1.order ≡ place → ⊥ = λ e. true≢false (sym (in_any (is_at place) rows l.x in_rows (eq-eqb l.x.1.order place e)) ∙ free) in
-          let row : linked_at here rows ≡ Some (linked rows l.x) = subst (λ p. linked_at p rows ≡ Some (linked rows l.x)) l.place_is (row_here rows order a l.front l.x w.back is) in
-          let prev_is = before_here rows order a l.front l.x w.back is in
-          let falls : IfSome (last_place l.front) (λ p. p < here) = low l.front (last_place l.front) refl (front_below rows order a l.front l.x w.back is) l.place_is in
+          let row : linked_at o here rows ≡ Some (linked o rows l.x) = subst (λ p. linked_at o p rows ≡ Some (linked o rows l.x)) l.place_is (row_here o rows order a l.front l.x w.back is) in
+          let prev_is = before_here o rows order a l.front l.x w.back is in
+          let falls : IfSome (last_place l.front) (λ p. p < here) = low l.front (last_place l.front) refl (front_below o rows order a l.front l.x w.back is) l.place_is in
           record {
             front = l.front;
             back = l.x ∷ w.back;
             is = is;
-            ends = step (linked rows l.x) row (subst (λ o. IfSome o (λ p. p < here)) (sym prev_is) falls) ∙ prev_is;
+            ends = step (linked o rows l.x) row (subst (λ o. IfSome o (λ p. p < here)) (sym prev_is) falls) ∙ prev_is;
             begins = ap Some (sym l.place_is);
             above = (omega (arith, over, apart, l.place_is), w.above);
           }

@@ -1,11 +1,12 @@
 -- One source more, or one less: what it makes of the tables. These words mirror the code.
 use Rattle.std.specs.Prelude.{◌≡◌, ℕ, ◌+◌, ◌-◌, ◌^◌, ◌<◌, ◌==◌, Bool, false, List, Option, Some, None, option_map, if◌then◌else◌, ⊤}
 use Rattle.std.specs.Option.{option_map_or}
-use Rattle.dubp_cond.specs.declared.source.SourceId.{SourceId}
+use Rattle.dubp_sindex.specs.declared.origins.Name.{Name}
 use Rattle.dubp_sindex.specs.declared.rows.LinkedRow.{LinkedRow}
 use Rattle.dubp_sindex.specs.declared.rows.Balance.{Balance}
 use Rattle.dubp_sindex.specs.declared.change.Change.{Change}
-use Rattle.dubp_sindex.specs.Rows.{Entry, same_source}
+use Rattle.dubp_sindex.specs.Rows.{Entry}
+use Rattle.dubp_sindex.specs.Origins.{OriginTexts, same_name}
 use Rattle.dubp_sindex.specs.Derived.{place_at, linked_at, balance_at}
 
 abbrev pub is_place : ℕ → Option ℕ → Bool
@@ -13,10 +14,10 @@ is_place q o = option_map_or (λ p. q == p) o false
 
 -- a row with another neighbour
 abbrev pub with_after : Option ℕ → LinkedRow → LinkedRow
-with_after after r = record { id = r.id; row = r.row; before = r.before; after = after }
+with_after after r = record { name = r.name; row = r.row; before = r.before; after = after }
 
 abbrev pub with_before : Option ℕ → LinkedRow → LinkedRow
-with_before before r = record { id = r.id; row = r.row; before = before; after = r.after }
+with_before before r = record { name = r.name; row = r.row; before = before; after = r.after }
 
 -- the row is changed where it is the one
 abbrev pub changed : Bool → (LinkedRow → LinkedRow) → Option LinkedRow → Option LinkedRow
@@ -45,8 +46,8 @@ abbrev pub JoinFits : Option Balance → ℕ → Type 0
 JoinFits None units = ⊤
 JoinFits (Some b) units = (b.units + units < 2 ^ 128) × (b.count + 1 < 2 ^ 64)
 
--- the rows differ by what becomes of the source id
-pub record IsChanged (id : SourceId) (c : Change) (old new : List Entry) : Type 0 where
-  pub name : (x : SourceId) → place_at x new ≡ (if same_source x id then option_map (λ _. c.place) c.own else place_at x old)
-  pub row : (q : ℕ) → linked_at q new ≡ (if q == c.place then c.own else changed (is_place q c.after) (with_before c.ahead) (changed (is_place q c.before) (with_after c.behind) (linked_at q old)))
+-- by these numbers of origins, the rows differ by what becomes of the source of this name
+pub record IsChanged (o : OriginTexts) (name : Name) (c : Change) (old new : List Entry) : Type 0 where
+  pub named : (x : Name) → place_at o x new ≡ (if same_name x name then option_map (λ _. c.place) c.own else place_at o x old)
+  pub row : (q : ℕ) → linked_at o q new ≡ (if q == c.place then c.own else changed (is_place q c.after) (with_before c.ahead) (changed (is_place q c.before) (with_after c.behind) (linked_at o q old)))
   pub balance : (a : ℕ) → balance_at a new ≡ (if a == c.account then c.balance else balance_at a old)

@@ -1,15 +1,15 @@
-ghost use Rattle.std.specs.Prelude.{◌≡◌, ◌+◌, ◌≤◌, ◌==◌, ◌∷◌, ℕ, List, min, option_map, if◌then◌else◌, IfSome, IsOk, OnOk, OnErr};
+ghost use Rattle.std.specs.Prelude.{◌≡◌, ◌+◌, ◌≤◌, ◌==◌, ◌∷◌, [], ℕ, List, min, option_map, if◌then◌else◌, IfSome, IsOk, OnOk, OnErr};
 ghost use Rattle.std.specs.Option.{option_and_then, option_map_or};
 ghost use Rattle.std.specs.Ordering.{nat_cmp};
 ghost use Rattle.dubp_undo.specs.MovingTable.{get, IsPlaced, PlacesStay};
 ghost use Rattle.dubp_sindex.specs.Rows.{Entry, units};
-ghost use Rattle.dubp_sindex.specs.States.{States, rows_of};
+ghost use Rattle.dubp_sindex.specs.Origins.{OriginTexts};
 ghost use Rattle.dubp_sindex.specs.Changes.{IsChanged, JoinFits, changed, is_place, joined, parted, with_after, with_before};
 
 use crate::link::Link;
-use crate::rows::{Balance, LinkedRow, Rows, SourceRow, SourceRows, SourceTables};
+use crate::origins::Name;
+use crate::rows::{Balance, LinkedRow, NumberedRows, Rows, SourceRow, SourceTables};
 use dubp_atoms::{NoMemory, Steps};
-use dubp_cond::SourceId;
 use dubp_undo::Tables;
 use std::sync::ledger::Ledger as StepBook;
 
@@ -110,8 +110,8 @@ fn set_after<L: StepBook>(
     steps: &mut Steps<L>,
 ) -> Result<(), NoMemory>
     ensures now { OnOk result ((q : ℕ) → get nat_cmp rows.new.table.now q ≡ changed (is_place q place) (with_after after) (get nat_cmp rows.old.table.now q)) }
-    ensures others { ⟦<Rows as Tables<SourceRows>>⟧.others rows.new ≡ ⟦<Rows as Tables<SourceRows>>⟧.others rows.old }
-    ensures count { ⟦<Rows as Tables<SourceRows>>⟧.count rows.new + steps.old ≤ ⟦<Rows as Tables<SourceRows>>⟧.count rows.old + steps.new }
+    ensures others { ⟦<Rows as Tables<NumberedRows>>⟧.others rows.new ≡ ⟦<Rows as Tables<NumberedRows>>⟧.others rows.old }
+    ensures count { ⟦<Rows as Tables<NumberedRows>>⟧.count rows.new + steps.old ≤ ⟦<Rows as Tables<NumberedRows>>⟧.count rows.old + steps.new }
     ensures steps { OnOk result (steps.new ≤ steps.old + 1) }
     ensures placed { OnOk result (PlacesStay nat_cmp rows.old.table.placed rows.new.table.placed) }
     ensures room { rows.old.table.room ≤ rows.new.table.room + 1 }
@@ -133,8 +133,8 @@ fn set_before<L: StepBook>(
     steps: &mut Steps<L>,
 ) -> Result<(), NoMemory>
     ensures now { OnOk result ((q : ℕ) → get nat_cmp rows.new.table.now q ≡ changed (is_place q place) (with_before before) (get nat_cmp rows.old.table.now q)) }
-    ensures others { ⟦<Rows as Tables<SourceRows>>⟧.others rows.new ≡ ⟦<Rows as Tables<SourceRows>>⟧.others rows.old }
-    ensures count { ⟦<Rows as Tables<SourceRows>>⟧.count rows.new + steps.old ≤ ⟦<Rows as Tables<SourceRows>>⟧.count rows.old + steps.new }
+    ensures others { ⟦<Rows as Tables<NumberedRows>>⟧.others rows.new ≡ ⟦<Rows as Tables<NumberedRows>>⟧.others rows.old }
+    ensures count { ⟦<Rows as Tables<NumberedRows>>⟧.count rows.new + steps.old ≤ ⟦<Rows as Tables<NumberedRows>>⟧.count rows.old + steps.new }
     ensures steps { OnOk result (steps.new ≤ steps.old + 1) }
     ensures placed { OnOk result (PlacesStay nat_cmp rows.old.table.placed rows.new.table.placed) }
     ensures room { rows.old.table.room ≤ rows.new.table.room + 1 }
@@ -151,8 +151,8 @@ fn set_before<L: StepBook>(
 // Places the key of a neighbour, where there is one, and makes room for three keys. No step.
 fn ready_at(rows: &mut Rows, place: Link) -> Result<(), NoMemory>
     ensures now { rows.new.table.now ≡ rows.old.table.now }
-    ensures others { ⟦<Rows as Tables<SourceRows>>⟧.others rows.new ≡ ⟦<Rows as Tables<SourceRows>>⟧.others rows.old }
-    ensures count { ⟦<Rows as Tables<SourceRows>>⟧.count rows.new ≡ ⟦<Rows as Tables<SourceRows>>⟧.count rows.old }
+    ensures others { ⟦<Rows as Tables<NumberedRows>>⟧.others rows.new ≡ ⟦<Rows as Tables<NumberedRows>>⟧.others rows.old }
+    ensures count { ⟦<Rows as Tables<NumberedRows>>⟧.count rows.new ≡ ⟦<Rows as Tables<NumberedRows>>⟧.count rows.old }
     ensures placed { OnOk result (IfSome place (λ p. IsPlaced nat_cmp p rows.new.table.placed)) }
     ensures stay { OnOk result (PlacesStay nat_cmp rows.old.table.placed rows.new.table.placed) }
     ensures room { rows.old.table.room ≤ rows.new.table.room }
@@ -166,8 +166,8 @@ fn ready_at(rows: &mut Rows, place: Link) -> Result<(), NoMemory>
 // Places the keys of a source and of its neighbours, and makes room for them. No step.
 fn ready_rows(rows: &mut Rows, change: &Change) -> Result<(), NoMemory>
     ensures now { rows.new.table.now ≡ rows.old.table.now }
-    ensures others { ⟦<Rows as Tables<SourceRows>>⟧.others rows.new ≡ ⟦<Rows as Tables<SourceRows>>⟧.others rows.old }
-    ensures count { ⟦<Rows as Tables<SourceRows>>⟧.count rows.new ≡ ⟦<Rows as Tables<SourceRows>>⟧.count rows.old }
+    ensures others { ⟦<Rows as Tables<NumberedRows>>⟧.others rows.new ≡ ⟦<Rows as Tables<NumberedRows>>⟧.others rows.old }
+    ensures count { ⟦<Rows as Tables<NumberedRows>>⟧.count rows.new ≡ ⟦<Rows as Tables<NumberedRows>>⟧.count rows.old }
     ensures own { OnOk result (IsPlaced nat_cmp change.now.place rows.new.table.placed) }
     ensures before { OnOk result (IfSome change.now.before (λ p. IsPlaced nat_cmp p rows.new.table.placed)) }
     ensures after { OnOk result (IfSome change.now.after (λ p. IsPlaced nat_cmp p rows.new.table.placed)) }
@@ -186,8 +186,8 @@ fn set_rows<L: StepBook>(
     steps: &mut Steps<L>,
 ) -> Result<(), NoMemory>
     ensures now { OnOk result ((q : ℕ) → get nat_cmp rows.new.table.now q ≡ (if q == change.now.place then change.now.own else changed (is_place q change.now.after) (with_before change.now.ahead) (changed (is_place q change.now.before) (with_after change.now.behind) (get nat_cmp rows.old.table.now q)))) }
-    ensures others { ⟦<Rows as Tables<SourceRows>>⟧.others rows.new ≡ ⟦<Rows as Tables<SourceRows>>⟧.others rows.old }
-    ensures count { ⟦<Rows as Tables<SourceRows>>⟧.count rows.new + steps.old ≤ ⟦<Rows as Tables<SourceRows>>⟧.count rows.old + steps.new }
+    ensures others { ⟦<Rows as Tables<NumberedRows>>⟧.others rows.new ≡ ⟦<Rows as Tables<NumberedRows>>⟧.others rows.old }
+    ensures count { ⟦<Rows as Tables<NumberedRows>>⟧.count rows.new + steps.old ≤ ⟦<Rows as Tables<NumberedRows>>⟧.count rows.old + steps.new }
     ensures steps { OnOk result (steps.new ≤ steps.old + 3) }
     ensures succeeds { IsPlaced nat_cmp change.now.place rows.old.table.placed → IfSome change.now.before (λ p. IsPlaced nat_cmp p rows.old.table.placed) → IfSome change.now.after (λ p. IsPlaced nat_cmp p rows.old.table.placed) → 3 ≤ rows.old.table.room → IsOk result }
 {
@@ -212,24 +212,24 @@ fn named_place(change: &Change) -> Option<usize>
 /// `NoMemory` where there is no memory for its keys; then every table is as it was.
 pub fn put<L: StepBook>(
     tables: &mut SourceTables,
-    id: &SourceId,
+    name: Name,
     change: &Change,
     steps: &mut Steps<L>,
 ) -> Result<(), NoMemory>
-    ensures at { OnOk result ((s t : States) (rows : List Entry) → ⟦<SourceTables as Tables<SourceRows>>⟧.at tables.old s → IsChanged id.now change.now (rows_of s) rows → ⟦<SourceTables as Tables<SourceRows>>⟧.at tables.new (rows ∷ t)) }
-    ensures others { ⟦<SourceTables as Tables<SourceRows>>⟧.others tables.new ≡ ⟦<SourceTables as Tables<SourceRows>>⟧.others tables.old }
-    ensures count { ⟦<SourceTables as Tables<SourceRows>>⟧.count tables.new + steps.old ≤ ⟦<SourceTables as Tables<SourceRows>>⟧.count tables.old + steps.new }
+    ensures at { OnOk result ((o : OriginTexts) (old new : List Entry) → ⟦<SourceTables as Tables<NumberedRows>>⟧.at tables.old ((o, old) ∷ []) → IsChanged o name change.now old new → ⟦<SourceTables as Tables<NumberedRows>>⟧.at tables.new ((o, new) ∷ [])) }
+    ensures others { ⟦<SourceTables as Tables<NumberedRows>>⟧.others tables.new ≡ ⟦<SourceTables as Tables<NumberedRows>>⟧.others tables.old }
+    ensures count { ⟦<SourceTables as Tables<NumberedRows>>⟧.count tables.new + steps.old ≤ ⟦<SourceTables as Tables<NumberedRows>>⟧.count tables.old + steps.new }
     ensures steps { OnOk result (steps.new ≤ steps.old + 5) }
 
-    ensures refused { OnErr result (⟦<SourceTables as Tables<SourceRows>>⟧.now tables.new ≡ ⟦<SourceTables as Tables<SourceRows>>⟧.now tables.old) }
+    ensures refused { OnErr result (⟦<SourceTables as Tables<NumberedRows>>⟧.now tables.new ≡ ⟦<SourceTables as Tables<NumberedRows>>⟧.now tables.old) }
     ensures no_step { OnErr result (steps.new ≡ steps.old) }
 {
     let named = named_place(change);
-    tables.first.ready(*id, 1)?;
+    tables.first.ready(name, 1)?;
     ready_rows(&mut tables.second, change)?;
     tables.third.ready(change.account, 1)?;
     tables.third.set(change.account, change.balance, steps)?;
     set_rows(&mut tables.second, change, steps)?;
-    tables.first.set(*id, named, steps)?;
+    tables.first.set(name, named, steps)?;
     Ok(())
 }

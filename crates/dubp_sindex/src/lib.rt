@@ -6,6 +6,9 @@
 //! whatever the tables move. The rows stand once each, by their names and by their places. The chapter on money in
 //! `docs/protocol` says what a source and a balance are.
 //!
+//! Within the tables a source is named by the number of its origin, which is the key that its dividend is paid to or the hash of its
+//! transaction (`specs/Origins.antt`). Origins are numbered as accounts are: one that has a number keeps it.
+//!
 //! ```text
 //! let mut index = SIndex::new(alloc);
 //! let account = index.account(&cond)?;
@@ -22,6 +25,7 @@ mod change;
 mod laws;
 mod link;
 mod neighbours;
+mod origins;
 mod reading;
 mod rows;
 mod sindex;

@@ -4,6 +4,7 @@ ghost use Rattle.std.specs.Ordering.{nat_cmp};
 ghost use Rattle.dubp_undo.specs.MovingTable.{get};
 ghost use Rattle.dubp_sindex.specs.declared.rows.LinkedRow.{LinkedRow};
 ghost use Rattle.dubp_sindex.specs.Rows.{Entry, AreRows, of_account};
+ghost use Rattle.dubp_sindex.specs.Origins.{OriginTexts};
 ghost use Rattle.dubp_sindex.specs.Derived.{after, balance_at, before, is_at, last_place, linked_at};
 
 use crate::link::Link;
@@ -46,8 +47,8 @@ fn before_it(rows: &Rows, place: usize) -> Link
 ///
 /// It walks back from the last: no step where the source goes to the end.
 pub fn neighbours(rows: &Rows, last: Link, place: usize) -> (Link, Link)
-    ensures before { (account : ℕ) (all : List Entry) → ((p : ℕ) → get nat_cmp rows.now.table.now p ≡ linked_at p all) → AreRows all → last ≡ last_place (of_account account all) → list_any (is_at place) all ≡ false → result.0 ≡ before place (of_account account all) }
-    ensures after { (account : ℕ) (all : List Entry) → ((p : ℕ) → get nat_cmp rows.now.table.now p ≡ linked_at p all) → AreRows all → last ≡ last_place (of_account account all) → list_any (is_at place) all ≡ false → result.1 ≡ after place (of_account account all) }
+    ensures before { (o : OriginTexts) (account : ℕ) (all : List Entry) → ((p : ℕ) → get nat_cmp rows.now.table.now p ≡ linked_at o p all) → AreRows all → last ≡ last_place (of_account account all) → list_any (is_at place) all ≡ false → result.0 ≡ before place (of_account account all) }
+    ensures after { (o : OriginTexts) (account : ℕ) (all : List Entry) → ((p : ℕ) → get nat_cmp rows.now.table.now p ≡ linked_at o p all) → AreRows all → last ≡ last_place (of_account account all) → list_any (is_at place) all ≡ false → result.1 ≡ after place (of_account account all) }
 {
     let mut before = last;
     let mut after = Link::none();

@@ -1,9 +1,11 @@
-ghost use Rattle.std.specs.Prelude.{◌≡◌, ◌<◌, ◌^◌, ◌++◌, ◌∷◌, [], slice_get, OnOk, IfOk, IfSome, IfNone};
+ghost use Rattle.std.specs.Prelude.{◌≡◌, ◌<◌, ◌^◌, ◌++◌, ◌∷◌, [], slice_get, option_map, OnOk, IfOk, IfSome, IfNone};
+ghost use Rattle.dubp_sindex.specs.Origins.{source_in};
 ghost use Rattle.dubp_sindex.specs.Rows.{AreRows, IsLeastBalance, row_at, of_account, units_in};
 ghost use Rattle.dubp_sindex.specs.States.{States, rows_of};
 
 use crate::SIndex;
-use crate::rows::{Balance, SourceRow, SourceRows};
+use crate::origins::Origins;
+use crate::rows::{Balance, LinkedRow, SourceRow, SourceRows};
 use dubp_atoms::NoMemory;
 use dubp_cond::SourceId;
 use dubp_undo::Tables;
@@ -14,7 +16,8 @@ impl SIndex {
     pub fn unspent(&self, id: SourceId) -> Option<SourceRow>
         ensures { (s : States) → ⟦<SIndex as Tables<SourceRows>>⟧.at self.now s → result ≡ row_at id (rows_of s) }
     {
-        let place = self.tables.first.get(id)?;
+        let name = self.origins.find(&id)?;
+        let place = self.tables.first.get(name)?;
         let linked = self.tables.second.get(place)?;
         Some(linked.row)
     }
@@ -47,7 +50,7 @@ impl SIndex {
     {
         let balance = self.tables.third.get(account)?;
         let linked = self.tables.second.get(balance.first)?;
-        Some((linked.id, linked.row))
+        entry_of(&self.origins, &linked)
     }
 
     /// The unspent sources of the account, in the order of making.
@@ -72,11 +75,22 @@ impl SIndex {
             let Some(linked) = self.tables.second.get(place) else {
                 return Ok(found);
             };
+            let Some(entry) = entry_of(&self.origins, &linked) else {
+                return Ok(found);
+            };
             here = linked.after.place();
-            put_entry(&mut found, (linked.id, linked.row))?;
+            put_entry(&mut found, entry)?;
         }
         Ok(found)
     }
+}
+
+// The source with its row, where its origin has a number.
+fn entry_of(origins: &Origins, linked: &LinkedRow) -> Option<(SourceId, SourceRow)>
+    ensures { result ≡ option_map (λ id. (id, linked.now.row)) (source_in origins.now linked.now.name) }
+{
+    let id = origins.source(linked.name)?;
+    Some((id, linked.row))
 }
 
 // The units of the account, whose number has 64 bits.

@@ -3,8 +3,8 @@ ghost use Rattle.dubp_sindex.specs.States.{names_of, linked_of, balances_of};
 ghost use Rattle.dubp_sindex.specs.Derived.{measure};
 
 use crate::link::Link;
+use crate::origins::Name;
 use dubp_atoms::Secret;
-use dubp_cond::SourceId;
 use dubp_undo::{ByHash, ByNumber, Definition, Found, Least, Measure, NoSummary, Three};
 use std::marker::Model;
 
@@ -27,7 +27,7 @@ pub struct SourceRow {
 /// made after it.
 #[derive(Clone, Copy, Debug, PartialEq, Eq)]
 pub struct LinkedRow {
-    pub id: SourceId,
+    pub name: Name,
     pub row: SourceRow,
     pub before: Link,
     pub after: Link,
@@ -59,24 +59,40 @@ impl Model for SourceRows {
     ghost view = { λ s. [] };
 }
 
+/// The rows after a block with the origins that have a number: a state of the three tables. No value of it is made.
+#[derive(Drop)]
+pub struct NumberedRows {
+    nothing: (),
+}
+
+impl Model for NumberedRows {
+    ghost use Rattle.std.specs.Prelude.{[]};
+    ghost use Rattle.dubp_sindex.specs.Origins.{no_origins};
+    ghost use Rattle.dubp_sindex.specs.States.{TableState};
+
+    ghost Value = { TableState };
+
+    ghost view = { λ s. (no_origins, []) };
+}
+
 /// The place of each unspent source, by its name.
 pub struct NamesOf;
 
-impl Definition<SourceRows, SourceId, usize> for NamesOf {
+impl Definition<NumberedRows, Name, usize> for NamesOf {
     ghost at = { names_of };
 }
 
 /// The source at each place in the order of making, with its neighbours.
 pub struct RowsOf;
 
-impl Definition<SourceRows, usize, LinkedRow> for RowsOf {
+impl Definition<NumberedRows, usize, LinkedRow> for RowsOf {
     ghost at = { linked_of };
 }
 
 /// The balance of each account that has an unspent source.
 pub struct BalancesOf;
 
-impl Definition<SourceRows, usize, Balance> for BalancesOf {
+impl Definition<NumberedRows, usize, Balance> for BalancesOf {
     ghost at = { balances_of };
 }
 
@@ -92,13 +108,13 @@ impl Measure<Balance> for ByUnits {
 }
 
 /// The places of sources, by their names.
-pub type Names = Found<SourceRows, SourceId, usize, NamesOf, ByHash<SourceId, Secret>, NoSummary>;
+pub type Names = Found<NumberedRows, Name, usize, NamesOf, ByHash<Name, Secret>, NoSummary>;
 
 /// The sources by their places, each in the list of its account.
-pub type Rows = Found<SourceRows, usize, LinkedRow, RowsOf, ByNumber, NoSummary>;
+pub type Rows = Found<NumberedRows, usize, LinkedRow, RowsOf, ByNumber, NoSummary>;
 
 /// The balances of accounts, with the least of them.
-pub type Balances = Found<SourceRows, usize, Balance, BalancesOf, ByNumber, Least<ByUnits>>;
+pub type Balances = Found<NumberedRows, usize, Balance, BalancesOf, ByNumber, Least<ByUnits>>;
 
 /// The three tables.
-pub type SourceTables = Three<SourceRows, Names, Rows, Balances>;
+pub type SourceTables = Three<NumberedRows, Names, Rows, Balances>;

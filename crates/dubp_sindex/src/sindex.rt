@@ -1,13 +1,15 @@
-ghost use Rattle.std.specs.Prelude.{◌≡◌, ◌<◌, ◌≤◌, List, [], Some, length, slice_get, OnOk, OnErr, IfOk};
+ghost use Rattle.std.specs.Prelude.{◌≡◌, ◌∷◌, ◌<◌, ◌≤◌, List, [], Some, length, slice_get, OnOk, OnErr, IfOk};
 ghost use Rattle.dubp_atoms.specs.Same.{Text};
 ghost use Rattle.dubp_cond.specs.Conditions.{cond_text};
 ghost use Rattle.dubp_sindex.specs.Accounts.{accounts};
 ghost use Rattle.dubp_sindex.specs.Numbering.{AreApart, number_of, signed_text, with_text};
+ghost use Rattle.dubp_sindex.specs.Origins.{OriginTexts, AreKnown, no_origins};
 ghost use Rattle.dubp_sindex.specs.Rows.{AreRows};
 ghost use Rattle.dubp_sindex.specs.States.{States, rows_of};
 
 use crate::accounts::Accounts;
-use crate::rows::{Balance, SourceRows, SourceTables};
+use crate::origins::Origins;
+use crate::rows::{Balance, NumberedRows, SourceRows, SourceTables};
 use arrayvec::ArrayVec;
 use dubp_atoms::{Key, Line, NoMemory, Secret, Steps};
 use dubp_cond::{Cond, put_cond};
@@ -15,35 +17,36 @@ use dubp_undo::{ByHash, ByNumber, Found, Least, NoSummary, Tables, Three};
 use std::alloc::Global;
 use std::sync::ledger::Ledger as StepBook;
 
-/// The unspent sources, and the accounts that have them.
+/// The unspent sources, the accounts that have them, and the origins that name them.
 ///
-/// Its tables move as one, and the accounts stay: a text that has a number keeps it over every move.
+/// Its tables move as one, and the accounts and origins stay: a text that has a number keeps it over every move.
 #[derive(Drop)]
 pub struct SIndex {
     pub(crate) tables: SourceTables,
+    pub(crate) origins: Origins,
     pub(crate) accounts: Accounts,
 }
 
 impl Tables<SourceRows> for SIndex {
-    ghost Now = { ⟦<SourceTables as Tables<SourceRows>>⟧.Now };
+    ghost Now = { ⟦<SourceTables as Tables<NumberedRows>>⟧.Now };
 
-    ghost Names = { ⟦<SourceTables as Tables<SourceRows>>⟧.Names × List Text };
+    ghost Names = { (⟦<SourceTables as Tables<NumberedRows>>⟧.Names × OriginTexts) × List Text };
 
-    ghost now = { λ t. ⟦<SourceTables as Tables<SourceRows>>⟧.now t.tables };
+    ghost now = { λ t. ⟦<SourceTables as Tables<NumberedRows>>⟧.now t.tables };
 
-    ghost count = { λ t. ⟦<SourceTables as Tables<SourceRows>>⟧.count t.tables };
+    ghost count = { λ t. ⟦<SourceTables as Tables<NumberedRows>>⟧.count t.tables };
 
-    ghost others = { λ t. ⟦<SourceTables as Tables<SourceRows>>⟧.others t.tables };
+    ghost others = { λ t. ⟦<SourceTables as Tables<NumberedRows>>⟧.others t.tables };
 
-    ghost spare = { λ t. ⟦<SourceTables as Tables<SourceRows>>⟧.spare t.tables };
+    ghost spare = { λ t. ⟦<SourceTables as Tables<NumberedRows>>⟧.spare t.tables };
 
-    // the accounts are told by number
-    ghost names = { λ t. (⟦<SourceTables as Tables<SourceRows>>⟧.names t.tables, t.accounts) };
+    // the origins of sources and the accounts are told by number
+    ghost names = { λ t. ((⟦<SourceTables as Tables<NumberedRows>>⟧.names t.tables, t.origins), t.accounts) };
 
-    // a place is told by its number, so the rows are such that each has a place of its own
-    ghost is = { λ m n c. ⟦<SourceTables as Tables<SourceRows>>⟧.is m.0 n c × AreRows (rows_of c) };
+    // a place is told by its number, so the rows are such that each has a place of its own, and a source by that of its origin, so each has one
+    ghost is = { λ m n c. ⟦<SourceTables as Tables<NumberedRows>>⟧.is m.0.0 n ((m.0.1, rows_of c) ∷ []) × AreRows (rows_of c) × AreKnown m.0.1 (rows_of c) };
 
-    ghost at = { λ t c. ⟦<SourceTables as Tables<SourceRows>>⟧.at t.tables c × AreRows (rows_of c) };
+    ghost at = { λ t c. ⟦<SourceTables as Tables<NumberedRows>>⟧.at t.tables ((t.origins, rows_of c) ∷ []) × AreRows (rows_of c) × AreKnown t.origins (rows_of c) };
 
     fn depth(&self) -> usize {
         self.tables.depth()
@@ -90,10 +93,10 @@ impl Tables<SourceRows> for SIndex {
 
 // The tables in which nothing stands.
 fn no_tables(alloc: Global, secret: Secret) -> SourceTables
-    ensures at { ⟦<SourceTables as Tables<SourceRows>>⟧.at result [] }
-    ensures count { ⟦<SourceTables as Tables<SourceRows>>⟧.count result ≡ 0 }
-    ensures kept { (⟦<SourceTables as Tables<SourceRows>>⟧.others result).kept ≡ [] }
-    ensures ahead { (⟦<SourceTables as Tables<SourceRows>>⟧.others result).ahead ≡ [] }
+    ensures at { ⟦<SourceTables as Tables<NumberedRows>>⟧.at result ((no_origins, []) ∷ []) }
+    ensures count { ⟦<SourceTables as Tables<NumberedRows>>⟧.count result ≡ 0 }
+    ensures kept { (⟦<SourceTables as Tables<NumberedRows>>⟧.others result).kept ≡ [] }
+    ensures ahead { (⟦<SourceTables as Tables<NumberedRows>>⟧.others result).ahead ≡ [] }
 {
     let names = Found::over(ByHash::new(alloc, secret), NoSummary, alloc);
     let rows = Found::over(ByNumber::new(alloc), NoSummary, alloc);
@@ -116,7 +119,7 @@ impl SIndex {
         SIndex::with_secret(alloc, Secret::known())
     }
 
-    /// The same index, whose accounts and sources are hashed by this secret.
+    /// The same index, whose accounts, origins and sources are hashed by this secret.
     pub fn with_secret(alloc: Global, secret: Secret) -> SIndex
         ensures at { ⟦<SIndex as Tables<SourceRows>>⟧.at result [] }
         ensures count { ⟦<SIndex as Tables<SourceRows>>⟧.count result ≡ 0 }
@@ -126,6 +129,7 @@ impl SIndex {
     {
         SIndex {
             tables: no_tables(alloc, secret),
+            origins: Origins::new(alloc, secret),
             accounts: Accounts::new(alloc, secret),
         }
     }
@@ -166,6 +170,7 @@ impl SIndex {
         ensures count { ⟦<SIndex as Tables<SourceRows>>⟧.count self.new ≡ ⟦<SIndex as Tables<SourceRows>>⟧.count self.old }
         ensures others { ⟦<SIndex as Tables<SourceRows>>⟧.others self.new ≡ ⟦<SIndex as Tables<SourceRows>>⟧.others self.old }
         ensures at { (s : States) → ⟦<SIndex as Tables<SourceRows>>⟧.at self.old s → ⟦<SIndex as Tables<SourceRows>>⟧.at self.new s }
+        ensures stays { (n : ⟦<SIndex as Tables<SourceRows>>⟧.Now) (s : States) → ⟦<SIndex as Tables<SourceRows>>⟧.is (⟦<SIndex as Tables<SourceRows>>⟧.names self.old) n s → ⟦<SIndex as Tables<SourceRows>>⟧.is (⟦<SIndex as Tables<SourceRows>>⟧.names self.new) n s }
     {
         let mut line: Line = ArrayVec::new();
         put_cond(cond, &mut line);
@@ -183,6 +188,7 @@ impl SIndex {
         ensures count { ⟦<SIndex as Tables<SourceRows>>⟧.count self.new ≡ ⟦<SIndex as Tables<SourceRows>>⟧.count self.old }
         ensures others { ⟦<SIndex as Tables<SourceRows>>⟧.others self.new ≡ ⟦<SIndex as Tables<SourceRows>>⟧.others self.old }
         ensures at { (s : States) → ⟦<SIndex as Tables<SourceRows>>⟧.at self.old s → ⟦<SIndex as Tables<SourceRows>>⟧.at self.new s }
+        ensures stays { (n : ⟦<SIndex as Tables<SourceRows>>⟧.Now) (s : States) → ⟦<SIndex as Tables<SourceRows>>⟧.is (⟦<SIndex as Tables<SourceRows>>⟧.names self.old) n s → ⟦<SIndex as Tables<SourceRows>>⟧.is (⟦<SIndex as Tables<SourceRows>>⟧.names self.new) n s }
     {
         self.accounts.add_signed(key)
     }

@@ -17,7 +17,7 @@ impl SIndex {
     /// The source is unspent, with this row, whose place in the order of making no other has; the units of all unspent sources,
     /// with its own, are below 2^128. At most five sets.
     ///
-    /// `NoMemory` where there is no memory for its keys; then all is as it was.
+    /// `NoMemory` where there is no memory for its origin or for its keys; then all is as it was, but that its origin may have a number.
     pub fn make<L: StepBook>(
         &mut self,
         id: SourceId,
@@ -30,6 +30,7 @@ impl SIndex {
         ensures count { ⟦<SIndex as Tables<SourceRows>>⟧.count self.new + steps.old ≤ ⟦<SIndex as Tables<SourceRows>>⟧.count self.old + steps.new }
         ensures steps { OnOk result (steps.new ≤ steps.old + 5) }
         ensures accounts { accounts self.new ≡ accounts self.old }
+        ensures stays { (n : ⟦<SIndex as Tables<SourceRows>>⟧.Now) (s : States) → ⟦<SIndex as Tables<SourceRows>>⟧.is (⟦<SIndex as Tables<SourceRows>>⟧.names self.old) n s → ⟦<SIndex as Tables<SourceRows>>⟧.is (⟦<SIndex as Tables<SourceRows>>⟧.names self.new) n s }
 
         ensures refused { OnErr result (⟦<SIndex as Tables<SourceRows>>⟧.now self.new ≡ ⟦<SIndex as Tables<SourceRows>>⟧.now self.old) }
         ensures no_step { OnErr result (steps.new ≡ steps.old) }
@@ -50,10 +51,12 @@ impl SIndex {
         ensures count { ⟦<SIndex as Tables<SourceRows>>⟧.count self.new + steps.old ≤ ⟦<SIndex as Tables<SourceRows>>⟧.count self.old + steps.new }
         ensures steps { OnOk result (steps.new ≤ steps.old + 5) }
         ensures accounts { accounts self.new ≡ accounts self.old }
+        ensures stays { (n : ⟦<SIndex as Tables<SourceRows>>⟧.Now) (s : States) → ⟦<SIndex as Tables<SourceRows>>⟧.is (⟦<SIndex as Tables<SourceRows>>⟧.names self.old) n s → ⟦<SIndex as Tables<SourceRows>>⟧.is (⟦<SIndex as Tables<SourceRows>>⟧.names self.new) n s }
 
         ensures refused { OnErr result (⟦<SIndex as Tables<SourceRows>>⟧.now self.new ≡ ⟦<SIndex as Tables<SourceRows>>⟧.now self.old) }
         ensures no_step { OnErr result (steps.new ≡ steps.old) }
     {
+        let name = self.origins.add(id)?;
         let place = row.order as usize;
         let balance = self.tables.third.get(row.account);
         let (before, after) = neighbours(&self.tables.second, last_of(balance), place);
@@ -61,7 +64,7 @@ impl SIndex {
         let change = Change {
             place,
             own: Some(LinkedRow {
-                id: *id,
+                name,
                 row,
                 before,
                 after,
@@ -73,7 +76,7 @@ impl SIndex {
             account: row.account,
             balance: Some(join(balance, row.account, units_of(row), place, before, after)),
         };
-        put(&mut self.tables, id, &change, steps)?;
+        put(&mut self.tables, name, &change, steps)?;
         Ok(())
     }
 
@@ -86,6 +89,7 @@ impl SIndex {
         ensures count { ⟦<SIndex as Tables<SourceRows>>⟧.count self.new + steps.old ≤ ⟦<SIndex as Tables<SourceRows>>⟧.count self.old + steps.new }
         ensures steps { OnOk result (steps.new ≤ steps.old + 5) }
         ensures accounts { accounts self.new ≡ accounts self.old }
+        ensures stays { (n : ⟦<SIndex as Tables<SourceRows>>⟧.Now) (s : States) → ⟦<SIndex as Tables<SourceRows>>⟧.is (⟦<SIndex as Tables<SourceRows>>⟧.names self.old) n s → ⟦<SIndex as Tables<SourceRows>>⟧.is (⟦<SIndex as Tables<SourceRows>>⟧.names self.new) n s }
 
         ensures refused { OnErr result (⟦<SIndex as Tables<SourceRows>>⟧.now self.new ≡ ⟦<SIndex as Tables<SourceRows>>⟧.now self.old) }
         ensures no_step { OnErr result (steps.new ≡ steps.old) }
@@ -99,11 +103,15 @@ impl SIndex {
         ensures count { ⟦<SIndex as Tables<SourceRows>>⟧.count self.new + steps.old ≤ ⟦<SIndex as Tables<SourceRows>>⟧.count self.old + steps.new }
         ensures steps { OnOk result (steps.new ≤ steps.old + 5) }
         ensures accounts { accounts self.new ≡ accounts self.old }
+        ensures stays { (n : ⟦<SIndex as Tables<SourceRows>>⟧.Now) (s : States) → ⟦<SIndex as Tables<SourceRows>>⟧.is (⟦<SIndex as Tables<SourceRows>>⟧.names self.old) n s → ⟦<SIndex as Tables<SourceRows>>⟧.is (⟦<SIndex as Tables<SourceRows>>⟧.names self.new) n s }
 
         ensures refused { OnErr result (⟦<SIndex as Tables<SourceRows>>⟧.now self.new ≡ ⟦<SIndex as Tables<SourceRows>>⟧.now self.old) }
         ensures no_step { OnErr result (steps.new ≡ steps.old) }
     {
-        let Some(place) = self.tables.first.get(*id) else {
+        let Some(name) = self.origins.find(id) else {
+            return Ok(());
+        };
+        let Some(place) = self.tables.first.get(name) else {
             return Ok(());
         };
         let Some(linked) = self.tables.second.get(place) else {
@@ -127,7 +135,7 @@ impl SIndex {
                 after,
             ),
         };
-        put(&mut self.tables, id, &change, steps)?;
+        put(&mut self.tables, name, &change, steps)?;
         Ok(())
     }
 }

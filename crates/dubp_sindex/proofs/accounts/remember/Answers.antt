@@ -1,8 +1,8 @@
-use Rattle.std.proofs.Common.{Some, Ok, Err, OnOk, OnErr, ◌≡◌, cond, sym, subst}
+use Rattle.std.proofs.Common.{Some, Ok, Err, OnOk, OnErr, ◌≡◌, sym, subst}
 use Rattle.std.specs.HashMap.{get, IsUnchanged, Updates}
 use Rattle.std.specs.Map.{lookup}
 use Rattle.std.specs.Option.{IfSome}
-use Rattle.dubp_atoms.specs.Same.{Text, same_text}
+use Rattle.dubp_atoms.specs.Same.{same_text}
 use Rattle.dubp_sindex.specs.Numbering.{number_of, signed_text}
 use Rattle.dubp_sindex.proofs.Texts.{numbers_with}
 use Rattle.dubp_sindex.proofs.accounts.remember.Goals as goal
