@@ -11,7 +11,7 @@ ghost use Rattle.dubp_sindex.specs.Accounts.{accounts};
 ghost use Rattle.dubp_sindex.specs.Rows.{Entry, AreRows};
 ghost use Rattle.dubp_money_steps.specs.Left.{HasTexts, sources_left, sources_before_clearing};
 ghost use Rattle.dubp_money_steps.specs.Clearing.{clear_record};
-ghost use Rattle.dubp_money.specs.Index.{HasRows};
+ghost use Rattle.dubp_money.specs.Index.{HasRows, Stays};
 ghost use Rattle.dubp_money.specs.Texts.{Grows, Fits};
 ghost use Rattle.dubp_money.specs.Making.{CanFollow, with_made};
 ghost use Rattle.dubp_money.specs.Transactions.{records_of};
@@ -40,6 +40,7 @@ pub fn pay<L: StepBook>(
     ensures at { OnOk result ((rows : List Entry) → AreRows rows → CanFollow rows order (paid payment members.now) → HasRows index.old rows → HasRows index.new (with_made (accounts index.new) rows order (paid payment members.now))) }
     ensures has { OnOk result (HasTexts (accounts index.new) (paid payment members.now)) }
     ensures texts { Grows (accounts index.old) (accounts index.new) }
+    ensures stays { Stays index.old index.new }
     ensures steps { OnOk result (steps.new ≤ steps.old + 5 * length (paid payment members.now)) }
     ensures others { ⟦<SIndex as Tables<SourceRows>>⟧.others index.new ≡ ⟦<SIndex as Tables<SourceRows>>⟧.others index.old }
     ensures count { ⟦<SIndex as Tables<SourceRows>>⟧.count index.new + steps.old ≤ ⟦<SIndex as Tables<SourceRows>>⟧.count index.old + steps.new }
@@ -73,6 +74,7 @@ pub fn spend_and_make<L: StepBook>(
     ensures at { OnOk result ((c : Chain) → IsWritten c block.now time payment members.now made → Fits (accounts index.old) c → HasRows index.old (sources_left (accounts index.old) c) → HasRows index.new (sources_before_clearing (accounts index.new) c block.now)) }
     ensures fits { OnOk result ((c : Chain) → IsWritten c block.now time payment members.now made → Fits (accounts index.old) c → Fits (accounts index.new) (block.now ∷ c)) }
     ensures texts { Grows (accounts index.old) (accounts index.new) }
+    ensures stays { Stays index.old index.new }
     ensures steps { OnOk result (steps.new ≤ steps.old + 5 * (length (flat_map (records_of time block.now.currency) block.now.transactions) + length (paid payment members.now))) }
     ensures others { ⟦<SIndex as Tables<SourceRows>>⟧.others index.new ≡ ⟦<SIndex as Tables<SourceRows>>⟧.others index.old }
     ensures count { ⟦<SIndex as Tables<SourceRows>>⟧.count index.new + steps.old ≤ ⟦<SIndex as Tables<SourceRows>>⟧.count index.old + steps.new }
@@ -95,6 +97,7 @@ pub fn clear_block<L: StepBook>(
     ensures at { OnOk result ((c : Chain) (b : BlockValue) → IsCleared c b limit (accounts index.old) → HasRows index.old (sources_before_clearing (accounts index.old) c b) → ⟦<SIndex as Tables<SourceRows>>⟧.at index.new (states (sources_left (accounts index.new)) (b ∷ c))) }
     ensures taken { IfOk result (λ taken. (c : Chain) (b : BlockValue) → IsCleared c b limit (accounts index.old) → HasRows index.old (sources_before_clearing (accounts index.old) c b) → map clear_record taken.items ≡ clearing_records c b) }
     ensures texts { accounts index.new ≡ accounts index.old }
+    ensures stays { Stays index.old index.new }
     ensures steps { IfOk result (λ taken. steps.new ≤ steps.old + 5 * length taken.items) }
     ensures others { ⟦<SIndex as Tables<SourceRows>>⟧.others index.new ≡ ⟦<SIndex as Tables<SourceRows>>⟧.others index.old }
     ensures count { ⟦<SIndex as Tables<SourceRows>>⟧.count index.new + steps.old ≤ ⟦<SIndex as Tables<SourceRows>>⟧.count index.old + steps.new }

@@ -2,7 +2,7 @@ ghost use Rattle.std.specs.Prelude.{◌≡◌, ◌+◌, ◌*◌, ◌<◌, ◌≤
 ghost use Rattle.dubp_sindex.specs.Accounts.{accounts as texts};
 ghost use Rattle.dubp_sindex.specs.Rows.{Entry, AreRows, is_of, of_account, units_in};
 ghost use Rattle.dubp_money_steps.specs.Clearing.{HasEnough, kept, taken as cleared, clear_record};
-ghost use Rattle.dubp_money.specs.Index.{HasRows};
+ghost use Rattle.dubp_money.specs.Index.{HasRows, Stays};
 ghost use Rattle.dubp_money.specs.Writing.{AreCleared};
 
 use crate::spending::spend_source;
@@ -40,6 +40,7 @@ fn take_account<L: StepBook>(
     ensures others { ⟦<SIndex as Tables<SourceRows>>⟧.others index.new ≡ ⟦<SIndex as Tables<SourceRows>>⟧.others index.old }
     ensures count { ⟦<SIndex as Tables<SourceRows>>⟧.count index.new + steps.old ≤ ⟦<SIndex as Tables<SourceRows>>⟧.count index.old + steps.new }
     ensures texts { texts index.new ≡ texts index.old }
+    ensures stays { Stays index.old index.new }
 {
     let found = index.sources(alloc, account)?;
     for entry in &found {
@@ -83,6 +84,7 @@ fn take_little<L: StepBook>(
     ensures others { ⟦<SIndex as Tables<SourceRows>>⟧.others index.new ≡ ⟦<SIndex as Tables<SourceRows>>⟧.others index.old }
     ensures count { ⟦<SIndex as Tables<SourceRows>>⟧.count index.new + steps.old ≤ ⟦<SIndex as Tables<SourceRows>>⟧.count index.old + steps.new }
     ensures texts { texts index.new ≡ texts index.old }
+    ensures stays { Stays index.old index.new }
 {
     let mut taken = Vec::new(alloc);
     // what the index has is no value, so no measure speaks of it; there are fewer accounts than turns
@@ -111,6 +113,7 @@ pub fn clear_accounts<L: StepBook>(
     ensures others { ⟦<SIndex as Tables<SourceRows>>⟧.others index.new ≡ ⟦<SIndex as Tables<SourceRows>>⟧.others index.old }
     ensures count { ⟦<SIndex as Tables<SourceRows>>⟧.count index.new + steps.old ≤ ⟦<SIndex as Tables<SourceRows>>⟧.count index.old + steps.new }
     ensures texts { texts index.new ≡ texts index.old }
+    ensures stays { Stays index.old index.new }
 {
     let mut taken = take_little(index, alloc, limit, steps)?;
     taken.sort_unstable_by_key(|entry| entry.1.order);

@@ -10,7 +10,7 @@ ghost use Rattle.dubp_sindex.specs.Accounts.{accounts};
 ghost use Rattle.dubp_sindex.specs.Rows.{Entry, AreRows, IsNewRow};
 ghost use Rattle.dubp_sindex.specs.Numbering.{signed_text};
 ghost use Rattle.dubp_money_steps.specs.Left.{account_in, entry_of, HasTexts};
-ghost use Rattle.dubp_money.specs.Index.{HasRows};
+ghost use Rattle.dubp_money.specs.Index.{HasRows, Stays};
 ghost use Rattle.dubp_money.specs.Texts.{Grows};
 ghost use Rattle.dubp_money.specs.Making.{outputs_at, CanFollow, with_made, source_of};
 
@@ -58,6 +58,7 @@ fn make_source<L: StepBook>(
     ensures at { OnOk result ((rows : List Entry) → AreRows rows → HasRows index.old rows → IsNewRow rows (entry_of (account_in (accounts index.new)) (source.order, source_of source cond.now)) → HasRows index.new (rows ++ entry_of (account_in (accounts index.new)) (source.order, source_of source cond.now) ∷ [])) }
     ensures has { OnOk result (IsTrue (list_any (same_text (cond_text cond.now)) (accounts index.new))) }
     ensures texts { Grows (accounts index.old) (accounts index.new) }
+    ensures stays { Stays index.old index.new }
     ensures steps { OnOk result (steps.new ≤ steps.old + 5) }
     ensures others { ⟦<SIndex as Tables<SourceRows>>⟧.others index.new ≡ ⟦<SIndex as Tables<SourceRows>>⟧.others index.old }
     ensures count { ⟦<SIndex as Tables<SourceRows>>⟧.count index.new + steps.old ≤ ⟦<SIndex as Tables<SourceRows>>⟧.count index.old + steps.new }
@@ -77,6 +78,7 @@ pub(crate) fn make_signed<L: StepBook>(
     ensures at { OnOk result ((rows : List Entry) → AreRows rows → HasRows index.old rows → IsNewRow rows (entry_of (account_in (accounts index.new)) (source.order, source_of source (signed_by key.now))) → HasRows index.new (rows ++ entry_of (account_in (accounts index.new)) (source.order, source_of source (signed_by key.now)) ∷ [])) }
     ensures has { OnOk result (IsTrue (list_any (same_text (signed_text key.now)) (accounts index.new))) }
     ensures texts { Grows (accounts index.old) (accounts index.new) }
+    ensures stays { Stays index.old index.new }
     ensures steps { OnOk result (steps.new ≤ steps.old + 5) }
     ensures others { ⟦<SIndex as Tables<SourceRows>>⟧.others index.new ≡ ⟦<SIndex as Tables<SourceRows>>⟧.others index.old }
     ensures count { ⟦<SIndex as Tables<SourceRows>>⟧.count index.new + steps.old ≤ ⟦<SIndex as Tables<SourceRows>>⟧.count index.old + steps.new }
@@ -102,6 +104,7 @@ pub fn make_outputs<L: StepBook>(
     ensures at { OnOk result ((rows : List Entry) → AreRows rows → CanFollow rows order (outputs_at time hash.now tx.now) → HasRows index.old rows → HasRows index.new (with_made (accounts index.new) rows order (outputs_at time hash.now tx.now))) }
     ensures has { OnOk result (HasTexts (accounts index.new) (outputs_at time hash.now tx.now)) }
     ensures texts { Grows (accounts index.old) (accounts index.new) }
+    ensures stays { Stays index.old index.new }
     ensures steps { OnOk result (steps.new ≤ steps.old + 5 * length tx.now.outputs) }
     ensures others { ⟦<SIndex as Tables<SourceRows>>⟧.others index.new ≡ ⟦<SIndex as Tables<SourceRows>>⟧.others index.old }
     ensures count { ⟦<SIndex as Tables<SourceRows>>⟧.count index.new + steps.old ≤ ⟦<SIndex as Tables<SourceRows>>⟧.count index.old + steps.new }

@@ -5,7 +5,7 @@ ghost use Rattle.dubp_validity.specs.Records.{input_of};
 ghost use Rattle.dubp_sindex.specs.Accounts.{accounts};
 ghost use Rattle.dubp_sindex.specs.Rows.{Entry, AreRows};
 ghost use Rattle.dubp_money_steps.specs.Left.{HasTexts};
-ghost use Rattle.dubp_money.specs.Index.{HasRows};
+ghost use Rattle.dubp_money.specs.Index.{HasRows, Stays};
 ghost use Rattle.dubp_money.specs.Texts.{Grows};
 ghost use Rattle.dubp_money.specs.Making.{dividends_to, CanFollow, with_made};
 
@@ -41,6 +41,7 @@ pub fn pay_dividends<L: StepBook>(
     ensures at { OnOk result ((rows : List Entry) → AreRows rows → CanFollow rows order (dividends_to payment members.now) → HasRows index.old rows → HasRows index.new (with_made (accounts index.new) rows order (dividends_to payment members.now))) }
     ensures has { OnOk result (HasTexts (accounts index.new) (dividends_to payment members.now)) }
     ensures texts { Grows (accounts index.old) (accounts index.new) }
+    ensures stays { Stays index.old index.new }
     ensures steps { OnOk result (steps.new ≤ steps.old + 5 * length members.now) }
     ensures others { ⟦<SIndex as Tables<SourceRows>>⟧.others index.new ≡ ⟦<SIndex as Tables<SourceRows>>⟧.others index.old }
     ensures count { ⟦<SIndex as Tables<SourceRows>>⟧.count index.new + steps.old ≤ ⟦<SIndex as Tables<SourceRows>>⟧.count index.old + steps.new }

@@ -2,7 +2,7 @@ ghost use Rattle.std.specs.Prelude.{◌≡◌, ◌+◌, ◌*◌, ◌≤◌, ◌+
 ghost use Rattle.dubp_sindex.specs.Accounts.{accounts};
 ghost use Rattle.dubp_sindex.specs.Rows.{Entry, AreRows, without};
 ghost use Rattle.dubp_validity.specs.declared.record.Record.TheVariants.{Spend};
-ghost use Rattle.dubp_money.specs.Index.{HasRows};
+ghost use Rattle.dubp_money.specs.Index.{HasRows, Stays};
 ghost use Rattle.dubp_money.specs.Writing.{without_inputs};
 
 use dubp_atoms::{NoMemory, Steps};
@@ -23,6 +23,7 @@ pub(crate) fn spend_source<L: StepBook>(
     ensures others { ⟦<SIndex as Tables<SourceRows>>⟧.others index.new ≡ ⟦<SIndex as Tables<SourceRows>>⟧.others index.old }
     ensures count { ⟦<SIndex as Tables<SourceRows>>⟧.count index.new + steps.old ≤ ⟦<SIndex as Tables<SourceRows>>⟧.count index.old + steps.new }
     ensures accounts { accounts index.new ≡ accounts index.old }
+    ensures stays { Stays index.old index.new }
 {
     index.spend(id, steps)?;
     Ok(())
@@ -41,6 +42,7 @@ pub fn spend_inputs<L: StepBook>(
     ensures others { ⟦<SIndex as Tables<SourceRows>>⟧.others index.new ≡ ⟦<SIndex as Tables<SourceRows>>⟧.others index.old }
     ensures count { ⟦<SIndex as Tables<SourceRows>>⟧.count index.new + steps.old ≤ ⟦<SIndex as Tables<SourceRows>>⟧.count index.old + steps.new }
     ensures accounts { accounts index.new ≡ accounts index.old }
+    ensures stays { Stays index.old index.new }
 {
     for input in tx.inputs.as_slice() {
         spend_source(index, input.source, steps)?;

@@ -7,7 +7,7 @@ ghost use Rattle.dubp_chain.specs.Money.{hashes_in};
 ghost use Rattle.dubp_sindex.specs.Accounts.{accounts};
 ghost use Rattle.dubp_sindex.specs.Rows.{Entry, AreRows};
 ghost use Rattle.dubp_money_steps.specs.Left.{HasTexts};
-ghost use Rattle.dubp_money.specs.Index.{HasRows};
+ghost use Rattle.dubp_money.specs.Index.{HasRows, Stays};
 ghost use Rattle.dubp_money.specs.Texts.{Grows};
 ghost use Rattle.dubp_money.specs.Writing.{without_inputs};
 ghost use Rattle.dubp_money.specs.Making.{outputs_at, CanFollow, with_made};
@@ -40,6 +40,7 @@ pub fn write_transaction<L: StepBook>(
     ensures at { OnOk result ((rows : List Entry) → AreRows rows → CanFollow (without_inputs tx.now.inputs rows) order (outputs_at time hash.now tx.now) → HasRows index.old rows → HasRows index.new (with_made (accounts index.new) (without_inputs tx.now.inputs rows) order (outputs_at time hash.now tx.now))) }
     ensures has { OnOk result (HasTexts (accounts index.new) (outputs_at time hash.now tx.now)) }
     ensures texts { Grows (accounts index.old) (accounts index.new) }
+    ensures stays { Stays index.old index.new }
     ensures steps { OnOk result (steps.new ≤ steps.old + 5 * (length tx.now.inputs + length tx.now.outputs)) }
     ensures others { ⟦<SIndex as Tables<SourceRows>>⟧.others index.new ≡ ⟦<SIndex as Tables<SourceRows>>⟧.others index.old }
     ensures count { ⟦<SIndex as Tables<SourceRows>>⟧.count index.new + steps.old ≤ ⟦<SIndex as Tables<SourceRows>>⟧.count index.old + steps.new }
@@ -68,6 +69,7 @@ pub fn write_transactions<L: StepBook>(
     ensures order { IfOk result (λ n. order + length (all_outputs time block.now.currency block.now.transactions) ≤ 2 ^ 63 → n ≡ order + length (all_outputs time block.now.currency block.now.transactions)) }
     ensures has { OnOk result (HasTexts (accounts index.new) (all_outputs time block.now.currency block.now.transactions)) }
     ensures texts { Grows (accounts index.old) (accounts index.new) }
+    ensures stays { Stays index.old index.new }
     ensures steps { OnOk result (steps.new ≤ steps.old + 5 * length (flat_map (records_of time block.now.currency) block.now.transactions)) }
     ensures others { ⟦<SIndex as Tables<SourceRows>>⟧.others index.new ≡ ⟦<SIndex as Tables<SourceRows>>⟧.others index.old }
     ensures count { ⟦<SIndex as Tables<SourceRows>>⟧.count index.new + steps.old ≤ ⟦<SIndex as Tables<SourceRows>>⟧.count index.old + steps.new }

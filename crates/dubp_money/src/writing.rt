@@ -9,7 +9,7 @@ ghost use Rattle.dubp_sindex.specs.Accounts.{accounts};
 ghost use Rattle.dubp_money_steps.specs.Steps.{cleared_units_by};
 ghost use Rattle.dubp_money_steps.specs.Clearing.{clear_record};
 ghost use Rattle.dubp_validity.specs.Records.{clearing_records};
-ghost use Rattle.dubp_money.specs.Index.{StandsFor};
+ghost use Rattle.dubp_money.specs.Index.{StandsFor, Stays};
 ghost use Rattle.dubp_money.specs.Texts.{Grows};
 ghost use Rattle.dubp_money.specs.Blocks.{paid};
 ghost use Rattle.dubp_money.specs.Tables.{totals_of};
@@ -79,6 +79,7 @@ fn write_index<L: StepBook>(
     ensures taken { IfOk result (λ w. (c : Chain) → Follows c block.now head.now members.now made → StandsFor index.old c → map clear_record w.taken.items ≡ clearing_records c block.now) }
     ensures steps { OnOk result ((c : Chain) → Follows c block.now head.now members.now made → StandsFor index.old c → steps.new ≤ steps.old + 5 * length (money_records c block.now)) }
     ensures texts { Grows (accounts index.old) (accounts index.new) }
+    ensures stays { Stays index.old index.new }
     ensures others { ⟦<SIndex as Tables<SourceRows>>⟧.others index.new ≡ ⟦<SIndex as Tables<SourceRows>>⟧.others index.old }
     ensures count { ⟦<SIndex as Tables<SourceRows>>⟧.count index.new + steps.old ≤ ⟦<SIndex as Tables<SourceRows>>⟧.count index.old + steps.new }
 {

@@ -48,3 +48,9 @@ returns-clause-fits g c = λ chain w fits.
 
 pub returns-clause-texts : goal.returns-clause-texts
 returns-clause-texts g c = grows_on (accounts c.args.index.now) (accounts c.write_transactions.new.index) (accounts c.pay.new.index) c.in_ok-behind.ensures.texts c.in_ok-pay.ensures.texts
+
+pub returns-in_err-pay-clause-stays : goal.returns-in_err-pay-clause-stays
+returns-in_err-pay-clause-stays g c = λ n s is. c.in_err-pay.ensures.stays n s (c.in_ok-behind.ensures.stays n s is)
+
+pub returns-clause-stays : goal.returns-clause-stays
+returns-clause-stays g c = λ n s is. c.in_ok-pay.ensures.stays n s (c.in_ok-behind.ensures.stays n s is)

@@ -12,6 +12,7 @@ loop-entry-init g c = record {
   counted = omega arith;
   steps = omega arith;
   texts = refl;
+  stays = λ n s is. is;
   others = refl;
   count = omega arith;
 }
@@ -27,6 +28,7 @@ loop-entry-preserved g c = record {
   counted = omega (arith, ap length c.in_ok-put_entry.ensures.appended, length-append c.loop-entry.taken.items (c.entry-item.result ∷ []), c.loop-entry.invariant.counted);
   steps = omega (arith, c.in_ok-spend_source.ensures.steps, c.loop-entry.invariant.steps);
   texts = c.in_ok-spend_source.ensures.accounts ∙ c.loop-entry.invariant.texts;
+  stays = λ n s is. c.in_ok-spend_source.ensures.stays n s (c.loop-entry.invariant.stays n s is);
   others = c.in_ok-spend_source.ensures.others ∙ c.loop-entry.invariant.others;
   count = omega (arith, c.in_ok-spend_source.ensures.count, c.loop-entry.invariant.count);
 }
@@ -40,3 +42,9 @@ pub returns-clause-taken : goal.returns-clause-taken
 returns-clause-taken g c = λ rows are has.
     c.loop-entry.invariant.taken
     ∙ ap (λ l. c.args.taken.now.items ++ l) (take_all c.loop-entry.entry-index c.deref-entry-items.result.now (omega arith) ∙ (c.deref-entry-items.ensures.value ∙ c.in_ok-found.ensures (rows ∷ []) has are))
+
+pub returns-in_err-spend_source-clause-stays : goal.returns-in_err-spend_source-clause-stays
+returns-in_err-spend_source-clause-stays g c = λ n s is. c.in_err-spend_source.ensures.stays n s (c.loop-entry.invariant.stays n s is)
+
+pub returns-in_err-put_entry-clause-stays : goal.returns-in_err-put_entry-clause-stays
+returns-in_err-put_entry-clause-stays g c = λ n s is. c.in_ok-spend_source.ensures.stays n s (c.loop-entry.invariant.stays n s is)

@@ -17,6 +17,7 @@ loop-output-init g c = record {
   texts = grows_none (accounts c.args.index.now);
   place = omega arith;
   steps = omega arith;
+  stays = λ n s is. is;
   others = refl;
   count = omega arith;
 }
@@ -48,6 +49,7 @@ loop-output-preserved g c =
       texts = grows_on (accounts c.args.index.now) texts texts' c.loop-output.invariant.texts c.in_ok-make_source.ensures.texts;
       place = omega (arith, place);
       steps = omega (arith, c.in_ok-make_source.ensures.steps, c.loop-output.invariant.steps);
+      stays = λ n s is. c.in_ok-make_source.ensures.stays n s (c.loop-output.invariant.stays n s is);
       others = c.in_ok-make_source.ensures.others ∙ c.loop-output.invariant.others;
       count = omega (arith, c.in_ok-make_source.ensures.count, c.loop-output.invariant.count);
     }
@@ -61,3 +63,6 @@ returns-clause-at g c = λ rows are can has.
 pub returns-clause-has : goal.returns-clause-has
 returns-clause-has g c =
     subst (HasTexts (accounts c.loop-output.index)) (outputs_all c.args.time c.args.hash.now c.args.tx.now.outputs c.loop-output.output-index (omega (arith, ap length c.as_slice-output-items.ensures))) c.loop-output.invariant.has
+
+pub returns-in_err-make_source-clause-stays : goal.returns-in_err-make_source-clause-stays
+returns-in_err-make_source-clause-stays g c = λ n s is. c.in_err-make_source.ensures.stays n s (c.loop-output.invariant.stays n s is)

@@ -20,3 +20,9 @@ pub returns-clause-has : goal.returns-clause-has
 returns-clause-has g c =
     let text = signed_text c.args.key.now in
     subst (λ l. list_any (same_text text) l ≡ true) (sym (c.in_ok-make.ensures.accounts ∙ c.in_ok-account.ensures.accounts)) (has_text (accounts c.args.index.now) text)
+
+pub returns-in_err-make-clause-stays : goal.returns-in_err-make-clause-stays
+returns-in_err-make-clause-stays g c = λ n s is. c.in_err-make.ensures.stays n s (c.in_ok-account.ensures.stays n s is)
+
+pub returns-clause-stays : goal.returns-clause-stays
+returns-clause-stays g c = λ n s is. c.in_ok-make.ensures.stays n s (c.in_ok-account.ensures.stays n s is)

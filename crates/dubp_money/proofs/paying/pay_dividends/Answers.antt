@@ -21,6 +21,7 @@ loop-key-init g c = record {
   texts = grows_none (accounts c.args.index.now);
   place = omega arith;
   steps = omega arith;
+  stays = λ n s is. is;
   others = refl;
   count = omega arith;
 }
@@ -52,6 +53,10 @@ loop-key-preserved g c =
       texts = grows_on (accounts c.args.index.now) texts texts' c.loop-key.invariant.texts c.in_ok-make_signed.ensures.texts;
       place = omega (arith, place);
       steps = omega (arith, c.in_ok-make_signed.ensures.steps, c.loop-key.invariant.steps);
+      stays = λ n s is. c.in_ok-make_signed.ensures.stays n s (c.loop-key.invariant.stays n s is);
       others = c.in_ok-make_signed.ensures.others ∙ c.loop-key.invariant.others;
       count = omega (arith, c.in_ok-make_signed.ensures.count, c.loop-key.invariant.count);
     }
+
+pub returns-in_err-make_signed-clause-stays : goal.returns-in_err-make_signed-clause-stays
+returns-in_err-make_signed-clause-stays g c = λ n s is. c.in_err-make_signed.ensures.stays n s (c.loop-key.invariant.stays n s is)

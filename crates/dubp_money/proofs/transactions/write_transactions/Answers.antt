@@ -21,6 +21,7 @@ loop-i-init g c = record {
   texts = grows_none (accounts c.args.index.now);
   place = λ few. omega arith;
   steps = omega arith;
+  stays = λ n s is. is;
   others = refl;
   count = omega arith;
 }
@@ -61,6 +62,10 @@ loop-i-preserved g c =
           let was = c.loop-i.invariant.place (omega (arith, few, counted)) in
           omega (arith, few, counted, was, c.len.ensures, c.place_behind-place.ensures (omega (arith, few, counted, was, c.len.ensures)));
       steps = omega (arith, counted, c.in_ok-write_transaction.ensures.steps, c.loop-i.invariant.steps);
+      stays = λ n s is. c.in_ok-write_transaction.ensures.stays n s (c.loop-i.invariant.stays n s is);
       others = c.in_ok-write_transaction.ensures.others ∙ c.loop-i.invariant.others;
       count = omega (arith, c.in_ok-write_transaction.ensures.count, c.loop-i.invariant.count);
     }
+
+pub returns-in_err-write_transaction-clause-stays : goal.returns-in_err-write_transaction-clause-stays
+returns-in_err-write_transaction-clause-stays g c = λ n s is. c.in_err-write_transaction.ensures.stays n s (c.loop-i.invariant.stays n s is)

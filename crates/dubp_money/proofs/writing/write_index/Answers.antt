@@ -72,3 +72,9 @@ pub returns-clause-texts : goal.returns-clause-texts
 returns-clause-texts g c =
     grows_on (accounts c.args.index.now) (accounts c.spend_and_make.new.index) (accounts c.clear_block.new.index) c.in_ok-spend_and_make.ensures.texts
     (grows_same (accounts c.spend_and_make.new.index) (accounts c.clear_block.new.index) c.in_ok-taken.ensures.texts)
+
+pub returns-in_err-taken-clause-stays : goal.returns-in_err-taken-clause-stays
+returns-in_err-taken-clause-stays g c = λ n s is. c.in_err-taken.ensures.stays n s (c.in_ok-spend_and_make.ensures.stays n s is)
+
+pub returns-clause-stays : goal.returns-clause-stays
+returns-clause-stays g c = λ n s is. c.in_ok-taken.ensures.stays n s (c.in_ok-spend_and_make.ensures.stays n s is)
