@@ -1,5 +1,5 @@
 -- The next of some keys, in the order of the bytes of their texts. Protocol: distance.
-use Rattle.std.specs.Prelude.{◌≡◌, Bool, true, false, IsTrue, Option, Some, None, IsSome, MatchOption}
+use Rattle.std.specs.Prelude.{◌≡◌, Bool, true, false, IsTrue, List, [], ◌∷◌, Option, Some, None, IsSome, MatchOption}
 use Rattle.std.specs.Ordering.{is_lt}
 use Rattle.std.specs.FinMap.{get}
 use Rattle.dubp_atoms.specs.Same.{Text}
@@ -20,6 +20,11 @@ IsNext P after answer =
     MatchOption answer
     ((a : Text) → P a → is_above after a ≡ false)
     (λ k. P k × (is_above after k ≡ true) × ((a : Text) → P a → is_above after a ≡ true → less a k ≡ false))
+
+-- all keys above `after` that have P, each the next behind the one before it
+abbrev pub AreNext : (Text → Type 0) → Option Text → List Text → Type 0
+AreNext P after [] = IsNext P after None
+AreNext P after (k ∷ keys) = IsNext P after (Some k) × AreNext P (Some k) keys
 
 -- the next member
 abbrev pub IsNextMember : Rows → Option Text → Option Text → Type 0
