@@ -44,10 +44,10 @@ loop-from-preserved c =
         before.begins.0 ++ _ ∷ [],
         begins-more c.args.issuers.now.items c.loop-from.issuers.items c.put.new.keys.items before.begins.0 _ c.in_ok-put.ensures.put before.begins.1,
         λ s by rest more.
-          next-more (λ (a : Text). Contains (live_pairs (newest empty s)) (a, c.args.to.now)) (other_of w.from) before.begins.0 _
-          (next-some (newest empty s) c.args.to.now w.map (λ k. ap (λ m. get place_cmp m k) before.over ∙ by k) (other_of w.from) _ (c.in-Some.ensures.follows (other_of w.from) before.from))
-          (before.begins.2 s by) rest
-          (subst (λ (o : Option Text). AreNextIssuers (live_pairs (newest empty s)) c.args.to.now o rest) (ap other_of c.in-Some.ensures.from) more),
+            next-more (λ (a : Text). Contains (live_pairs (newest empty s)) (a, c.args.to.now)) (other_of w.from) before.begins.0 _
+            (next-some (newest empty s) c.args.to.now w.map (λ k. ap (λ m. get place_cmp m k) before.over ∙ by k) (other_of w.from) _ (c.in-Some.ensures.follows (other_of w.from) before.from))
+            (before.begins.2 s by) rest
+            (subst (λ (o : Option Text). AreNextIssuers (live_pairs (newest empty s)) c.args.to.now o rest) (ap other_of c.in-Some.ensures.from) more),
       );
     }
 
