@@ -14,7 +14,7 @@ use Rattle.dubp_iindex.specs.Order as index
 use Rattle.dubp_registry.specs.OfLeft.{identities_left}
 use Rattle.dubp_registry.proofs.Followed.{members-shown}
 use Rattle.dubp_iindex.proofs.Members.{members-in_order}
-use Rattle.dubp_wot.specs.Order.{IsInOrder, IsNextMember, IsNextIssuer}
+use Rattle.dubp_wot.specs.Order.{IsInOrder, IsNextMember, IsNextIssuer, AreNextIssuers}
 use Rattle.dubp_wot.proofs.Members.{Contains-cases, Contains-there, Contains-none}
 
 contains_by : {X : Type 0} (test : X → Bool) (x : X) → ((y : X) → test y ≡ true → x ≡ y) → (xs : List X) → list_any test xs ≡ true → Contains xs x
@@ -91,6 +91,10 @@ module _ (c : Chain) (pairs : List (Text × Text)) (is : pairs ≡ live_pairs c)
   next_issuer_told None (Some k) h = (pair_listed k h.0, h.1, λ a there above. h.2 a (listed_pair a there) above)
   next_issuer_told (Some j) None h = λ a there. h a (listed_pair a there)
   next_issuer_told (Some j) (Some k) h = (pair_listed k h.0, h.1, λ a there above. h.2 a (listed_pair a there) above)
+
+  pub issuers_told : (after : Option Text) (found : List Text) → index.AreNext (λ a. IsTrue (live c a to)) after found → AreNextIssuers pairs to after found
+  issuers_told after [] h = next_issuer_told after None h
+  issuers_told after (k ∷ found) h = (next_issuer_told after (Some k) h.0, issuers_told (Some k) found h.1)
 
 -- the members stand in order
 pub members_rise : (c : Chain) → IsSound c → IsInOrder (members c)

@@ -4,11 +4,12 @@ ghost use Rattle.dubp_chain.specs.Members.{members};
 ghost use Rattle.dubp_chain.specs.Live.{live_pairs};
 ghost use Rattle.dubp_registry.specs.OfValidity.{IsSound};
 
-use dubp_atoms::{Key, Secret};
+use dubp_atoms::{Key, NoMemory, Secret};
 use dubp_block::Block;
 use dubp_registry::Registry;
 use dubp_undo::Tables;
 use dubp_wot::Web;
+use std::alloc::Global;
 
 /// The members of the chain of a registry and its live certifications, as a web.
 #[derive(Drop)]
@@ -33,6 +34,11 @@ impl<'a> Web for Standing<'a> {
 
     fn next_issuer(&self, to: Key, after: Option<Key>) -> Option<Key> {
         self.registry.next_issuer(to, after)
+    }
+
+    fn issuers(&self, alloc: Global, to: Key) -> Result<Vec<Key>, NoMemory> {
+        let keys = self.registry.issuers(alloc, to)?;
+        Ok(keys)
     }
 
     fn stock(&self, key: &Key) -> u64 {

@@ -11,7 +11,8 @@ use Rattle.dubp_left.specs.OfChain.{members as members_of}
 use Rattle.dubp_left.specs.OfChain.{member}
 use Rattle.dubp_left.specs.OfChain.{live}
 use Rattle.dubp_left.specs.OfFacts.{IsSound}
-use Rattle.dubp_iindex.specs.Order.{IsNext}
+use Rattle.dubp_iindex.specs.Order.{IsNext, AreNext}
+use Rattle.dubp_cindex.specs.Orders as certifications
 use Rattle.dubp_left.specs.OfChain.{CertificationRow, certification_row}
 use Rattle.dubp_left.proofs.OfLists.{IsIn, in_any, any_in}
 use Rattle.dubp_left.proofs.OfLists.{same_text_is, same_text_own}
@@ -28,6 +29,11 @@ use Rattle.dubp_left.proofs.Looked.{member-look}
 pub next-same : (P Q : Text → Type 0) → ((a : Text) → P a → Q a) → ((a : Text) → Q a → P a) → (after result : Option Text) → IsNext P after result → IsNext Q after result
 next-same P Q there back after None h = λ a q. h a (back a q)
 next-same P Q there back after (Some k) h = (there k h.0, h.1, λ a q. h.2 a (back a q))
+
+-- and all of them, in order
+pub all-same : (P Q : Text → Type 0) → ((a : Text) → P a → Q a) → ((a : Text) → Q a → P a) → (after : Option Text) (keys : List Text) → certifications.AreNext P after keys → AreNext Q after keys
+all-same P Q there back after [] none = next-same P Q there back after None none
+all-same P Q there back after (k ∷ keys) is = (next-same P Q there back after (Some k) is.0, all-same P Q there back (Some k) keys is.1)
 
 same_truth : (a b : Bool) → (a ≡ true → b ≡ true) → (b ≡ true → a ≡ true) → a ≡ b
 same_truth true b f g = sym (f refl)

@@ -1,4 +1,4 @@
-ghost use Rattle.std.specs.Prelude.{◌≡◌, ◌↔◌, IsTrue, ℕ, Option, is_some, length, map, IfSome, IfNone};
+ghost use Rattle.std.specs.Prelude.{◌≡◌, ◌↔◌, IsTrue, ℕ, Option, None, is_some, length, map, IfOk, IfSome, IfNone};
 ghost use Rattle.dubp_atoms.specs.Same.{Text};
 ghost use Rattle.dubp_left.specs.OfChain.{Block as BlockValue};
 ghost use Rattle.dubp_left.specs.OfChain.{names};
@@ -9,20 +9,21 @@ ghost use Rattle.dubp_left.specs.OfChain.{identity_lines, leaving, revoked};
 ghost use Rattle.dubp_left.specs.OfChain.{live, received, stock, wrote};
 ghost use Rattle.dubp_left.specs.OfChain.{is_to_be_excluded};
 ghost use Rattle.dubp_left.specs.OfFacts.{IsSound};
-ghost use Rattle.dubp_iindex.specs.Order.{IsNext};
+ghost use Rattle.dubp_iindex.specs.Order.{IsNext, AreNext};
 ghost use Rattle.dubp_expiry.specs.Entries.{IsBehind, IsNextDue, NoneIsDue};
 ghost use Rattle.dubp_left.specs.OfFacts.{first_at};
 ghost use Rattle.dubp_left.specs.Laws.{time_numbered};
 ghost use Rattle.dubp_left.specs.Left.{identity_left, membership_left, certification_left, queue_left};
 
 use crate::registry::Registry;
-use dubp_atoms::{Key, Stamp, Uid};
+use dubp_atoms::{Key, NoMemory, Stamp, Uid};
 use dubp_cindex::CertRow;
 use dubp_expiry::{Behind, Due};
 use dubp_iindex::IdentityRow;
 use dubp_left::{Block, CertLine, First};
 use dubp_mindex::MemberRow;
 use dubp_undo::Tables;
+use std::alloc::Global;
 
 impl Registry {
     /// The identity of the key, or None where it has none.
@@ -136,6 +137,15 @@ impl Registry {
         ensures { (c : Chain) → ⟦<Registry as Tables<Block>>⟧.at self.now c → IsNext (λ a. IsTrue (live c a to)) after result }
     {
         self.cindex().next_received(to, after)
+    }
+
+    /// All keys from whom the key has a live certification, in the order of their texts. `NoMemory` where there is none for the list.
+    pub fn issuers(&self, alloc: Global, to: Key) -> Result<Vec<Key>, NoMemory>
+        ensures { IfOk result (λ keys. (c : Chain) → ⟦<Registry as Tables<Block>>⟧.at self.now c → AreNext (λ a. IsTrue (live c a to)) None keys.items) }
+    {
+        let mut keys = Vec::new(alloc);
+        self.cindex().put_issuers(&mut keys, &to)?;
+        Ok(keys)
     }
 
     /// The first entry of the queue behind the place, where its time, in seconds, is at most `now`. None where there is none.
