@@ -5,7 +5,7 @@
 //! condition. `specs/Tallies` says how far a tally is the account that `dubp_moves` defines. Protocol: statements.
 //!
 //! ```text
-//! let mut tally = Tally::new(alloc);
+//! let mut tally = Tally::new(alloc, secret);
 //! add_block(&mut tally, b"SIG(4tsFXtKofD6jK8zwLymgXWAoMBzhFx7KNANhtK86mKzA)", &block, &head, &left)?;
 //! let moves = tally.into_moves();
 //! ```

@@ -7,7 +7,7 @@ ghost use Rattle.dubp_chain.specs.OfCond.{SourceId as SourceIdValue};
 ghost use Rattle.dubp_replay.specs.OfMoves.{Account, balance_behind, no_account, with_gone};
 ghost use Rattle.dubp_account.specs.Tallies.{AreNumbers, IsTallyOf, moves_of, with_move, with_source};
 
-use dubp_atoms::NoMemory;
+use dubp_atoms::{NoMemory, Secret};
 use dubp_cond::{Input, SourceId};
 use dubp_replay::{Kind, Move};
 use indexmap::IndexSet;
@@ -16,18 +16,18 @@ use std::alloc::Global;
 /// What is known of a condition's account so far: the names of its sources that were made, its moves, and the units behind the last.
 #[derive(Drop)]
 pub struct Tally {
-    names: IndexSet<SourceId>,
+    names: IndexSet<SourceId, Secret>,
     moves: Vec<Move>,
     balance: u128,
 }
 
 impl Tally {
-    /// That of an account without any move. It takes no memory.
-    pub fn new(alloc: Global) -> Tally
+    /// That of an account without any move. The secret is what the names of its sources are hashed by. It takes no memory.
+    pub fn new(alloc: Global, secret: Secret) -> Tally
         ensures { IsTallyOf no_account result }
     {
         Tally {
-            names: IndexSet::new(alloc),
+            names: IndexSet::with_hasher(alloc, secret),
             moves: Vec::new(alloc),
             balance: 0,
         }
@@ -94,7 +94,7 @@ fn push<T: Drop>(list: &mut Vec<T>, value: T) -> Result<(), NoMemory>
 }
 
 // One name more.
-fn insert(names: &mut IndexSet<SourceId>, source: SourceId) -> Result<(), NoMemory>
+fn insert(names: &mut IndexSet<SourceId, Secret>, source: SourceId) -> Result<(), NoMemory>
     ensures { OnOk result ((x : SourceIdValue) → list_any (λ name. same_source name x) names.new.keys ≡ (list_any (λ name. same_source name x) names.old.keys || same_source source x)) }
 {
     match names.insert(source) {
@@ -104,7 +104,7 @@ fn insert(names: &mut IndexSet<SourceId>, source: SourceId) -> Result<(), NoMemo
 }
 
 // Whether the source has one of the names.
-fn has(names: &IndexSet<SourceId>, source: &SourceId) -> bool
+fn has(names: &IndexSet<SourceId, Secret>, source: &SourceId) -> bool
     ensures { result ≡ list_any (λ name. same_source name source.now) names.now.keys }
 {
     names.contains(source)

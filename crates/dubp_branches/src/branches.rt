@@ -105,6 +105,11 @@ impl<T: PeopleAndMoney> Branches<T> {
         self.store.laws();
     }
 
+    /// What is hashed by whatever strangers choose.
+    pub fn secret(&self) -> Secret {
+        self.store.secret()
+    }
+
     /// How many blocks are stored: at most 1,024. It takes no memory.
     pub fn held(&self) -> usize
         ensures { result ≡ length self.now.store }

@@ -66,6 +66,11 @@ impl Store {
         }
     }
 
+    /// What the stamps of blocks are hashed by.
+    pub fn secret(&self) -> Secret {
+        *self.blocks.hasher()
+    }
+
     /// How many blocks are stored: at most 1,024. It takes no memory.
     pub fn held(&self) -> usize
         ensures { result ≡ length self.now }

@@ -8,26 +8,27 @@ ghost use Rattle.dubp_resolve.specs.Known.{AreOffers, IsFound, IsNumbered, heigh
 
 use crate::standing::find_heights;
 use crate::view::{Offered, View};
-use dubp_atoms::{NoMemory, Stamp};
+use dubp_atoms::{NoMemory, Secret, Stamp};
 use indexmap::IndexMap;
 use std::alloc::Global;
 
 /// The stored block to switch to: the candidate of greatest number, the first of those that were offered among equal ones. None exactly
 /// where there is no candidate.
 ///
-/// `NoMemory` where there is no room to find it.
-pub fn choose(alloc: Global, view: &View) -> Result<Option<Stamp>, NoMemory>
+/// The secret is what stamps are hashed by: who does not know it offers none that are slower to find than others. `NoMemory` where there is no room
+/// to find it.
+pub fn choose(alloc: Global, secret: Secret, view: &View) -> Result<Option<Stamp>, NoMemory>
     requires { AreOffers view.now.offers.items }
     ensures { IfOk result (λ chosen. chosen ≡ option_map (λ b. b.stamp) (choice (seen view.now))) }
 {
-    let heights = find_heights(alloc, view)?;
+    let heights = find_heights(alloc, secret, view)?;
     match best(view, &heights) {
         Some(block) => Ok(Some(block.stamp)),
         None => Ok(None),
     }
 }
 
-fn best(view: &View, heights: &IndexMap<Stamp, Option<u64>>) -> Option<Offered>
+fn best(view: &View, heights: &IndexMap<Stamp, Option<u64>, Secret>) -> Option<Offered>
     requires offers { AreOffers view.now.offers.items }
     requires heights { (s : StampValue) → get same_stamp heights.now s ≡ height_at (seen view.now) s }
     ensures { result ≡ choice (seen view.now) }
@@ -50,7 +51,11 @@ fn is_greater(block: &Offered, best: &Option<Offered>) -> bool
     }
 }
 
-fn is_candidate(view: &View, heights: &IndexMap<Stamp, Option<u64>>, block: &Offered) -> bool
+fn is_candidate(
+    view: &View,
+    heights: &IndexMap<Stamp, Option<u64>, Secret>,
+    block: &Offered,
+) -> bool
     requires offers { AreOffers view.now.offers.items }
     requires found { IsFound view.now.offers.items block.now }
     requires numbered { IsNumbered block.now }

@@ -5,7 +5,7 @@
 //! that was offered among equals. Its chapter is choice, of `docs/protocol`.
 //!
 //! ```text
-//! let chosen = choose(alloc, &view)?;
+//! let chosen = choose(alloc, secret, &view)?;
 //! ```
 #![tactic(auto)]
 

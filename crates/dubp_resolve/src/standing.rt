@@ -10,7 +10,7 @@ ghost use Rattle.dubp_resolve.specs.Known.{AreOffers, IsFound, IsNumbered, heigh
 
 use crate::gathering::gather;
 use crate::view::{Offered, View};
-use dubp_atoms::{NoMemory, Stamp};
+use dubp_atoms::{NoMemory, Secret, Stamp};
 use indexmap::{IndexMap, IndexSet};
 use std::alloc::Global;
 
@@ -19,15 +19,16 @@ use std::alloc::Global;
 /// The blocks are taken in the order of their numbers, so that each finds what is known of the one before by one look.
 pub(crate) fn find_heights(
     alloc: Global,
+    secret: Secret,
     view: &View,
-) -> Result<IndexMap<Stamp, Option<u64>>, NoMemory>
+) -> Result<IndexMap<Stamp, Option<u64>, Secret>, NoMemory>
     requires { AreOffers view.now.offers.items }
     ensures { IfOk result (λ heights. (s : StampValue) → get same_stamp heights s ≡ height_at (seen view.now) s) }
 {
-    let failed = gather(alloc, &view.failed)?;
-    let recent = gather(alloc, &view.recent)?;
+    let failed = gather(alloc, secret, &view.failed)?;
+    let recent = gather(alloc, secret, &view.recent)?;
     let blocks = sorted(alloc, &view.offers)?;
-    let mut heights = IndexMap::new(alloc);
+    let mut heights = IndexMap::with_hasher(alloc, secret);
     for block in &blocks {
         let height = height(view, &failed, &recent, &heights, block);
         note(&mut heights, block.stamp, height)?;
@@ -38,9 +39,9 @@ pub(crate) fn find_heights(
 /// How many blocks the chain has up to where the block's path ends, by what is known of the block before.
 fn height(
     view: &View,
-    failed: &IndexSet<Stamp>,
-    recent: &IndexSet<Stamp>,
-    heights: &IndexMap<Stamp, Option<u64>>,
+    failed: &IndexSet<Stamp, Secret>,
+    recent: &IndexSet<Stamp, Secret>,
+    heights: &IndexMap<Stamp, Option<u64>, Secret>,
     block: &Offered,
 ) -> Option<u64>
     requires failed { (s : StampValue) → contains same_stamp failed.now s ≡ is_among view.now.failed.items s }
@@ -63,7 +64,7 @@ fn height(
 }
 
 /// So many, where the stamp is among the recent ones, else None.
-fn height_on(recent: &IndexSet<Stamp>, stamp: Stamp, height: u64) -> Option<u64>
+fn height_on(recent: &IndexSet<Stamp, Secret>, stamp: Stamp, height: u64) -> Option<u64>
     ensures { result ≡ cond (contains same_stamp recent.now stamp) (Some height) None }
 {
     if recent.contains(&stamp) {
@@ -74,7 +75,7 @@ fn height_on(recent: &IndexSet<Stamp>, stamp: Stamp, height: u64) -> Option<u64>
 }
 
 fn note(
-    heights: &mut IndexMap<Stamp, Option<u64>>,
+    heights: &mut IndexMap<Stamp, Option<u64>, Secret>,
     stamp: Stamp,
     height: Option<u64>,
 ) -> Result<(), NoMemory>

@@ -22,7 +22,7 @@ pub(crate) fn find_tip<T: PeopleAndMoney>(
 {
     branches.laws();
     let view = see(alloc, branches, failures)?;
-    choose(alloc, &view)
+    choose(alloc, branches.secret(), &view)
 }
 
 /// What a choice depends on. Of the chain it has the stamps of the last blocks, one more than can be reversed.

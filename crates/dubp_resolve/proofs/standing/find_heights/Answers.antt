@@ -26,7 +26,7 @@ height-height-requires-clause-before c =
 pub loop-block-init : goal.loop-block-init
 loop-block-init c = record {
   order = in_order _ _ _ _ c.deref-3.ensures.value c.deref-block-items.ensures.value c.in_ok-blocks.ensures.permutation c.in_ok-blocks.ensures.ascending;
-  known = known_start _ _ _ (λ s. ap (lookup (same_stamp s)) c.new-heights.ensures.empty);
+  known = known_start _ _ _ (λ s. ap (lookup (same_stamp s)) c.with_hasher-heights.ensures.empty);
 }
 
 pub loop-block-preserved : goal.loop-block-preserved
