@@ -1,5 +1,5 @@
 -- The next of some keys: of those that either of two tests passes, and of those that a walk does not pass over.
-use Rattle.std.proofs.Common.{◌≡◌, ℕ, ◌+◌, ◌≤◌, ◌⊎◌, inl, inr, Bool, true, false, cond, ◌||◌, IsTrue, List, [], ◌∷◌, ◌++◌, Option, Some, None, filter, length, refl, sym, ap, subst, ◌∙◌, true≢false, arith}
+use Rattle.std.proofs.Common.{◌≡◌, ℕ, ◌+◌, ◌≤◌, ◌⊎◌, inl, inr, Bool, true, false, cond, ◌||◌, IsTrue, List, [], ◌∷◌, Option, Some, None, filter, length, refl, sym, ap, subst, ◌∙◌, true≢false, arith}
 use Rattle.std.specs.List.{list_any}
 use Rattle.std.specs.Option.{IfSome, IfNone}
 use Rattle.std.specs.BTreeMap.Range.{IsFromStart, IsLeBy}
@@ -9,10 +9,9 @@ use Rattle.std.specs.declared.cmp.Ordering.{Ordering}
 use Rattle.std.specs.declared.cmp.Ordering.TheVariants.{Less, Equal, Greater}
 use Rattle.std.specs.Cmp.Lexicographic.{nat_list_cmp_total}
 use Rattle.std.proofs.lemmas.List.Sums.{length-filter, count_by-le-length}
-use Rattle.std.proofs.lemmas.List.{append_assoc}
 use Rattle.dubp_atoms.specs.Same.{Text, same_text}
 use Rattle.dubp_iindex.specs.Rows.{texts}
-use Rattle.dubp_iindex.specs.Order.{less, is_above, IsNext, AreNext}
+use Rattle.dubp_iindex.specs.Order.{less, is_above, IsNext}
 use Rattle.dubp_lists.proofs.Elements.{or_true, IsIn, any_in}
 use Rattle.dubp_lists.proofs.InOrder.{same_text_is}
 use Rattle.dubp_wot.proofs.KeyOrder.{less-own, less-trans, less-meets, less-under, above-up}
@@ -35,17 +34,6 @@ not_less k q e = ap is_lt (nat_list_cmp_total.antisymm q k) ∙ by (texts k q) e
 pub next_same : (P Q : Text → Type 0) → ((k : Text) → P k → Q k) → ((k : Text) → Q k → P k) → (after answer : Option Text) → IsNext P after answer → IsNext Q after answer
 next_same P Q to from after None none = λ a q. none a (from a q)
 next_same P Q to from after (Some k) some = (to k some.0, some.1, λ a q above. some.2 a (from a q) above)
-
--- all of some keys are all of the same keys said otherwise
-pub all_same : (P Q : Text → Type 0) → ((k : Text) → P k → Q k) → ((k : Text) → Q k → P k) → (after : Option Text) (keys : List Text) → AreNext P after keys → AreNext Q after keys
-all_same P Q f g after [] none = next_same P Q f g after None none
-all_same P Q f g after (k ∷ keys) is = (next_same P Q f g after (Some k) is.0, all_same P Q f g (Some k) keys is.1)
-
--- one more was put
-pub next_more : (P : Text → Type 0) (after : Option Text) (some : List Text) (k : Text) → IsNext P after (Some k) → ((rest : List Text) → AreNext P after rest → AreNext P None (some ++ rest))
-    → (new : List Text) → new ≡ some ++ k ∷ [] → (rest : List Text) → AreNext P (Some k) rest → AreNext P None (new ++ rest)
-next_more P after some k next before new put rest more =
-    subst (λ xs. AreNext P None (xs ++ rest)) (sym put) (subst (AreNext P None) (sym (append_assoc some (k ∷ []) rest)) (before (k ∷ rest) (next, more)))
 
 -- ---- the first of a set from a bound on
 

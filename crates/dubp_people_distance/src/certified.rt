@@ -1,4 +1,4 @@
-ghost use Rattle.std.specs.Prelude.{◌≡◌, ◌∷◌, ◌++◌, [], None, true, false, cond, IfNone, IfOk, IfSome, IsTrue, OnOk};
+ghost use Rattle.std.specs.Prelude.{◌≡◌, ◌∷◌, true, false, cond, IfNone, IfOk, IfSome, IsTrue, OnOk};
 ghost use Rattle.std.specs.Ordering.{is_eq};
 ghost use Rattle.std.specs.BTreeMap.Range.{IsFromStart, IsLeBy};
 ghost use Rattle.std.specs.BTreeSet.{contains};
@@ -6,7 +6,7 @@ ghost use Rattle.indexmap.specs.IndexSet as hashed;
 ghost use Rattle.dubp_atoms.specs.Same.{Text, same_text};
 ghost use Rattle.dubp_block.specs.declared.block.Block.{Block as BlockValue};
 ghost use Rattle.dubp_chain.specs.Chains.{Chain};
-ghost use Rattle.dubp_iindex.specs.Order.{IsNext, AreNext};
+ghost use Rattle.dubp_iindex.specs.Order.{IsNext};
 ghost use Rattle.dubp_iindex.specs.Rows.{texts};
 ghost use Rattle.dubp_people_distance.specs.Certified.{IsCertified};
 
@@ -74,30 +74,6 @@ pub(crate) fn next_above(set: &BTreeSet<Key>, after: &Option<Key>) -> Option<Key
         None => first_from(set, Bound::Unbounded),
         Some(key) => first_from(set, Bound::Excluded(*key)),
     }
-}
-
-/// All keys of the set, in order.
-pub(crate) fn all_in_order(alloc: Global, set: &BTreeSet<Key>) -> Result<Vec<Key>, NoMemory>
-    ensures { IfOk result (λ keys. AreNext (λ k. IsTrue (contains texts set.now k)) None keys.items) }
-{
-    let mut keys = Vec::new(alloc);
-    let mut after = None;
-    // there are fewer keys than turns
-    'keys: for _ in 0..u64::MAX {
-        let Some(key) = next_above(set, &after) else {
-            return Ok(keys);
-        };
-        put(&mut keys, key)?;
-        after = Some(key);
-    }
-    Err(NoMemory)
-}
-
-/// Appends the key.
-fn put(keys: &mut Vec<Key>, key: Key) -> Result<(), NoMemory>
-    ensures { OnOk result (keys.new.items ≡ keys.old.items ++ key ∷ []) }
-{
-    keys.push(key).map_err(|_| NoMemory)
 }
 
 /// The least key of the set from a bound on.

@@ -10,7 +10,7 @@ ghost use Rattle.dubp_iindex.specs.Order.{IsNext};
 ghost use Rattle.dubp_iindex.specs.Rows.{texts};
 ghost use Rattle.dubp_people_distance.specs.Webs.{IsMade, IsWebOf};
 
-use crate::certified::{Certified, all_in_order, next_above};
+use crate::certified::{Certified, next_above};
 use crate::changed::changed_by;
 use crate::moved::{count_with, joined_by, left_by, next_staying};
 use crate::two_chains::TwoChains;
@@ -82,13 +82,6 @@ impl<'a, T: TwoChains> Web for NextWeb<'a, T> {
         match self.changed.get(&to) {
             Some(certified) => next_above(&certified.issuers, &after),
             None => self.chains.issuer_before(to, after),
-        }
-    }
-
-    fn issuers(&self, alloc: Global, to: Key) -> Result<Vec<Key>, NoMemory> {
-        match self.changed.get(&to) {
-            Some(certified) => all_in_order(alloc, &certified.issuers),
-            None => self.chains.issuers_before(alloc, to),
         }
     }
 

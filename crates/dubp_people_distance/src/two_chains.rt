@@ -1,10 +1,10 @@
-ghost use Rattle.std.specs.Prelude.{◌≡◌, ◌∷◌, None, IsTrue, length, IfOk, IfSome, IfNone};
+ghost use Rattle.std.specs.Prelude.{◌≡◌, ◌∷◌, IsTrue, length, IfOk, IfSome, IfNone};
 ghost use Rattle.dubp_block.specs.declared.block.Block.{Block as BlockValue};
 ghost use Rattle.dubp_chain.specs.Chains.{Chain, params};
 ghost use Rattle.dubp_chain.specs.Live.{live, received, stock};
 ghost use Rattle.dubp_chain.specs.Members.{member, members};
 ghost use Rattle.dubp_expiry.specs.Entries.{IsBehind, IsNextDue, NoneIsDue};
-ghost use Rattle.dubp_iindex.specs.Order.{IsNext, AreNext};
+ghost use Rattle.dubp_iindex.specs.Order.{IsNext};
 ghost use Rattle.dubp_people_after.specs.OfLeft.{queue_left};
 ghost use Rattle.dubp_people_after.specs.OfLeft.{IsAsked};
 ghost use Rattle.dubp_people_after.specs.OfSteps.{now_of};
@@ -20,7 +20,7 @@ use dubp_people_after::{After, Next, Registry, WithBlock};
 use dubp_undo::Tables;
 use std::alloc::Global;
 
-/// A chain, and the same chain with a block that stands to be judged on it. Only `issuers_before` and `certified` take memory.
+/// A chain, and the same chain with a block that stands to be judged on it. Only `certified` takes memory.
 pub(crate) trait TwoChains {
     /// `stand s c b`: the block b stands to be judged on the chain c, and s shows the people of c, and of c with b on it.
     ghost stand: { Self → Chain → BlockValue → Type 0 };
@@ -40,10 +40,6 @@ pub(crate) trait TwoChains {
     /// The least key above `after`, or the least of all, from whom the key has a live certification before the block.
     fn issuer_before(&self, to: Key, after: Option<Key>) -> Option<Key>
         ensures { (c : Chain) (b : BlockValue) → stand self.now c b → IsNext (λ a. IsTrue (live c a to)) after result };
-
-    /// All keys from whom the key has a live certification before the block, in order. `NoMemory` where there is none for the list.
-    fn issuers_before(&self, alloc: Global, to: Key) -> Result<Vec<Key>, NoMemory>
-        ensures { IfOk result (λ keys. (c : Chain) (b : BlockValue) → stand self.now c b → AreNext (λ a. IsTrue (live c a to)) None keys.items) };
 
     /// How many of the certifications that the key has issued are live before the block.
     fn stock_before(&self, key: Key) -> u64
@@ -100,11 +96,6 @@ impl<'a> TwoChains for Judged<'a> {
 
     fn issuer_before(&self, to: Key, after: Option<Key>) -> Option<Key> {
         self.registry.next_issuer(to, after)
-    }
-
-    fn issuers_before(&self, alloc: Global, to: Key) -> Result<Vec<Key>, NoMemory> {
-        let keys = self.registry.issuers(alloc, to)?;
-        Ok(keys)
     }
 
     fn stock_before(&self, key: Key) -> u64 {
