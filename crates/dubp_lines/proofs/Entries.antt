@@ -1,6 +1,6 @@
 -- Entries one after another keep what a reader keeps. How many there may be, the lines bound: `many` is the same for every bound
 -- above the number of lines.
-use Rattle.std.proofs.Common.{◌≡◌, ◌⊎◌, inl, inr, ℕ, zero, suc, ◌+◌, ◌<◌, ◌≤◌, Bool, true, false, cond, List, [], ◌∷◌, ◌++◌, length, Result, Ok, Err, refl, sym, ap, subst, ◌∙◌, append_assoc, append-nil, arith, length-append}
+use Rattle.std.proofs.Common.{◌≡◌, ◌⊎◌, inl, inr, ℕ, zero, suc, ◌<◌, Bool, true, false, cond, List, [], ◌∷◌, ◌++◌, length, Result, Ok, Err, refl, sym, ap, subst, ◌∙◌, append_assoc, append-nil, arith, length-append}
 use Rattle.std.specs.Prelude.{All, map}
 use Rattle.std.specs.List.{AllByRecursion, flat_map}
 use Rattle.std.proofs.lemmas.List.Concat.{flat_map-cons}
@@ -8,7 +8,7 @@ use Rattle.std.proofs.lemmas.List.Elements.{All-nil, All-cons, All-head, All-tai
 use Rattle.dubp_atoms.specs.Reading.{Lacks}
 use Rattle.dubp_lines.specs.Lines.{Place}
 use Rattle.dubp_lines.specs.Taking.{same_line}
-use Rattle.dubp_lines.specs.Readers.{Reader, go_on, and_then, gives, many, entries}
+use Rattle.dubp_lines.specs.Readers.{Reader, and_then, gives, many, entries}
 use Rattle.dubp_lines.proofs.Taken.{ok_is, same_text}
 use Rattle.dubp_lines.proofs.Readers.{Rows, Always, Reading, Refusal, Reads, Went, went, stopped, goes, halts, all_append}
 

@@ -1,5 +1,5 @@
 -- Loops that take lines or entries: what is taken so far stands before what is still read.
-use Rattle.std.proofs.Common.{◌≡◌, ℕ, zero, suc, ◌+◌, ◌-◌, ◌<◌, Bool, true, false, cond, List, [], ◌∷◌, ◌++◌, length, Option, Some, None, Result, Ok, Err, refl, sym, ap, subst, ◌∙◌, append_assoc, append-nil, arith}
+use Rattle.std.proofs.Common.{◌≡◌, ℕ, zero, suc, ◌<◌, Bool, true, false, cond, List, [], ◌∷◌, ◌++◌, length, Option, Some, None, Result, Ok, Err, refl, sym, ap, subst, ◌∙◌, append_assoc, append-nil, arith}
 use Rattle.dubp_lines.specs.Lines.{Place}
 use Rattle.dubp_lines.specs.Taking.{line_at, line_of, taken_or}
 use Rattle.dubp_lines.specs.Readers.{Reader, go_on, and_then, gives, rows, many, entries}

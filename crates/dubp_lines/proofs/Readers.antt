@@ -1,14 +1,14 @@
 -- What a reader keeps, from one place to the next. `Reads` says of a reader which values it reads and how each is spelled: what it
 -- reads is the spelling, and the spelling is read; where it refuses a line, the lines before begin the spelling of some value, and
 -- it looks at no line behind the refused one. One reader behind another keeps all of it (`behind_reads`, `then_reads`).
-use Rattle.std.proofs.Common.{◌≡◌, ◌⊎◌, inl, inr, ℕ, suc, Bool, true, false, cond, List, [], ◌∷◌, ◌++◌, length, Option, Some, None, Result, Ok, Err, refl, sym, ap, subst, ◌∙◌, append_assoc, append-nil, arith}
+use Rattle.std.proofs.Common.{◌≡◌, ◌⊎◌, inl, inr, ℕ, suc, Bool, true, false, cond, List, [], ◌∷◌, ◌++◌, length, Option, Some, None, Result, Ok, Err, refl, sym, ap, subst, ◌∙◌, append_assoc}
 use Rattle.std.specs.Prelude.{nat_lt, ◌||◌}
 use Rattle.std.specs.List.{AllByRecursion, list_all}
 use Rattle.dubp_atoms.specs.Reading.{Lacks}
 use Rattle.dubp_atoms.proofs.Fields.{Lacks-append}
 use Rattle.dubp_lines.specs.Lines.{Place}
-use Rattle.dubp_lines.specs.Taking.{line_at, named, just, taken_or, line_of, begins_with, next_passes, value_of, same_line}
-use Rattle.dubp_lines.specs.Readers.{Reader, go_on, and_then, gives, optional}
+use Rattle.dubp_lines.specs.Taking.{line_at, named, just, taken_or, line_of, same_line}
+use Rattle.dubp_lines.specs.Readers.{Reader, go_on, and_then, gives}
 use Rattle.dubp_lines.proofs.Taken.{ok_is, named_found, named_again, just_found, just_again, codes_lack}
 
 abbrev pub Rows : Type 0

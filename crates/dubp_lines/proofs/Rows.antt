@@ -1,16 +1,15 @@
 -- Readers of several lines or entries keep what a reader keeps.
-use Rattle.std.proofs.Common.{◌≡◌, ◌⊎◌, inl, inr, ℕ, zero, suc, ◌+◌, ◌<◌, ◌≤◌, Bool, true, false, cond, List, [], ◌∷◌, ◌++◌, length, Option, Some, None, Result, Ok, Err, refl, sym, ap, subst, ◌∙◌, append_assoc, append-nil, arith, length-append}
+use Rattle.std.proofs.Common.{◌≡◌, ℕ, zero, suc, Bool, true, false, cond, List, [], ◌∷◌, ◌++◌, length, Option, Some, None, Result, Ok, Err, refl, sym, ap, subst, ◌∙◌, append-nil, arith}
 use Rattle.std.specs.Prelude.{map, All}
-use Rattle.std.specs.List.{AllByRecursion, list_all}
+use Rattle.std.specs.List.{AllByRecursion}
 use Rattle.std.proofs.lemmas.List.{nil_from_length, take_at}
 use Rattle.std.proofs.lemmas.List.Elements.{All-nil, All-cons, All-head, All-tail}
-use Rattle.std.specs.Prelude.{nat_lt, ◌||◌}
 use Rattle.dubp_atoms.specs.Reading.{Lacks}
 use Rattle.dubp_lines.specs.Lines.{Place}
-use Rattle.dubp_lines.specs.Taking.{line_at, named, begins_with, next_passes, value_of}
-use Rattle.dubp_lines.specs.Readers.{Reader, go_on, and_then, gives, optional, rows, many, entries}
+use Rattle.dubp_lines.specs.Taking.{line_at, named, begins_with, next_passes}
+use Rattle.dubp_lines.specs.Readers.{Reader, go_on, and_then, gives, optional, rows}
 use Rattle.dubp_lines.proofs.Taken.{ok_is, cons_is, text_same}
-use Rattle.dubp_lines.proofs.Readers.{Rows, Always, Reading, Refusal, Reads, Went, went, stopped, goes, halts, all_append, behind_reads, then_reads, reads_as, spelled_as, gives_reads, IsSpelled, line_reads, err_moved}
+use Rattle.dubp_lines.proofs.Readers.{Rows, Always, Reading, Refusal, Reads, behind_reads, then_reads, reads_as, spelled_as, gives_reads, IsSpelled, line_reads, err_moved}
 
 -- ---- so many lines
 

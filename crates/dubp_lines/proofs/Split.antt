@@ -1,11 +1,9 @@
 -- A text in lines.
-use Rattle.std.proofs.Common.{◌≡◌, subst, ℕ, zero, suc, ◌+◌, ◌-◌, Bool, true, false, cond, eqb, List, [], ◌∷◌, ◌++◌, length, Option, Some, None, refl, sym, ap, ◌∙◌, append_assoc, arith}
-use Rattle.std.specs.Prelude.{count_by, slice_index}
-use Rattle.std.proofs.Math.Seq.{get_or-append_seam}
-use Rattle.memchr.specs.Find.{places, places_from, is_byte}
+use Rattle.std.proofs.Common.{◌≡◌, ℕ, zero, suc, ◌+◌, Bool, true, false, cond, eqb, List, [], ◌∷◌, ◌++◌, length, Option, Some, None, refl, sym, ap, ◌∙◌, append_assoc, arith}
+use Rattle.std.specs.Prelude.{count_by}
 use Rattle.std.specs.List.{AllByRecursion}
 use Rattle.std.proofs.lemmas.Bool.{ne_eqb, eqb-true}
-use Rattle.std.proofs.lemmas.List.{append-nil, nil_from_length, length-append}
+use Rattle.std.proofs.lemmas.List.{append-nil, nil_from_length}
 use Rattle.std.proofs.lemmas.List.Recursion.{is_count_by}
 use Rattle.std.proofs.lemmas.List.Concat.{flat_map-cons}
 use Rattle.std.specs.Option.{IfSome, IfNone}
@@ -62,32 +60,6 @@ unlines_from line (c ∷ cs) = unlines_step (eqb c 10) line cs c (eqb-true c 10)
 pub text_is : (text : List ℕ) → text ≡ unlines (split text).0 ++ (split text).1
 unfolding split
 text_is text = sym (unlines_from [] text)
-
-ends_step : (b : Bool) (i n : ℕ) (later : List ℕ) → length later ≡ n → length (cond b (i ∷ later) later) ≡ cond b (suc n) n
-ends_step true i n later e = ap suc e
-ends_step false i n later e = e
-
--- how many places have LF, from the end of what is before on
-ends_from : (front text : List ℕ) → length (places_from (is_byte 10) (front ++ text) (length front) (length text)) ≡ ends text
-unfolding places_from ends
-ends_from front [] = refl
-ends_from front (c ∷ cs) =
-    let at : eqb (slice_index (front ++ c ∷ cs) (length front)) 10 ≡ eqb c 10 = ap (λ x. eqb x 10) (get_or-append_seam front c cs 0) in
-    let rest : length (places_from (is_byte 10) (front ++ c ∷ cs) (length front + 1) (length cs)) ≡ ends cs =
-    subst (λ hay. length (places_from (is_byte 10) hay (length front + 1) (length cs)) ≡ ends cs) (append_assoc front (c ∷ []) cs)
-    (subst (λ n. length (places_from (is_byte 10) ((front ++ c ∷ []) ++ cs) n (length cs)) ≡ ends cs) (length-append front (c ∷ [])) (ends_from (front ++ c ∷ []) cs)) in
-    ap (λ b. length (cond b (length front ∷ places_from (is_byte 10) (front ++ c ∷ cs) (length front + 1) (length cs)) (places_from (is_byte 10) (front ++ c ∷ cs) (length front + 1) (length cs)))) at
-    ∙ ends_step (eqb c 10) (length front) (ends cs) (places_from (is_byte 10) (front ++ c ∷ cs) (length front + 1) (length cs)) rest
-
-ends_count : (text : List ℕ) → ends text ≡ count_by (λ c. eqb c 10) text
-unfolding ends
-ends_count text = is_count_by ends (λ c. eqb c 10) refl (λ x xs. ap (λ n. cond (eqb x 10) n (ends xs)) (omega arith)) text
-
--- as many places have LF as there are LF
-pub ends_are : (text : List ℕ) → length (places (is_byte 10) text) ≡ count_by (λ c. eqb c 10) text
-ends_are text =
-    let whole : length text - 0 ≡ length text = omega arith in
-    ap (λ n. length (places_from (is_byte 10) text 0 n)) whole ∙ ends_from [] text ∙ ends_count text
 
 pub count_is : (text : List ℕ) → count_by (λ c. eqb c 10) text ≡ length (split text).0
 unfolding split ends

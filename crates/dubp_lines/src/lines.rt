@@ -7,8 +7,11 @@ ghost use Rattle.dubp_lines.specs.Taking.{Gives, line_at, just, named, first_at,
 
 use crate::reading::ReadText;
 use crate::refusal::Refused;
-use memchr::{memchr, memchr_iter};
+use memchr::memchr;
 use std::marker::Model;
+
+/// The most bytes of a text whose ends of lines are counted in a byte.
+const PIECE: usize = 192;
 
 /// The lines of a text that are not taken yet, and what stands behind the last LF.
 ///
@@ -37,11 +40,32 @@ pub fn count_lines(text: &[u8]) -> usize
     count_ends(text)
 }
 
+// How often LF stands in a text. It is counted piece by piece, each as a sum of bytes, of which a processor adds many at once.
 fn count_ends(text: &[u8]) -> usize
     ensures value { result ≡ count_by (λ c. c == LF) text.now }
     ensures bound { result ≤ length text.now }
 {
-    memchr_iter(b'\n', text).count()
+    let mut count = 0;
+    let mut rest = text;
+    while rest.len() > PIECE {
+        let (piece, behind) = rest.split_at(PIECE);
+        count += usize::from(count_in_piece(piece));
+        rest = behind;
+    }
+    count + usize::from(count_in_piece(rest))
+}
+
+// How often LF stands in a piece of a text.
+fn count_in_piece(piece: &[u8]) -> u8
+    requires { length piece.now ≤ 192 }
+    ensures value { result ≡ count_by (λ c. c == LF) piece.now }
+    ensures bound { result ≤ length piece.now }
+{
+    let mut count = 0;
+    for byte in piece {
+        count += u8::from(*byte == b'\n');
+    }
+    count
 }
 
 /// The next line, and the text behind it. None exactly where no LF stands in the text.
