@@ -1,19 +1,17 @@
 -- The issuers of one key: as a web says them, in order, and as a list of them comes into a set.
-use Rattle.std.proofs.Common.{◌≡◌, ℕ, ◌+◌, ◌<◌, ◌≤◌, inl, inr, Bool, true, false, List, [], ◌∷◌, ◌++◌, if◌then◌else◌, Option, Some, None, IfSome, length, get_or, Contains, refl, sym, ap, subst, ◌∙◌, true≢false, arith}
-use Rattle.std.specs.Prelude.{◌↔◌}
+use Rattle.std.proofs.Common.{◌≡◌, ℕ, ◌+◌, ◌<◌, ◌≤◌, inl, inr, Bool, true, false, cond, List, [], ◌∷◌, ◌++◌, if◌then◌else◌, Option, Some, None, IfSome, length, get_or, Contains, refl, sym, ap, subst, ◌∙◌, true≢false, arith}
 use Rattle.std.specs.List.{list_any}
 use Rattle.std.proofs.Math.ListN.{length-append}
 use Rattle.std.proofs.lemmas.List.{append_assoc}
-use Rattle.std.proofs.lemmas.List.Elements.{Contains-append_left, Contains-push, Contains-push_cases}
 use Rattle.std.proofs.lemmas.Bool.{cases_lt}
-use Rattle.std.proofs.lemmas.Option.{slice_get-get_or, same_Some}
+use Rattle.std.proofs.lemmas.Option.{slice_get_within, slice_get-get_or, same_Some, get_or_from_slice_get}
 use Rattle.indexmap.specs.IndexSet.{insert_key}
-use Rattle.dubp_atoms.specs.Same.{Text}
-use Rattle.dubp_wot.specs.Known.{AreIssuersOf}
+use Rattle.dubp_atoms.specs.Same.{Text, same_text}
+use Rattle.dubp_wot.specs.Known.{AreIssuersOf, is_among, members_among}
 use Rattle.dubp_wot.specs.Order.{less, is_above, IsNext, AreNext, AreNextIssuers}
 use Rattle.dubp_wot.specs.Search.{In}
 use Rattle.dubp_wot.proofs.KeyOrder.{less-meets, above-up}
-use Rattle.dubp_wot.proofs.Levels.{slice_get-append, In-insert}
+use Rattle.dubp_wot.proofs.Levels.{text_same, text_own, slice_get-append, In-from_any, any_from_In, In-insert}
 use Rattle.dubp_wot.proofs.Members.{Contains-cases, Contains-there, Contains-none}
 
 -- ---- as a web says them
@@ -41,39 +39,47 @@ module _ (P : Text → Type 0) where
     | false ↦ λ e. subst (Contains (k ∷ keys)) (less-meets k a e (is.0.2 a p above)) (0, omega arith, refl)
   ] refl
 
+-- a key stands in a list where the test finds it there
+pub among-has : (keys : List Text) (k : Text) → Contains keys k → is_among keys k ≡ true
+among-has keys k m = any_from_In same_text text_same text_own keys k m.0 (slice_get-get_or keys m.0 k m.1 ∙ ap Some m.2)
+
+pub has-among : (keys : List Text) (k : Text) → is_among keys k ≡ true → Contains keys k
+has-among keys k h =
+    let m = In-from_any same_text text_same keys k h in
+    (m.0, slice_get_within keys m.0 k m.1, get_or_from_slice_get keys m.0 k k m.1)
+
 module _ (members : List Text) where
-  -- those of a list who are members
-  abbrev pub AreAmong : List Text → List Text → Type 0
-  AreAmong all keys = (a : Text) → Contains keys a ↔ (Contains members a × Contains all a)
+  -- a key is one of those who are members where it is a member and stands in the list
+  pub among-both : (keys : List Text) (a : Text) → Contains (members_among members keys) a → Contains members a × Contains keys a
+  among-both [] a m = absurd (Contains-none a m)
+  among-both (k ∷ keys) a m =
+      elim (is_among members k) as (λ t. is_among members k ≡ t → Contains (cond t (k ∷ members_among members keys) (members_among members keys)) a → Contains members a × Contains (k ∷ keys) a) [
+        | true ↦ λ e h. elim (Contains-cases k a (members_among members keys) h) [
+          | inl s ↦ (subst (Contains members) s (has-among members k e), (0, omega arith, s))
+          | inr n ↦ let both = among-both keys a n in (both.0, Contains-there k a keys both.1)
+        ]
+        | false ↦ λ _ h. let both = among-both keys a h in (both.0, Contains-there k a keys both.1)
+      ] refl m
 
-  pub Among-none : (all keys : List Text) → all ≡ [] → keys ≡ [] → AreAmong all keys
-  Among-none all keys none empty = λ a. (λ m. absurd (Contains-none a (subst (λ xs. Contains xs a) empty m)), λ h. absurd (Contains-none a (subst (λ xs. Contains xs a) none h.1)))
+  pub both-among : (keys : List Text) (a : Text) → Contains members a → Contains keys a → Contains (members_among members keys) a
+  both-among [] a in' m = absurd (Contains-none a m)
+  both-among (k ∷ keys) a in' m =
+      elim (is_among members k) as (λ t. is_among members k ≡ t → Contains (cond t (k ∷ members_among members keys) (members_among members keys)) a) [
+        | true ↦ λ _. elim (Contains-cases k a keys m) [
+          | inl s ↦ (0, omega arith, s)
+          | inr n ↦ Contains-there k a (members_among members keys) (both-among keys a in' n)
+        ]
+        | false ↦ λ e. elim (Contains-cases k a keys m) [
+          | inl s ↦ absurd (true≢false (sym (among-has members a in') ∙ subst (λ z. is_among members z ≡ false) s e))
+          | inr n ↦ both-among keys a in' n
+        ]
+      ] refl
 
-  module _ (all keys : List Text) (before : AreAmong all keys) (k : Text) where
-    -- a member is put
-    pub Among-put : (new : List Text) → new ≡ keys ++ k ∷ [] → Contains members k → AreAmong (all ++ k ∷ []) new
-    Among-put new put in' = subst (AreAmong (all ++ k ∷ [])) (sym put) (λ a. (
-      λ m. elim (Contains-push_cases keys k a m) [
-        | inl old ↦ let h = (before a).0 old in (h.0, Contains-append_left all (k ∷ []) a h.1)
-        | inr e ↦ (subst (Contains members) e in', subst (Contains (all ++ k ∷ [])) e (Contains-push all k))
-      ],
-      λ h. elim (Contains-push_cases all k a h.1) [
-        | inl old ↦ Contains-append_left keys (k ∷ []) a ((before a).1 (h.0, old))
-        | inr e ↦ subst (Contains (keys ++ k ∷ [])) e (Contains-push keys k)
-      ],
-    ))
-
-    -- one who is no member is passed over
-    pub Among-pass : (Contains members k → ⊥) → AreAmong (all ++ k ∷ []) keys
-    Among-pass out = λ a. (
-      λ m. let h = (before a).0 m in (h.0, Contains-append_left all (k ∷ []) a h.1),
-      λ h. elim (Contains-push_cases all k a h.1) [ inl old ↦ (before a).1 (h.0, old) | inr e ↦ absurd (out (subst (Contains members) (sym e) h.0)) ],
-    )
-
-  pub Among-issuers : (pairs : List (Text × Text)) (to : Text) (all keys : List Text) → AreNextIssuers pairs to None all → AreAmong all keys → AreIssuersOf members pairs to keys
-  Among-issuers pairs to all keys next among = λ a. (
-    λ m. let h = (among a).0 m in (h.0, (next-has (λ x. Contains pairs (x, to)) None all next a h.1).0),
-    λ h. (among a).1 (h.0, next-all (λ x. Contains pairs (x, to)) None all next a h.1 refl),
+  -- those of all issuers who are members
+  pub among-issuers : (pairs : List (Text × Text)) (to : Text) (all : List Text) → AreNextIssuers pairs to None all → AreIssuersOf members pairs to (members_among members all)
+  among-issuers pairs to all next = λ a. (
+    λ m. let both = among-both all a m in (both.0, (next-has (λ x. Contains pairs (x, to)) None all next a both.1).0),
+    λ h. both-among all a h.0 (next-all (λ x. Contains pairs (x, to)) None all next a h.1 refl),
   )
 
 -- what holds of the value that is there

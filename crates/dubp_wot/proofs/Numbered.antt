@@ -1,9 +1,10 @@
 -- Keys by their numbers, over plain lists: who is known by a number, who is found, and what a mark says.
-use Rattle.std.proofs.Common.{◌≡◌, ℕ, zero, suc, ◌+◌, ◌<◌, ◌↔◌, nat_eq, nat_lt, Bool, true, false, IsTrue, cond, if◌then◌else◌, List, [], ◌∷◌, ◌++◌, Vec, Global, Result, Ok, Err, IfOk, OnErr, Option, Some, None, IfSome, IsSome, length, slice_get, get_or, set, take, Contains, inl, inr, refl, sym, ap, subst, ◌∙◌, true≢false, arith}
-use Rattle.std.specs.List.{AllByRecursion, IsDistinct, list_any, position_or_len}
-use Rattle.std.specs.Option.{option_map, option_map_or}
+use Rattle.std.proofs.Common.{◌≡◌, ℕ, zero, suc, ◌+◌, ◌<◌, ◌↔◌, nat_eq, nat_lt, Bool, true, false, IsTrue, cond, if◌then◌else◌, List, [], ◌∷◌, ◌++◌, Vec, Global, Result, Ok, Err, IfOk, OnErr, Option, Some, None, IfSome, IsSome, ◌⊎◌, length, slice_get, get_or, set, take, Contains, inl, inr, refl, sym, ap, subst, ◌∙◌, true≢false, arith}
+use Rattle.std.specs.List.{AllByRecursion, IsDistinct, list_any, position, position_or_len}
+use Rattle.std.specs.Option.{option_map, option_map_or, option_to_list}
 use Rattle.std.proofs.Math.ListN.{length-append}
-use Rattle.std.proofs.lemmas.List.{map-append, get_or-map, get_or_default, length-map, get_or-set_same, get_or-set_other, get_or_past, get_or_read, take_more}
+use Rattle.std.proofs.lemmas.List.{append-nil, map-append, get_or-map, get_or_default, length-map, get_or-set_same, get_or-set_other, get_or_past, get_or_read}
+use Rattle.std.proofs.lemmas.List.Elements.{filter_more}
 use Rattle.std.proofs.lemmas.List.Sums.{fails_before_first, passes_at_first}
 use Rattle.std.proofs.lemmas.Map.Keys.{IsDistinct-head, IsDistinct-tail}
 use Rattle.std.proofs.lemmas.Option.{slice_get_within, slice_get-get_or, slice_get-map, same_Some, get_or_from_slice_get}
@@ -12,9 +13,10 @@ use Rattle.std.proofs.lemmas.Bool.Decides.{Decides-eqb}
 use Rattle.indexmap.specs.IndexSet.{insert_key}
 use Rattle.dubp_atoms.specs.Same.{Text, same_text}
 use Rattle.dubp_atoms.specs.Walks.{Reaches}
-use Rattle.dubp_wot.specs.Known.{AreIssuersOf, KnowIssuers}
+use Rattle.dubp_wot.specs.Known.{AreIssuersOf, KnowIssuers, is_among, members_among}
 use Rattle.dubp_wot.specs.Numbers.{Numbered, name, named, AreBelow, AreNumbers, Keeps, is_found}
 use Rattle.dubp_wot.specs.Search.{In, Grows, Closed, Level}
+use Rattle.dubp_wot.proofs.Issuers.{among-has, has-among}
 use Rattle.dubp_wot.proofs.Levels.{text_same, text_own, slice_get-append, In-push, In-from_any, any_from_In, Grows-none, Grows-then, Grows-weaker, Grows-push, at-old, Closed-more, Level-first, Level-test}
 
 pub nat_same : (x y : ℕ) → nat_eq x y ≡ true → x ≡ y
@@ -47,6 +49,31 @@ pub Keeps-result : {R E : Type 0} (result : Result R E) (old new : List Text) (k
 Keeps-result (Ok r) old new k put stays = subst (Keeps old) (sym put) (Keeps-insert old k)
 Keeps-result (Err e) old new k put stays = subst (Keeps old) (sym stays) (Keeps-none old)
 
+-- a key that has a number had it before, or is the one that was put
+In-insert_cases : (keys : List Text) (k a : Text) → In (insert_key same_text keys k) a → In keys a ⊎ (a ≡ k)
+In-insert_cases keys k a = by (list_any (same_text k) keys)
+  where
+    by : (t : Bool) → In (if t then keys else keys ++ k ∷ []) a → In keys a ⊎ (a ≡ k)
+    by true m = inl m
+    by false m = In-push keys k a m.0 m.1
+
+pub In-result : {R E : Type 0} (result : Result R E) (old new : List Text) (k a : Text) → IfOk result (λ _. new ≡ insert_key same_text old k)
+    → OnErr result (new ≡ old) → In new a → In old a ⊎ (a ≡ k)
+In-result (Ok r) old new k a put stays m = In-insert_cases old k a (subst (λ ks. In ks a) put m)
+In-result (Err e) old new k a put stays m = inl (subst (λ ks. In ks a) stays m)
+
+-- the number of a key is its place
+pub number_is : (keys : List Text) (k : Text) → IfSome (position (same_text k) keys) (λ n. slice_get keys n ≡ Some k)
+number_is keys k = by (nat_lt (position_or_len (same_text k) keys) (length keys)) refl
+  where
+    by : (t : Bool) → nat_lt (position_or_len (same_text k) keys) (length keys) ≡ t
+        → IfSome (cond t (Some (position_or_len (same_text k) keys)) None) (λ n. slice_get keys n ≡ Some k)
+    by true e =
+        let n = position_or_len (same_text k) keys in
+        let within = ltb-true n (length keys) e in
+        slice_get-get_or keys n [] within ∙ ap Some (sym (text_same k (get_or keys n []) (passes_at_first (same_text k) keys [] within)))
+    by false e = tt
+
 module _ (old new : List Text) (kept : Keeps old new) where
   pub name-kept : (n : ℕ) → n < length old → name new n ≡ name old n
   name-kept n within = get_or_from_slice_get new n (get_or old n []) [] (kept.keeps n (get_or old n []) (slice_get-get_or old n [] within))
@@ -66,18 +93,22 @@ module _ (old new : List Text) (kept : Keeps old new) where
       by None h = tt
       by (Some v) h = (let a = h.0 in let b = kept.longer in omega arith, AreBelow-kept v.items h.1)
 
--- what was known is known of more keys
-pub KnowIssuers-kept : (members : List Text) (pairs : List (Text × Text)) (old new : Numbered) → Keeps old.keys new.keys → new.issuers ≡ old.issuers
-    → AreNumbers old.keys old.issuers → KnowIssuers members pairs old → KnowIssuers members pairs new
-KnowIssuers-kept members pairs old new kept same are know i =
-    subst (λ (l : List (Option (Vec ℕ Global))). IfSome (get_or l i None) (λ v. AreIssuersOf members pairs (name new.keys i) (named new.keys v.items))) (sym same)
-    (by (get_or old.issuers i None) (are i) (know i))
+-- what was known is known of more keys, where these are members
+pub KnowIssuers-kept : (members : List Text) (pairs : List (Text × Text)) (old new : Numbered) → Keeps old.keys new.keys
+    → ((k : Text) → In new.keys k → In old.keys k ⊎ Contains members k) → new.issuers ≡ old.issuers → AreNumbers old.keys old.issuers → KnowIssuers members pairs old
+    → KnowIssuers members pairs new
+KnowIssuers-kept members pairs old new kept more same are know = record {
+  are_members = λ k m. elim (more k m) [ inl before ↦ know.are_members k before | inr in' ↦ in' ];
+  are_issuers = λ i.
+      subst (λ (l : List (Option (Vec ℕ Global))). IfSome (get_or l i None) (λ v. AreIssuersOf members pairs (name new.keys i) (named new.keys v.items))) (sym same)
+      (by i (get_or old.issuers i None) (are i) (know.are_issuers i));
+}
   where
-    by : (o : Option (Vec ℕ Global)) → IfSome o (λ v. (i < length old.keys) × AreBelow (length old.keys) v.items)
+    by : (i : ℕ) (o : Option (Vec ℕ Global)) → IfSome o (λ v. (i < length old.keys) × AreBelow (length old.keys) v.items)
         → IfSome o (λ v. AreIssuersOf members pairs (name old.keys i) (named old.keys v.items))
         → IfSome o (λ v. AreIssuersOf members pairs (name new.keys i) (named new.keys v.items))
-    by None h k = tt
-    by (Some v) h k =
+    by i None h k = tt
+    by i (Some v) h k =
         subst (λ b. AreIssuersOf members pairs b (named new.keys v.items)) (sym (name-kept old.keys new.keys kept i h.0))
         (subst (λ ks. AreIssuersOf members pairs (name old.keys i) ks) (sym (named-kept old.keys new.keys kept v.items h.1)) k)
 
@@ -236,14 +267,41 @@ module _ (keys : List Text) (once : IsDistinct same_text keys) (xs : List ℕ) (
 pub AreBelow-at : (size : ℕ) (xs : List ℕ) (i n : ℕ) → AreBelow size xs → i < length xs → n ≡ get_or xs i n → n < size
 AreBelow-at size xs i n below within at = below n (i, slice_get-get_or xs i n within ∙ ap Some (sym at))
 
--- the number of the next key is put
-pub named-more : (old new : List Text) → Keeps old new → (numbers : List ℕ) → AreBelow (length old) numbers → (n : ℕ) (k : Text) → slice_get new n ≡ Some k
-    → (keys : List Text) (i : ℕ) → i < length keys → k ≡ get_or keys i k → named old numbers ≡ take i keys → named new (numbers ++ n ∷ []) ≡ take (i + 1) keys
-named-more old new kept numbers below n k at keys i within here is =
-    named-push new numbers n
-    ∙ ap (λ ks. ks ++ name new n ∷ []) (named-kept old new kept numbers below ∙ is)
-    ∙ ap (λ z. take i keys ++ z ∷ []) (get_or_from_slice_get new n k [] at ∙ here)
-    ∙ sym (take_more keys i k within)
+-- the members among the keys, with the next key
+members_among-next : (members keys : List Text) (i : ℕ) (k : Text) → i < length keys → k ≡ get_or keys i k → (t : Bool) → is_among members k ≡ t
+    → members_among members (take (i + 1) keys) ≡ members_among members (take i keys) ++ cond t (k ∷ []) []
+members_among-next members keys i k within here t is =
+    filter_more (is_among members) keys i k within
+    ∙ ap (λ (z : Text). members_among members (take i keys) ++ cond (is_among members z) (z ∷ []) []) (sym here)
+    ∙ ap (λ (s : Bool). members_among members (take i keys) ++ cond s (k ∷ []) []) is
+
+-- the number of the next key is put, where it is a member
+module _ (old new : List Text) (kept : Keeps old new) (numbers : List ℕ) (below : AreBelow (length old) numbers) (k : Text) where
+  pub AreBelow-found : (found : Option ℕ) → IfSome found (λ n. slice_get new n ≡ Some k) → AreBelow (length new) (numbers ++ option_to_list found)
+  AreBelow-found (Some n) at = AreBelow-push (length new) numbers n (AreBelow-kept old new kept numbers below) (slice_get_within new n k at)
+  AreBelow-found None at = subst (AreBelow (length new)) (sym (append-nil numbers)) (AreBelow-kept old new kept numbers below)
+
+  pub among-found : (found : Option ℕ) → IfSome found (λ n. slice_get new n ≡ Some k) → (members keys : List Text) → (IsSome found ↔ Contains members k)
+      → (i : ℕ) → i < length keys → k ≡ get_or keys i k → named old numbers ≡ members_among members (take i keys)
+      → named new (numbers ++ option_to_list found) ≡ members_among members (take (i + 1) keys)
+  among-found (Some n) at members keys says i within here is =
+      named-push new numbers n
+      ∙ ap (λ ks. ks ++ name new n ∷ []) (named-kept old new kept numbers below ∙ is)
+      ∙ ap (λ z. members_among members (take i keys) ++ z ∷ []) (get_or_from_slice_get new n k [] at)
+      ∙ sym (members_among-next members keys i k within here true (among-has members k (says.0 refl)))
+  among-found None at members keys says i within here is =
+      ap (named new) (append-nil numbers)
+      ∙ named-kept old new kept numbers below
+      ∙ is
+      ∙ sym (append-nil (members_among members (take i keys)))
+      ∙ sym (members_among-next members keys i k within here false none)
+    where
+      none : is_among members k ≡ false
+      none = out (is_among members k) refl
+        where
+          out : (t : Bool) → is_among members k ≡ t → t ≡ false
+          out true e = absurd (true≢false (sym (says.1 (has-among members k e))))
+          out false e = refl
 
 -- the members who certify the key at one place are found, which may have given numbers to more keys
 module _ (members : List Text) (pairs : List (Text × Text)) (old new : List Text) (kept : Keeps old new) (mid found : List ℕ) (below : AreBelow (length old) mid)

@@ -1,7 +1,7 @@
-ghost use Rattle.std.specs.Prelude.{◌≡◌, ℕ, ◌+◌, ◌<◌, ◌≤◌, ◌^◌, List, None, Some, IfOk, OnOk, IsSome, IsTrue, ◌↔◌, length, slice_get, get_or};
+ghost use Rattle.std.specs.Prelude.{◌≡◌, ℕ, ◌+◌, ◌++◌, ◌<◌, ◌≤◌, ◌^◌, List, None, Some, IfOk, IfSome, OnOk, IsSome, IsTrue, ◌↔◌, Contains, length, option_to_list, position, slice_get, get_or};
 ghost use Rattle.std.specs.List.{IsDistinct};
 ghost use Rattle.dubp_atoms.specs.Same.{Text, same_text};
-ghost use Rattle.dubp_wot.specs.Known.{AreIssuersOf, KnowIssuers};
+ghost use Rattle.dubp_wot.specs.Known.{AreIssuersOf, KnowIssuers, members_among};
 ghost use Rattle.dubp_wot.specs.Numbers.{name, named, AreBelow, Keeps, is_found};
 
 use crate::found::Found;
@@ -61,28 +61,59 @@ impl KnownIssuers {
         }
     }
 
-    /// The number of the key, which gets the next one where it has none.
+    /// The number of the key, which gets the next one where it has none. It has to be a member for what is known to stay true.
     pub(crate) fn number(&mut self, key: Key) -> Result<usize, NoMemory>
         ensures kept { Keeps self.old.keys self.new.keys }
         ensures issuers { self.new.issuers ≡ self.old.issuers }
-        ensures known { (members : List Text) (pairs : List (Text × Text)) → KnowIssuers members pairs self.old → KnowIssuers members pairs self.new }
+        ensures known { (members : List Text) (pairs : List (Text × Text)) → Contains members key → KnowIssuers members pairs self.old → KnowIssuers members pairs self.new }
         ensures number { IfOk result (λ number. slice_get self.new.keys number ≡ Some key) }
     {
         let (number, _) = self.keys.insert_full(key).map_err(|_| NoMemory)?;
         Ok(number)
     }
 
-    /// The numbers of the keys, in their order.
-    fn number_each(&mut self, alloc: Global, keys: &[Key]) -> Result<Vec<usize>, NoMemory>
+    /// The number of the key, or None where it has none.
+    fn number_of(&self, key: &Key) -> Option<usize>
+        ensures { result ≡ position (same_text key.now) self.now.keys }
+    {
+        self.keys.get_index_of(key)
+    }
+
+    /// The number of a member, which gets the next one where it has none, or None where the key is no member's. Whether it is one is asked only of a key without a number.
+    fn number_member<W: Web>(&mut self, web: &W, key: &Key) -> Result<Option<usize>, NoMemory>
+        requires known { (members : List Text) (pairs : List (Text × Text)) → W.shows web.now members pairs → KnowIssuers members pairs self.old }
         ensures kept { Keeps self.old.keys self.new.keys }
-        ensures known { (members : List Text) (pairs : List (Text × Text)) → KnowIssuers members pairs self.old → KnowIssuers members pairs self.new }
+        ensures known { (members : List Text) (pairs : List (Text × Text)) → W.shows web.now members pairs → KnowIssuers members pairs self.new }
+        ensures number { IfOk result (λ found. IfSome found (λ number. slice_get self.new.keys number ≡ Some key.now)) }
+        ensures member { IfOk result (λ found. (members : List Text) (pairs : List (Text × Text)) → W.shows web.now members pairs → (IsSome found ↔ Contains members key.now)) }
+    {
+        if let Some(number) = self.number_of(key) {
+            return Ok(Some(number));
+        }
+        if !web.is_member(key) {
+            return Ok(None);
+        }
+        let number = self.number(*key)?;
+        Ok(Some(number))
+    }
+
+    /// The numbers of those of the keys who are members, in their order.
+    fn number_members<W: Web>(
+        &mut self,
+        alloc: Global,
+        web: &W,
+        keys: &[Key],
+    ) -> Result<Vec<usize>, NoMemory>
+        requires known { (members : List Text) (pairs : List (Text × Text)) → W.shows web.now members pairs → KnowIssuers members pairs self.old }
+        ensures kept { Keeps self.old.keys self.new.keys }
+        ensures known { (members : List Text) (pairs : List (Text × Text)) → W.shows web.now members pairs → KnowIssuers members pairs self.new }
         ensures within { IfOk result (λ numbers. AreBelow (length self.new.keys) numbers.items) }
-        ensures named { IfOk result (λ numbers. named self.new.keys numbers.items ≡ keys.now) }
+        ensures among { IfOk result (λ numbers. (members : List Text) (pairs : List (Text × Text)) → W.shows web.now members pairs → named self.new.keys numbers.items ≡ members_among members keys.now) }
     {
         let mut numbers = Vec::new(alloc);
         for key in keys {
-            let number = self.number(*key)?;
-            push(&mut numbers, number)?;
+            let found = self.number_member(web, key)?;
+            push_found(&mut numbers, found)?;
         }
         Ok(numbers)
     }
@@ -103,8 +134,8 @@ impl KnownIssuers {
         if self.has_issuers(number) {
             return Ok(());
         }
-        let keys = issuers_of(alloc, web, self.key(number))?;
-        let numbers = self.number_each(alloc, &keys)?;
+        let keys = web.issuers(alloc, self.key(number))?;
+        let numbers = self.number_members(alloc, web, &keys)?;
         self.put(number, numbers)
     }
 
@@ -161,16 +192,12 @@ fn make_room(issuers: &mut Vec<Option<Vec<usize>>>, size: usize) -> Result<(), N
     Ok(())
 }
 
-/// The members who certify `to`, as the web says them.
-fn issuers_of<W: Web>(alloc: Global, web: &W, to: Key) -> Result<Vec<Key>, NoMemory>
-    ensures { IfOk result (λ keys. (members : List Text) (pairs : List (Text × Text)) → W.shows web.now members pairs → AreIssuersOf members pairs to keys.items) }
+/// Puts the number, where there is one, behind the others.
+fn push_found(numbers: &mut Vec<usize>, found: Option<usize>) -> Result<(), NoMemory>
+    ensures { OnOk result (numbers.new.items ≡ numbers.old.items ++ option_to_list found) }
 {
-    let all = web.issuers(alloc, to)?;
-    let mut keys = Vec::new(alloc);
-    for from in &all {
-        if web.is_member(from) {
-            push(&mut keys, *from)?;
-        }
+    match found {
+        Some(number) => push(numbers, number),
+        None => Ok(()),
     }
-    Ok(keys)
 }

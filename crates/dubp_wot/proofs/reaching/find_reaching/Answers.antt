@@ -23,7 +23,8 @@ insert-requires g c =
 
 pub loop-level-init : goal.loop-level-init
 loop-level-init g c = record {
-  known = λ members pairs shown. c.number.ensures.known members pairs (c.requires.known members pairs shown);
+  known = λ members pairs shown.
+      c.number.ensures.known members pairs ((c.is_member.ensures members pairs shown).0 c.if-not-is_member.false) (c.requires.known members pairs shown);
   within =
       let n = c.in_ok-first.first in
       subst (AreBelow (length c.number.new.self.keys)) (sym c.in_ok-insert.ensures)

@@ -1,7 +1,7 @@
-use Rattle.std.proofs.Common.{refl, subst}
+use Rattle.std.proofs.Common.{Contains, inl, inr, refl, subst, sym}
 use Rattle.dubp_wot.specs.Known.{KnowIssuers}
 use Rattle.dubp_wot.specs.Numbers.{Numbered, Keeps}
-use Rattle.dubp_wot.proofs.Numbered.{Keeps-result, AreNumbers-kept, KnowIssuers-kept}
+use Rattle.dubp_wot.proofs.Numbered.{Keeps-result, In-result, AreNumbers-kept, KnowIssuers-kept}
 use Rattle.dubp_wot.proofs.known.KnownIssuers.number.Goals as goal
 
 pub invariant_of-self-2 : goal.invariant_of-self-2
@@ -19,9 +19,12 @@ returns-clause-kept c =
     (Keeps-result c.insert_full.result old new c.args.key c.insert_full.ensures.keys c.insert_full.ensures.err)
 
 pub returns-clause-known : goal.returns-clause-known
-returns-clause-known c = λ members pairs.
+returns-clause-known c = λ members pairs in'.
     let old : Numbered = record { keys = c.self.inside.keys.keys; issuers = c.self.inside.issuers.items } in
     let new : Numbered = record { keys = c.insert_full.new.self.keys; issuers = c.self.inside.issuers.items } in
+    let put = c.insert_full.ensures.keys in
+    let stays = c.insert_full.ensures.err in
     subst (λ (x : Numbered). KnowIssuers members pairs x → KnowIssuers members pairs new) c.self.view_is
-    (KnowIssuers-kept members pairs old new
-    (Keeps-result c.insert_full.result old.keys new.keys c.args.key c.insert_full.ensures.keys c.insert_full.ensures.err) refl c.self.invariant)
+    (KnowIssuers-kept members pairs old new (Keeps-result c.insert_full.result old.keys new.keys c.args.key put stays)
+    (λ k m. elim (In-result c.insert_full.result old.keys new.keys c.args.key k put stays m) [ inl before ↦ inl before | inr e ↦ inr (subst (Contains members) (sym e) in') ])
+    refl c.self.invariant)

@@ -26,4 +26,4 @@ returns-in-Some-clause-known c = λ members pairs.
     subst (λ (x : Numbered). KnowIssuers members pairs x → AreIssuersOf members pairs (name x.keys n) (named x.keys c.as_slice.result.now)) c.self.view_is
     (λ know.
     subst (λ xs. AreIssuersOf members pairs (name keys n) (named keys xs)) (sym c.as_slice.ensures.value)
-    (if_there (λ v. AreIssuersOf members pairs (name keys n) (named keys v.items)) (get_or issuers n None) c.in-Some.numbers at (know n)))
+    (if_there (λ v. AreIssuersOf members pairs (name keys n) (named keys v.items)) (get_or issuers n None) c.in-Some.numbers at (know.are_issuers n)))
