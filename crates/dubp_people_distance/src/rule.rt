@@ -9,6 +9,7 @@ ghost use Rattle.dubp_people_after.specs.OfLeft.{IsAsked};
 ghost use Rattle.dubp_people_after.specs.OfValidity.{ComersPass};
 ghost use Rattle.dubp_people_distance.specs.Webs.{HasPassed};
 ghost use Rattle.dubp_wot.specs.Known.{KnowIssuers};
+ghost use Rattle.dubp_wot.specs.Sought.{AreSought};
 
 use crate::next_web::NextWeb;
 use crate::two_chains::{Judged, TwoChains};
@@ -17,7 +18,7 @@ use dubp_block::{Block, MemberLine};
 use dubp_params::Params;
 use dubp_people_after::{After, Next, Registry, WithBlock};
 use dubp_undo::Tables;
-use dubp_wot::{KnownIssuers, Web, reaches_among_known, sentries};
+use dubp_wot::{KnownIssuers, Sought, Web, reaches_among_known, sentries};
 use std::alloc::Global;
 
 /// Each key of Joiners and Actives passes the distance rule in the new chain: rule `G76`.
@@ -75,7 +76,9 @@ fn has_no_steps(params: &Params) -> bool
     params.step_max == 0
 }
 
-/// Whether each key of Joiners and Actives is near enough to the sentries of the web, which is asked for the issuers of a key once.
+/// Whether each key of Joiners and Actives is near enough to the sentries of the web.
+///
+/// The web is asked for the issuers of a key once, and the sentries get their numbers once.
 fn both_pass<W: Web>(
     alloc: Global,
     web: &W,
@@ -86,13 +89,14 @@ fn both_pass<W: Web>(
     ensures { IfOk result (λ holds. (c : Chain) → W.shows web.now (members (block.now ∷ c)) (live_pairs (block.now ∷ c)) → params.now ≡ params_of (block.now ∷ c) → sentries.now ≡ sentries_on (block.now ∷ c) → (IsTrue holds ↔ ComersPass c block.now)) }
 {
     let mut known = KnownIssuers::new(alloc, web.secret());
+    let sought = Sought::new(alloc, web, &mut known, sentries)?;
     let lines = block.joiners.as_slice();
-    let joiners = lines_pass(alloc, web, &mut known, sentries, params, lines)?;
+    let joiners = lines_pass(alloc, web, &mut known, &sought, params, lines)?;
     if !joiners {
         return Ok(false);
     }
     let lines = block.actives.as_slice();
-    let actives = lines_pass(alloc, web, &mut known, sentries, params, lines)?;
+    let actives = lines_pass(alloc, web, &mut known, &sought, params, lines)?;
     Ok(actives)
 }
 
@@ -101,16 +105,18 @@ fn lines_pass<W: Web>(
     alloc: Global,
     web: &W,
     known: &mut KnownIssuers,
-    sentries: &[Key],
+    sought: &Sought<'_>,
     params: &Params,
     lines: &[MemberLine],
 ) -> Result<bool, NoMemory>
     requires known { (keys : List Text) (pairs : List (Text × Text)) → W.shows web.now keys pairs → KnowIssuers keys pairs known.old }
+    requires sought { (keys : List Text) (pairs : List (Text × Text)) → W.shows web.now keys pairs → AreSought keys known.old sought.now }
     ensures known { (keys : List Text) (pairs : List (Text × Text)) → W.shows web.now keys pairs → KnowIssuers keys pairs known.new }
-    ensures pass { IfOk result (λ holds. (d : Chain) → W.shows web.now (members d) (live_pairs d) → params.now ≡ params_of d → sentries.now ≡ sentries_on d → (IsTrue holds ↔ AllByRecursion (HasPassed d) lines.now)) }
+    ensures sought { (keys : List Text) (pairs : List (Text × Text)) → W.shows web.now keys pairs → AreSought keys known.new sought.now }
+    ensures pass { IfOk result (λ holds. (d : Chain) → W.shows web.now (members d) (live_pairs d) → params.now ≡ params_of d → sought.now.keys ≡ sentries_on d → (IsTrue holds ↔ AllByRecursion (HasPassed d) lines.now)) }
 {
     for line in lines {
-        if !line_passes(alloc, web, known, sentries, params, line)? {
+        if !line_passes(alloc, web, known, sought, params, line)? {
             return Ok(false);
         }
     }
@@ -122,16 +128,18 @@ fn line_passes<W: Web>(
     alloc: Global,
     web: &W,
     known: &mut KnownIssuers,
-    sentries: &[Key],
+    sought: &Sought<'_>,
     params: &Params,
     line: &MemberLine,
 ) -> Result<bool, NoMemory>
     requires known { (keys : List Text) (pairs : List (Text × Text)) → W.shows web.now keys pairs → KnowIssuers keys pairs known.old }
+    requires sought { (keys : List Text) (pairs : List (Text × Text)) → W.shows web.now keys pairs → AreSought keys known.old sought.now }
     ensures known { (keys : List Text) (pairs : List (Text × Text)) → W.shows web.now keys pairs → KnowIssuers keys pairs known.new }
-    ensures passes { IfOk result (λ holds. (d : Chain) → W.shows web.now (members d) (live_pairs d) → params.now ≡ params_of d → sentries.now ≡ sentries_on d → (IsTrue holds ↔ HasPassed d line.now)) }
+    ensures sought { (keys : List Text) (pairs : List (Text × Text)) → W.shows web.now keys pairs → AreSought keys known.new sought.now }
+    ensures passes { IfOk result (λ holds. (d : Chain) → W.shows web.now (members d) (live_pairs d) → params.now ≡ params_of d → sought.now.keys ≡ sentries_on d → (IsTrue holds ↔ HasPassed d line.now)) }
 {
     let steps_max = params.step_max;
-    let (reached, count) = reaches_among_known(alloc, web, known, sentries, line.key, steps_max)?;
+    let (reached, count) = reaches_among_known(alloc, web, known, sought, line.key, steps_max)?;
     Ok(is_near(params.xpercent, reached, count))
 }
 

@@ -96,7 +96,7 @@ module _ {K : Type 0} (eq : K → K → Bool) where
       by true = omega arith
       by false = omega (arith, length-append keys (k ∷ []))
 
-  In-insert_old : (keys : List K) (k a : K) → In keys a → In (insert_key eq keys k) a
+  pub In-insert_old : (keys : List K) (k a : K) → In keys a → In (insert_key eq keys k) a
   In-insert_old keys k a m = by (list_any (eq k) keys)
     where
       by : (t : Bool) → In (if t then keys else keys ++ k ∷ []) a

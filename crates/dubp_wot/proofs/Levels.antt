@@ -1,5 +1,5 @@
 -- The search by levels, over plain lists.
-use Rattle.std.proofs.Common.{◌≡◌, Result, Ok, Err, IfOk, ℕ, zero, suc, ◌+◌, ◌<◌, ◌≤◌, ◌↔◌, ◌⊎◌, inl, inr, Bool, true, false, IsTrue, ◌||◌, List, [], ◌∷◌, ◌++◌, Some, length, slice_get, get_or, Contains, if◌then◌else◌, refl, sym, ap, subst, ◌∙◌, arith}
+use Rattle.std.proofs.Common.{◌≡◌, Result, Ok, Err, IfOk, ℕ, zero, suc, ◌+◌, ◌<◌, ◌≤◌, ◌⊎◌, inl, inr, Bool, true, false, ◌||◌, List, [], ◌∷◌, ◌++◌, Some, length, slice_get, get_or, Contains, if◌then◌else◌, refl, sym, ap, subst, ◌∙◌, arith}
 use Rattle.std.proofs.Math.ListN.{length-append}
 use Rattle.std.specs.List.{list_any}
 use Rattle.std.proofs.lemmas.Option.{slice_get_within, slice_get-get_or, same_Some}
@@ -147,16 +147,18 @@ module _ {K : Type 0} (members : List K) (pairs : List (K × K)) (target : K) wh
       complete a ([], few, walk) = (0, ap Some (sym walk.1))
       complete a (b ∷ path, few, walk) = absurd (omega arith)
 
+  -- who is added by a level reaches the target in a step more
+  pub sound-next : (n : ℕ) (old new : List K) → ((a : K) → In old a → Reaches members pairs n a target) → Grows members pairs (In old) old new
+      → (a : K) → In new a → Reaches members pairs (n + 1) a target
+  sound-next n old new sound g a m = elim (g.only a m) [
+    | inl o ↦ Reaches-more n (n + 1) a (omega arith) (sound a o)
+    | inr r ↦ let w = sound r.1.0 r.1.1 in (r.1.0 ∷ w.0, omega arith, (r.0, r.1.2, w.2))
+  ]
+
   pub Level-next : (n : ℕ) (old new : List K) → Level members pairs target n old → Grows members pairs (In old) old new → Closed members pairs (length old) new
       → Level members pairs target (n + 1) new
-  Level-next n old new l g c = record { sound = sound; complete = complete }
+  Level-next n old new l g c = record { sound = sound-next n old new l.sound g; complete = complete }
     where
-      sound : (a : K) → In new a → Reaches members pairs (n + 1) a target
-      sound a m = elim (g.only a m) [
-        | inl o ↦ Reaches-more n (n + 1) a (omega arith) (l.sound a o)
-        | inr r ↦ let w = l.sound r.1.0 r.1.1 in (r.1.0 ∷ w.0, omega arith, (r.0, r.1.2, w.2))
-      ]
-
       complete : (a : K) → Reaches members pairs (n + 1) a target → In new a
       complete a ([], few, walk) = In-kept members pairs (In old) old new g a (l.complete a ([], omega arith, walk))
       complete a (b ∷ path, few, walk) =
@@ -170,16 +172,3 @@ module _ {K : Type 0} (members : List K) (pairs : List (K × K)) (target : K) wh
       go : (path : List K) (a : K) → IsWalk members pairs a path target → In keys a
       go [] a walk = l.complete a ([], omega arith, walk)
       go (b ∷ path) a walk = let m = go path b walk.2 in c.has m.0 b a (slice_get_within keys m.0 b m.1) m.1 walk.0 walk.1
-
-  -- the test that finds a key in the list decides who reaches the target
-  pub Level-test : (eq : K → K → Bool) (same : (x y : K) → eq x y ≡ true → x ≡ y) (own : (x : K) → eq x x ≡ true) (n : ℕ) (keys : List K)
-      → Level members pairs target n keys → (a : K) → IsTrue (list_any (eq a) keys) ↔ Reaches members pairs n a target
-  Level-test eq same own n keys l a =
-      (λ h. l.sound a (In-from_any eq same keys a h), λ r. let m = l.complete a r in any_from_In eq same own keys a m.0 m.1)
-
-  -- nobody reaches who is no member
-  pub Level-none : (n : ℕ) (keys : List K) → keys ≡ [] → (Contains members target → ⊥) → Level members pairs target n keys
-  Level-none n keys none out = record {
-    sound = λ a m. absurd (omega (arith, slice_get_within keys m.0 a m.1, ap length none));
-    complete = λ a r. absurd (out (member-end r.0 a r.2));
-  }

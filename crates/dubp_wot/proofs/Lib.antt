@@ -1,3 +1,4 @@
+pub mod Counts
 pub mod Issuers
 pub mod KeyOrder
 pub mod Levels
@@ -5,3 +6,4 @@ pub mod Listed
 pub mod Members
 pub mod Numbered
 pub mod Powers
+pub mod Reached

@@ -1,23 +1,22 @@
 -- Keys by their numbers, over plain lists: who is known by a number, who is found, and what a mark says.
-use Rattle.std.proofs.Common.{◌≡◌, ℕ, zero, suc, ◌+◌, ◌<◌, ◌↔◌, nat_eq, nat_lt, Bool, true, false, IsTrue, cond, if◌then◌else◌, List, [], ◌∷◌, ◌++◌, Vec, Global, Result, Ok, Err, IfOk, OnErr, Option, Some, None, IfSome, IsSome, ◌⊎◌, length, slice_get, get_or, set, take, Contains, inl, inr, refl, sym, ap, subst, ◌∙◌, true≢false, arith}
+use Rattle.std.proofs.Common.{◌≡◌, ℕ, zero, suc, ◌+◌, ◌<◌, ◌↔◌, nat_eq, nat_lt, Bool, true, false, cond, if◌then◌else◌, List, [], ◌∷◌, ◌++◌, Vec, Global, Result, Ok, Err, IfOk, OnErr, Option, Some, None, IfSome, IsSome, ◌⊎◌, length, slice_get, get_or, set, take, Contains, inl, inr, refl, sym, ap, subst, ◌∙◌, true≢false, arith}
 use Rattle.std.specs.List.{AllByRecursion, IsDistinct, list_any, position, position_or_len}
-use Rattle.std.specs.Option.{option_map, option_map_or, option_to_list}
+use Rattle.std.specs.Option.{option_map, option_to_list}
 use Rattle.std.proofs.Math.ListN.{length-append}
 use Rattle.std.proofs.lemmas.List.{append-nil, map-append, get_or-map, get_or_default, length-map, get_or-set_same, get_or-set_other, get_or_past, get_or_read}
 use Rattle.std.proofs.lemmas.List.Elements.{filter_more}
-use Rattle.std.proofs.lemmas.List.Sums.{fails_before_first, passes_at_first}
+use Rattle.std.proofs.lemmas.List.Sums.{passes_at_first}
 use Rattle.std.proofs.lemmas.Map.Keys.{IsDistinct-head, IsDistinct-tail}
 use Rattle.std.proofs.lemmas.Option.{slice_get_within, slice_get-get_or, slice_get-map, same_Some, get_or_from_slice_get}
-use Rattle.std.proofs.lemmas.Bool.{cases_lt, ltb-true, ltb-false}
+use Rattle.std.proofs.lemmas.Bool.{cases_lt, ltb-true}
 use Rattle.std.proofs.lemmas.Bool.Decides.{Decides-eqb}
 use Rattle.indexmap.specs.IndexSet.{insert_key}
 use Rattle.dubp_atoms.specs.Same.{Text, same_text}
-use Rattle.dubp_atoms.specs.Walks.{Reaches}
 use Rattle.dubp_wot.specs.Known.{AreIssuersOf, KnowIssuers, is_among, members_among}
-use Rattle.dubp_wot.specs.Numbers.{Numbered, name, named, AreBelow, AreNumbers, Keeps, is_found}
+use Rattle.dubp_wot.specs.Numbers.{Numbered, name, named, AreBelow, AreNumbers, Keeps}
 use Rattle.dubp_wot.specs.Search.{In, Grows, Closed, Level}
 use Rattle.dubp_wot.proofs.Issuers.{among-has, has-among}
-use Rattle.dubp_wot.proofs.Levels.{text_same, text_own, slice_get-append, In-push, In-from_any, any_from_In, Grows-none, Grows-then, Grows-weaker, Grows-push, at-old, Closed-more, Level-first, Level-test}
+use Rattle.dubp_wot.proofs.Levels.{text_same, text_own, slice_get-append, In-push, Grows-none, Grows-then, Grows-weaker, Grows-push, at-old, Closed-more, Level-first}
 
 pub nat_same : (x y : ℕ) → nat_eq x y ≡ true → x ≡ y
 nat_same x y = (Decides-eqb x y).0
@@ -195,72 +194,19 @@ AreBelow-insert size xs n below within = by (list_any (nat_eq n) xs)
     by true = below
     by false = AreBelow-push size xs n below within
 
--- ---- whether a key is found, by its number
+-- ---- a key has one number
 
 none_again : (y : Text) (ys : List Text) → AllByRecursion (λ z. same_text y z ≡ false) ys → (n : ℕ) → slice_get ys n ≡ Some y → ⊥
 none_again y [] apart n e = cc
 none_again y (z ∷ zs) apart zero e = true≢false (sym (text_own y) ∙ ap (same_text y) (sym (same_Some z y e)) ∙ apart.0)
 none_again y (z ∷ zs) apart (suc n) e = none_again y zs apart.1 n e
 
--- a key has one number
 pub one_number : (keys : List Text) → IsDistinct same_text keys → (a : Text) (i j : ℕ) → slice_get keys i ≡ Some a → slice_get keys j ≡ Some a → i ≡ j
 one_number [] once a i j h k = cc
 one_number (x ∷ xs) once a zero zero h k = refl
 one_number (x ∷ xs) once a zero (suc j) h k = absurd (none_again x xs (IsDistinct-head same_text x xs once) j (k ∙ sym h))
 one_number (x ∷ xs) once a (suc i) zero h k = absurd (none_again x xs (IsDistinct-head same_text x xs once) i (h ∙ sym k))
 one_number (x ∷ xs) once a (suc i) (suc j) h k = ap suc (one_number xs (IsDistinct-tail same_text x xs once) a i j h k)
-
-alike : (s t : Bool) → (s ≡ true → t ≡ true) → (t ≡ true → s ≡ true) → s ≡ t
-alike true t h k = sym (h refl)
-alike false true h k = k refl
-alike false false h k = refl
-
-module _ (keys : List Text) (once : IsDistinct same_text keys) (xs : List ℕ) (below : AreBelow (length keys) xs) (a : Text) where
-  first : ℕ
-  first = position_or_len (same_text a) keys
-
-  -- a key that is found stands at the number that is found
-  stands : list_any (same_text a) (named keys xs) ≡ true → (n : ℕ) × In xs n × (slice_get keys n ≡ Some a)
-  stands h =
-      let m = In-from_any same_text text_same (named keys xs) a h in
-      let r = In-of_named keys xs a m.0 m.1 in
-      (r.0, r.1, slice_get-get_or keys r.0 [] (below r.0 r.1) ∙ ap Some r.2)
-
-  pub is_found-named : is_found keys xs a ≡ list_any (same_text a) (named keys xs)
-  unfolding first
-  is_found-named = by (nat_lt (position_or_len (same_text a) keys) (length keys)) refl
-    where
-      by : (t : Bool) → nat_lt (position_or_len (same_text a) keys) (length keys) ≡ t
-          → option_map_or (λ n. list_any (nat_eq n) xs) (cond t (Some (position_or_len (same_text a) keys)) None) false ≡ list_any (same_text a) (named keys xs)
-      by true e = alike (list_any (nat_eq first) xs) (list_any (same_text a) (named keys xs)) forth back
-        where
-          within : first < length keys
-          within = ltb-true first (length keys) e
-
-          at : slice_get keys first ≡ Some a
-          at = slice_get-get_or keys first [] within ∙ ap Some (sym (text_same a (get_or keys first []) (passes_at_first (same_text a) keys [] within)))
-
-          forth : list_any (nat_eq first) xs ≡ true → list_any (same_text a) (named keys xs) ≡ true
-          forth h =
-              let m = In-from_any nat_eq nat_same xs first h in
-              any_from_In same_text text_same text_own (named keys xs) a m.0
-              (In-named keys xs first m.0 m.1 ∙ ap Some (get_or_from_slice_get keys first a [] at))
-
-          back : list_any (same_text a) (named keys xs) ≡ true → list_any (nat_eq first) xs ≡ true
-          back h =
-              let s = stands h in
-              let e' = one_number keys once a s.0 first s.2 at in
-              any_from_In nat_eq nat_same nat_own xs first s.1.0 (s.1.1 ∙ ap Some e')
-      by false e = sym (none (list_any (same_text a) (named keys xs)) refl)
-        where
-          none : (t : Bool) → list_any (same_text a) (named keys xs) ≡ t → t ≡ false
-          none false h = refl
-          none true h =
-              let s = stands h in
-              let within = slice_get_within keys s.0 a s.2 in
-              let past = ltb-false first (length keys) e in
-              let fails = fails_before_first (same_text a) keys s.0 [] (omega arith) in
-              absurd (true≢false (sym (text_own a) ∙ ap (same_text a) (sym (get_or_from_slice_get keys s.0 a [] s.2)) ∙ fails))
 
 -- ---- lists of numbers, one more at a time
 
@@ -328,13 +274,6 @@ module _ (members : List Text) (pairs : List (Text × Text)) (old new : List Tex
           let c = Contains-of_named new issuers a ((are a).1 (in', pair)) in
           let m = all c.0 c.1 in
           subst (In (named new found)) c.2 (m.0, In-named new found c.0 m.0 m.1)
-
--- the test by number decides who reaches the target
-pub Level-found : (members : List Text) (pairs : List (Text × Text)) (target : Text) (steps : ℕ) (keys : List Text) → IsDistinct same_text keys → (numbers : List ℕ)
-    → AreBelow (length keys) numbers → Level members pairs target steps (named keys numbers) → (a : Text) → IsTrue (is_found keys numbers a) ↔ Reaches members pairs steps a target
-Level-found members pairs target steps keys once numbers below level a =
-    subst (λ t. IsTrue t ↔ Reaches members pairs steps a target) (sym (is_found-named keys once numbers below a))
-    (Level-test members pairs target same_text text_same text_own steps (named keys numbers) level a)
 
 -- a search begins at the target
 pub Level-target : (members : List Text) (pairs : List (Text × Text)) (target : Text) (keys : List Text) (n : ℕ) → slice_get keys n ≡ Some target → (old new : List ℕ)

@@ -1,9 +1,8 @@
 -- Keys by their numbers: what is known of a web keeps a key once, and names it by its number. Protocol: distance.
-use Rattle.std.specs.Prelude.{◌≡◌, ℕ, ◌<◌, ◌≤◌, Bool, false, List, [], Option, None, Some, IfSome, Vec, slice_get, get_or, length, map, position, nat_eq}
+use Rattle.std.specs.Prelude.{◌≡◌, ℕ, ◌<◌, ◌≤◌, Bool, false, List, [], Option, None, Some, IfSome, Vec, slice_get, get_or, length, map, nat_eq}
 use Rattle.std.specs.Global.{Global}
 use Rattle.std.specs.List.{list_any}
-use Rattle.std.specs.Option.{option_map_or}
-use Rattle.dubp_atoms.specs.Same.{Text, same_text}
+use Rattle.dubp_atoms.specs.Same.{Text}
 use Rattle.dubp_wot.specs.Search.{In}
 
 -- the keys that a search came by, each at its number, and by number the numbers of the members who certify it, where they were asked for
@@ -31,10 +30,6 @@ AreNumbers keys issuers = (i : ℕ) → IfSome (get_or issuers i None) (λ numbe
 pub record Keeps (old new : List Text) : Type 0 where
   pub longer : length old ≤ length new
   pub keeps : (i : ℕ) (k : Text) → slice_get old i ≡ Some k → slice_get new i ≡ Some k
-
--- whether the number of the key is among these
-abbrev pub is_found : List Text → List ℕ → Text → Bool
-is_found keys numbers k = option_map_or (λ n. list_any (nat_eq n) numbers) (position (same_text k) keys) false
 
 -- the marks are those of the numbers
 abbrev pub AreMarked : List ℕ → List Bool → Type 0

@@ -1,8 +1,10 @@
 ghost use Rattle.std.specs.Prelude.{◌≡◌, ℕ, ◌<◌, ◌≤◌, ◌^◌, List, [], ◌∷◌, ◌++◌, length, nat_eq, slice_get, get_or, Some, false, replicate, IfOk, OnOk};
 ghost use Rattle.std.specs.List.{list_any};
 ghost use Rattle.indexmap.specs.IndexSet.{insert_key};
+ghost use Rattle.dubp_wot.specs.Sought.{missing};
 
 use crate::sentry::push;
+use crate::sought::Sought;
 use dubp_atoms::NoMemory;
 use std::alloc::Global;
 use std::marker::Model;
@@ -60,15 +62,24 @@ impl Found {
         number < self.marks.len() && self.marks[number]
     }
 
-    /// Puts a number behind the others, unless it is found.
-    pub(crate) fn insert(&mut self, number: usize) -> Result<(), NoMemory>
-        requires { number < 2 ^ 63 }
-        ensures { OnOk result (self.new ≡ insert_key nat_eq self.old number) }
+    /// Puts a number behind the others, unless it is found. `left` is how many of the sought numbers are not found.
+    pub(crate) fn insert(
+        &mut self,
+        number: usize,
+        sought: &Sought<'_>,
+        left: &mut usize,
+    ) -> Result<(), NoMemory>
+        requires small { number < 2 ^ 63 }
+        requires counted { left.old ≡ missing sought.now.numbers self.old }
+        ensures put { OnOk result (self.new ≡ insert_key nat_eq self.old number) }
+        ensures counted { OnOk result (left.new ≡ missing sought.now.numbers self.new) }
     {
         if self.has(number) {
             return Ok(());
         }
-        self.put(number)
+        self.put(number)?;
+        *left -= sought.count(number);
+        Ok(())
     }
 
     /// Puts a number behind the others, with its mark. It stands by itself so that the look at a mark, which each pair costs, is short.

@@ -2,9 +2,8 @@ ghost use Rattle.std.specs.Prelude.{◌≡◌, ℕ, ◌+◌, ◌++◌, ◌<◌, 
 ghost use Rattle.std.specs.List.{IsDistinct};
 ghost use Rattle.dubp_atoms.specs.Same.{Text, same_text};
 ghost use Rattle.dubp_wot.specs.Known.{AreIssuersOf, KnowIssuers, members_among};
-ghost use Rattle.dubp_wot.specs.Numbers.{name, named, AreBelow, Keeps, is_found};
+ghost use Rattle.dubp_wot.specs.Numbers.{name, named, AreBelow, Keeps};
 
-use crate::found::Found;
 use crate::sentry::push;
 use crate::web::Web;
 use dubp_atoms::{Key, NoMemory, Secret};
@@ -51,17 +50,7 @@ impl KnownIssuers {
         self.keys.len()
     }
 
-    /// Whether the number of the key is found.
-    pub(crate) fn is_found(&self, key: &Key, found: &Found) -> bool
-        ensures { result ≡ is_found self.now.keys found.now key.now }
-    {
-        match self.keys.get_index_of(key) {
-            Some(number) => found.has(number),
-            None => false,
-        }
-    }
-
-    /// The number of the key, which gets the next one where it has none. It has to be a member for what is known to stay true.
+    /// The number of the key, which gets the next one where it has none. What is known stays true where it is a member.
     pub(crate) fn number(&mut self, key: Key) -> Result<usize, NoMemory>
         ensures kept { Keeps self.old.keys self.new.keys }
         ensures issuers { self.new.issuers ≡ self.old.issuers }
@@ -79,7 +68,9 @@ impl KnownIssuers {
         self.keys.get_index_of(key)
     }
 
-    /// The number of a member, which gets the next one where it has none, or None where the key is no member's. Whether it is one is asked only of a key without a number.
+    /// The number of the key, which gets the next one where it has none, or None where it is no member.
+    ///
+    /// The web is asked whether it is one only where it has no number.
     fn number_member<W: Web>(&mut self, web: &W, key: &Key) -> Result<Option<usize>, NoMemory>
         requires known { (members : List Text) (pairs : List (Text × Text)) → W.shows web.now members pairs → KnowIssuers members pairs self.old }
         ensures kept { Keeps self.old.keys self.new.keys }
@@ -98,7 +89,7 @@ impl KnownIssuers {
     }
 
     /// The numbers of those of the keys who are members, in their order.
-    fn number_members<W: Web>(
+    pub(crate) fn number_members<W: Web>(
         &mut self,
         alloc: Global,
         web: &W,

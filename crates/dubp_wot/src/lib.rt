@@ -7,8 +7,9 @@
 //! ```text
 //! let sentries = sentries(alloc, &web, steps_max)?;
 //! let mut known = KnownIssuers::new(alloc, web.secret());
+//! let sought = Sought::new(alloc, &web, &mut known, &sentries)?;
 //! for target in joiners {
-//!     let (reached, all) = reaches_among_known(alloc, &web, &mut known, &sentries, target, steps_max)?;
+//!     let (reached, all) = reaches_among_known(alloc, &web, &mut known, &sought, target, steps_max)?;
 //!     let is_far = u128::from(reached) * 100 < u128::from(all) * u128::from(percent);
 //! }
 //! let (reached, all) = reaches(alloc, &web, target, steps_max)?;
@@ -19,9 +20,11 @@ mod found;
 mod known;
 mod reaching;
 mod sentry;
+mod sought;
 mod web;
 
 pub use known::KnownIssuers;
 pub use reaching::{reaches, reaches_among, reaches_among_known};
 pub use sentry::{d_sen, sentries};
+pub use sought::Sought;
 pub use web::Web;
