@@ -1,6 +1,6 @@
 -- What the web answers, of what is made once a block.
 use Rattle.std.proofs.Common.{◌≡◌, ℕ, ◌⊎◌, inl, inr, Bool, true, false, not, cond, ◌||◌, ◌&&◌, ◌↔◌, IsTrue, List, ◌∷◌, Option, Some, None, length, Contains, refl, ap, sym, subst, ◌∙◌}
-use Rattle.std.specs.BTreeSet.{contains}
+use Rattle.std.specs.BTreeSet.{IsOrdered, contains}
 use Rattle.dubp_atoms.specs.Same.{Text, same_text}
 use Rattle.dubp_atoms.specs.Walks.{received_of, stock_of}
 use Rattle.dubp_block.specs.declared.block.Block.{Block}
@@ -9,16 +9,16 @@ use Rattle.dubp_chain.specs.Chains.{Chain}
 use Rattle.dubp_chain.specs.Live.{live, live_pairs, received, stock}
 use Rattle.dubp_chain.specs.Members.{member, members}
 use Rattle.dubp_iindex.specs.Rows.{texts}
-use Rattle.dubp_iindex.specs.Order.{IsNext}
+use Rattle.dubp_iindex.specs.Order.{IsNext, AreNext}
 use Rattle.dubp_people_after.proofs.OfSteps.{same_received}
-use Rattle.dubp_wot.specs.Order.{IsInOrder, IsNextMember, IsNextIssuer}
-use Rattle.dubp_people_after.proofs.OfCount.{member_told, next_member_told, next_issuer_told}
+use Rattle.dubp_wot.specs.Order.{IsInOrder, IsNextMember, IsNextIssuer, AreNextIssuers}
+use Rattle.dubp_people_after.proofs.OfCount.{member_told, next_member_told, next_issuer_told, issuers_told}
 use Rattle.dubp_people_distance.specs.declared.certified.Certified.{Certified}
 use Rattle.dubp_people_distance.specs.Certified.{AreCertified, IsCertified, IsKept, OthersAreKept}
 use Rattle.dubp_people_distance.specs.Moved.{joins, leaves, stays}
 use Rattle.dubp_people_distance.specs.Webs.{IsMade, IsWebOf}
 use Rattle.dubp_people_distance.proofs.Counted.{members_sorted}
-use Rattle.dubp_people_distance.proofs.Nexts.{next_same}
+use Rattle.dubp_people_distance.proofs.Nexts.{next_same, all_same, all_of_set}
 use Rattle.dubp_people_distance.proofs.Same.{same_stock}
 
 module _ (c : Chain) (b : Block) (joined : Text → Bool) (leaving : List Text) (count : ℕ) (known : Text → Option Certified) (made : IsMade c b joined leaving count known)
@@ -56,6 +56,13 @@ module _ (c : Chain) (b : Block) (joined : Text → Bool) (leaving : List Text) 
           next_issuer_told (b ∷ c) pairs web.pairs_are k after answer
           (next_same (λ a. IsTrue (contains texts x.issuers a)) (λ a. IsTrue (live (b ∷ c) a k)) (λ a h. sym (is a) ∙ h) (λ a h. is a ∙ h) after answer next)
 
+      pub issuers_known : (found : List Text) → found ≡ x.issuers.keys → IsOrdered texts x.issuers → AreNextIssuers pairs k None found
+      issuers_known found same order =
+          let is = (made.certified k x e).issuers in
+          issuers_told (b ∷ c) pairs web.pairs_are k None found
+          (all_same (λ a. IsTrue (contains texts x.issuers a)) (λ a. IsTrue (live (b ∷ c) a k)) (λ a h. sym (is a) ∙ h) (λ a h. is a ∙ h) None found
+          (subst (AreNext (λ a. IsTrue (contains texts x.issuers a)) None) (sym same) (all_of_set x.issuers.keys order)))
+
       pub stock_known : x.stock ≡ stock_of pairs k
       stock_known = (made.certified k x e).stock ∙ ap (λ (ps : List (Text × Text)). stock_of ps k) (sym web.pairs_are)
 
@@ -69,6 +76,12 @@ module _ (c : Chain) (b : Block) (joined : Text → Bool) (leaving : List Text) 
           let same = (made.kept k e).from in
           next_issuer_told (b ∷ c) pairs web.pairs_are k after answer
           (next_same (λ a. IsTrue (live c a k)) (λ a. IsTrue (live (b ∷ c) a k)) (λ a h. same a ∙ h) (λ a h. sym (same a) ∙ h) after answer next)
+
+      pub issuers_before : (found : List Text) → AreNext (λ a. IsTrue (live c a k)) None found → AreNextIssuers pairs k None found
+      issuers_before found next =
+          let same = (made.kept k e).from in
+          issuers_told (b ∷ c) pairs web.pairs_are k None found
+          (all_same (λ a. IsTrue (live c a k)) (λ a. IsTrue (live (b ∷ c) a k)) (λ a h. same a ∙ h) (λ a h. sym (same a) ∙ h) None found next)
 
       pub stock_before : (answer : ℕ) → answer ≡ stock c k → answer ≡ stock_of pairs k
       stock_before answer is = is ∙ sym (same_stock (b ∷ c) c k (made.kept k e).to) ∙ ap (λ (ps : List (Text × Text)). stock_of ps k) (sym web.pairs_are)

@@ -1,7 +1,9 @@
--- The next of some keys: of those that either of two tests passes, and of those that a walk does not pass over.
+-- The next of some keys: of those that either of two tests passes, of those that a walk does not pass over, and of the keys of a set.
 use Rattle.std.proofs.Common.{◌≡◌, ℕ, ◌+◌, ◌≤◌, ◌⊎◌, inl, inr, Bool, true, false, cond, ◌||◌, IsTrue, List, [], ◌∷◌, Option, Some, None, filter, length, refl, sym, ap, subst, ◌∙◌, true≢false, arith}
-use Rattle.std.specs.List.{list_any}
+use Rattle.std.specs.List.{AllByRecursion, list_any}
+use Rattle.std.specs.List.Sorted.{IsStrictlySortedBy}
 use Rattle.std.specs.Option.{IfSome, IfNone}
+use Rattle.std.specs.BTreeMap.{is_at}
 use Rattle.std.specs.BTreeMap.Range.{IsFromStart, IsLeBy}
 use Rattle.std.specs.declared.ops.Bound.TheVariants.{Excluded, Unbounded}
 use Rattle.std.specs.Ordering.{is_lt, is_gt, ordering_reverse}
@@ -9,12 +11,14 @@ use Rattle.std.specs.declared.cmp.Ordering.{Ordering}
 use Rattle.std.specs.declared.cmp.Ordering.TheVariants.{Less, Equal, Greater}
 use Rattle.std.specs.Cmp.Lexicographic.{nat_list_cmp_total}
 use Rattle.std.proofs.lemmas.List.Sums.{length-filter, count_by-le-length}
+use Rattle.std.proofs.lemmas.Map.Keys.{sorted_head, sorted_tail}
 use Rattle.dubp_atoms.specs.Same.{Text, same_text}
 use Rattle.dubp_iindex.specs.Rows.{texts}
-use Rattle.dubp_iindex.specs.Order.{less, is_above, IsNext}
-use Rattle.dubp_lists.proofs.Elements.{or_true, IsIn, any_in}
-use Rattle.dubp_lists.proofs.InOrder.{same_text_is}
-use Rattle.dubp_wot.proofs.KeyOrder.{less-own, less-trans, less-meets, less-under, above-up}
+use Rattle.dubp_iindex.specs.Order.{less, is_above, IsNext, AreNext}
+use Rattle.dubp_lists.proofs.Elements.{or_true, IsIn, any_in, in_all, in_any}
+use Rattle.dubp_lists.proofs.InOrder.{same_text_is, same_text_own}
+use Rattle.dubp_wot.proofs.KeyOrder.{less-back, less-own, less-trans, less-meets, less-under, above-up}
+use Rattle.dubp_people_distance.proofs.Sets.{tied}
 
 pub either : (s t : Bool) → (s || t) ≡ true → (s ≡ true) ⊎ (t ≡ true)
 either true t e = inl refl
@@ -34,6 +38,50 @@ not_less k q e = ap is_lt (nat_list_cmp_total.antisymm q k) ∙ by (texts k q) e
 pub next_same : (P Q : Text → Type 0) → ((k : Text) → P k → Q k) → ((k : Text) → Q k → P k) → (after answer : Option Text) → IsNext P after answer → IsNext Q after answer
 next_same P Q to from after None none = λ a q. none a (from a q)
 next_same P Q to from after (Some k) some = (to k some.0, some.1, λ a q above. some.2 a (from a q) above)
+
+-- all of some keys are all of the same keys said otherwise
+pub all_same : (P Q : Text → Type 0) → ((k : Text) → P k → Q k) → ((k : Text) → Q k → P k) → (after : Option Text) (keys : List Text) → AreNext P after keys → AreNext Q after keys
+all_same P Q f g after [] none = next_same P Q f g after None none
+all_same P Q f g after (k ∷ keys) is = (next_same P Q f g after (Some k) is.0, all_same P Q f g (Some k) keys is.1)
+
+-- ---- all keys of a list in order
+
+below_in : (k a : Text) (keys : List Text) → AllByRecursion (λ y. texts k y ≡ Less) keys → IsIn a keys → less k a ≡ true
+below_in k a keys all there = ap is_lt (in_all (λ y. texts k y ≡ Less) keys all a there)
+
+-- each key of the list has P and stands above `after`, and each such key is one of the list
+all_listed : (P : Text → Type 0) (after : Option Text) (keys : List Text) → IsStrictlySortedBy texts keys → ((a : Text) → IsIn a keys → P a)
+    → ((a : Text) → IsIn a keys → is_above after a ≡ true) → ((a : Text) → P a → is_above after a ≡ true → IsIn a keys) → AreNext P after keys
+all_listed P after [] order has behind all = λ a p. elim (is_above after a) as (λ t. is_above after a ≡ t → t ≡ false) [
+  | true ↦ λ e. absurd (all a p e)
+  | false ↦ λ _. refl
+] refl
+all_listed P after (k ∷ keys) order has behind all =
+    let later = sorted_head texts k keys order in (
+      (
+        has k (inl refl),
+        behind k (inl refl),
+        λ a p e. elim (all a p e) [
+          | inl same ↦ subst (λ z. less z k ≡ false) (sym same) (less-own k)
+          | inr there ↦ less-back k a (below_in k a keys later there)
+        ],
+      ),
+      all_listed P (Some k) keys (sorted_tail texts k keys order) (λ a there. has a (inr there)) (λ a there. below_in k a keys later there)
+          (λ a p e. elim (all a p (above-up after k a (behind k (inl refl)) e)) [
+            | inl same ↦ absurd (true≢false (sym e ∙ subst (λ z. less k z ≡ false) (sym same) (less-own k)))
+            | inr there ↦ there
+          ]),
+    )
+
+-- the keys of a set, as it keeps them
+pub all_of_set : (keys : List Text) → IsStrictlySortedBy texts keys → AreNext (λ k. IsTrue (list_any (is_at (texts k)) keys)) None keys
+all_of_set keys order =
+    all_listed (λ k. IsTrue (list_any (is_at (texts k)) keys)) None keys order
+    (λ a there. in_any (is_at (texts a)) keys a there (sym (tied a a) ∙ same_text_own a))
+    (λ a there. refl)
+    (λ a p e.
+    let h = any_in (is_at (texts a)) keys p in
+    subst (λ z. IsIn z keys) (same_text_is h.0 a (tied a h.0 ∙ h.2)) h.1)
 
 -- ---- the first of a set from a bound on
 

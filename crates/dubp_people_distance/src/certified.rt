@@ -1,7 +1,7 @@
 ghost use Rattle.std.specs.Prelude.{◌≡◌, ◌∷◌, true, false, cond, IfNone, IfOk, IfSome, IsTrue, OnOk};
 ghost use Rattle.std.specs.Ordering.{is_eq};
 ghost use Rattle.std.specs.BTreeMap.Range.{IsFromStart, IsLeBy};
-ghost use Rattle.std.specs.BTreeSet.{contains};
+ghost use Rattle.std.specs.BTreeSet.{IsOrdered, contains};
 ghost use Rattle.indexmap.specs.IndexSet as hashed;
 ghost use Rattle.dubp_atoms.specs.Same.{Text, same_text};
 ghost use Rattle.dubp_block.specs.declared.block.Block.{Block as BlockValue};
@@ -22,6 +22,15 @@ use std::ops::Bound;
 pub(crate) struct Certified {
     /// From whom the key has one.
     pub(crate) issuers: BTreeSet<Key>,
+    /// How many it has issued.
+    pub(crate) stock: u64,
+    /// How many it has received.
+    pub(crate) received: u64,
+}
+
+/// How many live certifications a key has.
+#[derive(Clone, Copy)]
+pub(crate) struct Counts {
     /// How many it has issued.
     pub(crate) stock: u64,
     /// How many it has received.
@@ -74,6 +83,16 @@ pub(crate) fn next_above(set: &BTreeSet<Key>, after: &Option<Key>) -> Option<Key
         None => first_from(set, Bound::Unbounded),
         Some(key) => first_from(set, Bound::Excluded(*key)),
     }
+}
+
+/// The keys of the set, in the order in which it keeps them.
+pub(crate) fn keys_in_order(alloc: Global, set: &BTreeSet<Key>) -> Result<Vec<Key>, NoMemory>
+    ensures same { IfOk result (λ keys. keys.items ≡ set.now.keys) }
+    ensures ordered { IsOrdered texts set.now }
+{
+    let found = set.iter().copied().collect(alloc);
+    let keys: Vec<Key> = found.map_err(|_| NoMemory)?;
+    Ok(keys)
 }
 
 /// The least key of the set from a bound on.

@@ -10,7 +10,7 @@ ghost use Rattle.dubp_iindex.specs.Order.{IsNext};
 ghost use Rattle.dubp_iindex.specs.Rows.{texts};
 ghost use Rattle.dubp_people_distance.specs.Webs.{IsMade, IsWebOf};
 
-use crate::certified::{Certified, next_above};
+use crate::certified::{Certified, keys_in_order, next_above};
 use crate::changed::changed_by;
 use crate::moved::{count_with, joined_by, left_by, next_staying};
 use crate::two_chains::TwoChains;
@@ -85,17 +85,24 @@ impl<'a, T: TwoChains> Web for NextWeb<'a, T> {
         }
     }
 
+    fn issuers(&self, alloc: Global, to: Key) -> Result<Vec<Key>, NoMemory> {
+        match self.changed.get(&to) {
+            None => self.chains.issuers_before(alloc, to),
+            Some(certified) => keys_in_order(alloc, &certified.issuers),
+        }
+    }
+
     fn stock(&self, key: &Key) -> u64 {
         match self.changed.get(key) {
             Some(certified) => certified.stock,
-            None => self.chains.stock_before(*key),
+            None => self.chains.counts_before(*key).stock,
         }
     }
 
     fn received(&self, key: &Key) -> u64 {
         match self.changed.get(key) {
             Some(certified) => certified.received,
-            None => self.chains.received_before(*key),
+            None => self.chains.counts_before(*key).received,
         }
     }
 

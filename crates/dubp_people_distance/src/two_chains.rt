@@ -1,17 +1,17 @@
-ghost use Rattle.std.specs.Prelude.{◌≡◌, ◌∷◌, IsTrue, length, IfOk, IfSome, IfNone};
+ghost use Rattle.std.specs.Prelude.{◌≡◌, ◌∷◌, None, IsTrue, length, IfOk, IfSome, IfNone};
 ghost use Rattle.dubp_block.specs.declared.block.Block.{Block as BlockValue};
 ghost use Rattle.dubp_chain.specs.Chains.{Chain, params};
 ghost use Rattle.dubp_chain.specs.Live.{live, received, stock};
 ghost use Rattle.dubp_chain.specs.Members.{member, members};
 ghost use Rattle.dubp_expiry.specs.Entries.{IsBehind, IsNextDue, NoneIsDue};
-ghost use Rattle.dubp_iindex.specs.Order.{IsNext};
+ghost use Rattle.dubp_iindex.specs.Order.{IsNext, AreNext};
 ghost use Rattle.dubp_people_after.specs.OfLeft.{queue_left};
 ghost use Rattle.dubp_people_after.specs.OfLeft.{IsAsked};
 ghost use Rattle.dubp_people_after.specs.OfSteps.{now_of};
 ghost use Rattle.dubp_people_distance.specs.Certified.{IsCertified};
 ghost use Rattle.dubp_people_distance.specs.Stated.{AreStated};
 
-use crate::certified::{Certified, certified_of};
+use crate::certified::{Certified, Counts, certified_of};
 use dubp_atoms::{Key, NoMemory, Secret};
 use dubp_block::Block;
 use dubp_expiry::{Behind, Due};
@@ -20,7 +20,7 @@ use dubp_people_after::{After, Next, Registry, WithBlock};
 use dubp_undo::Tables;
 use std::alloc::Global;
 
-/// A chain, and the same chain with a block that stands to be judged on it. Only `certified` takes memory.
+/// A chain, and the same chain with a block that stands to be judged on it. Only `issuers_before` and `certified` take memory.
 pub(crate) trait TwoChains {
     /// `stand s c b`: the block b stands to be judged on the chain c, and s shows the people of c, and of c with b on it.
     ghost stand: { Self → Chain → BlockValue → Type 0 };
@@ -41,13 +41,15 @@ pub(crate) trait TwoChains {
     fn issuer_before(&self, to: Key, after: Option<Key>) -> Option<Key>
         ensures { (c : Chain) (b : BlockValue) → stand self.now c b → IsNext (λ a. IsTrue (live c a to)) after result };
 
-    /// How many of the certifications that the key has issued are live before the block.
-    fn stock_before(&self, key: Key) -> u64
-        ensures { (c : Chain) (b : BlockValue) → stand self.now c b → result ≡ stock c key };
+    /// All keys from whom the key has a live certification before the block, in the order of their texts. `NoMemory` where there is none
+    /// for the list.
+    fn issuers_before(&self, alloc: Global, to: Key) -> Result<Vec<Key>, NoMemory>
+        ensures { IfOk result (λ keys. (c : Chain) (b : BlockValue) → stand self.now c b → AreNext (λ a. IsTrue (live c a to)) None keys.items) };
 
-    /// How many live certifications the key has received before the block.
-    fn received_before(&self, key: Key) -> u64
-        ensures { (c : Chain) (b : BlockValue) → stand self.now c b → result ≡ received c key };
+    /// How many live certifications the key has before the block.
+    fn counts_before(&self, key: Key) -> Counts
+        ensures stock { (c : Chain) (b : BlockValue) → stand self.now c b → result.stock ≡ stock c key }
+        ensures received { (c : Chain) (b : BlockValue) → stand self.now c b → result.received ≡ received c key };
 
     /// The first entry of the queue of the chain before the block, behind the place and up to the time of the block.
     fn due_behind(&self, behind: Behind) -> Option<(u64, Due)>
@@ -98,12 +100,15 @@ impl<'a> TwoChains for Judged<'a> {
         self.registry.next_issuer(to, after)
     }
 
-    fn stock_before(&self, key: Key) -> u64 {
-        self.registry.stock(key)
+    fn issuers_before(&self, alloc: Global, to: Key) -> Result<Vec<Key>, NoMemory> {
+        self.registry.issuers(alloc, to)
     }
 
-    fn received_before(&self, key: Key) -> u64 {
-        self.registry.received(key)
+    fn counts_before(&self, key: Key) -> Counts {
+        Counts {
+            stock: self.registry.stock(key),
+            received: self.registry.received(key),
+        }
     }
 
     fn due_behind(&self, behind: Behind) -> Option<(u64, Due)> {

@@ -9,4 +9,4 @@ returns-in-Some g c = λ keys pairs shown.
 
 pub returns-in-None : goal.returns-in-None
 returns-in-None g c = λ keys pairs shown.
-    stock_before shown.0 shown.1 _ _ _ _ shown.2.1.0 keys pairs shown.2.1.1 c.args.key.now (sym c.get.ensures.value ∙ ap option_copied c.in-None.is) c.stock_before.result (c.stock_before.ensures shown.0 shown.1 shown.2.0)
+    stock_before shown.0 shown.1 _ _ _ _ shown.2.1.0 keys pairs shown.2.1.1 c.args.key.now (sym c.get.ensures.value ∙ ap option_copied c.in-None.is) c.counts_before.result.stock (c.counts_before.ensures.stock shown.0 shown.1 shown.2.0)
