@@ -11,7 +11,7 @@ use Rattle.dubp_undo.specs.MovingTable.{get, IsLeast, HasNone, IsAfter}
 use Rattle.dubp_iindex.specs.Order.{is_above, IsNext}
 use Rattle.dubp_iindex.specs.Rows.{texts}
 
-is_less : (o : Ordering) → is_lt o ≡ true → o ≡ Less
+pub is_less : (o : Ordering) → is_lt o ≡ true → o ≡ Less
 is_less Less h = refl
 is_less Equal h = cc
 is_less Greater h = cc
@@ -20,7 +20,7 @@ above-after : (after : Option Text) (q : Text) → is_above after q ≡ true →
 above-after None q h = tt
 above-after (Some k) q h = is_less (texts k q) h
 
-after-above : (after : Option Text) (q : Text) → IsAfter texts after q → is_above after q ≡ true
+pub after-above : (after : Option Text) (q : Text) → IsAfter texts after q → is_above after q ≡ true
 after-above None q h = refl
 after-above (Some k) q h = ap is_lt h
 

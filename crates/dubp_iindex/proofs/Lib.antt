@@ -5,3 +5,4 @@ pub mod Members
 pub mod Numbered
 pub mod Putting
 pub mod Uids
+pub mod Walked

@@ -42,14 +42,14 @@ members-in_order rows = keys_in_order (entries rows) (entries_sorted rows)
 
 -- ---- just the members
 
-contains_cases : {X : Type 0} (x a : X) (xs : List X) → Contains (x ∷ xs) a → (x ≡ a) ⊎ Contains xs a
+pub contains_cases : {X : Type 0} (x a : X) (xs : List X) → Contains (x ∷ xs) a → (x ≡ a) ⊎ Contains xs a
 contains_cases x a xs (zero, within, e) = inl e
 contains_cases x a xs (suc k, within, e) = inr (k, omega arith, e)
 
-contains_there : {X : Type 0} (x a : X) (xs : List X) → Contains xs a → Contains (x ∷ xs) a
+pub contains_there : {X : Type 0} (x a : X) (xs : List X) → Contains xs a → Contains (x ∷ xs) a
 contains_there x a xs (k, within, e) = (suc k, omega arith, e)
 
-contains_none : {X : Type 0} (a : X) → Contains [] a → ⊥
+pub contains_none : {X : Type 0} (a : X) → Contains [] a → ⊥
 contains_none a (k, within, e) = absurd (omega arith)
 
 listed : (es : Entries) (k : Text) (row : IdentityRow) → finite.find texts k es ≡ Some row → row.member ≡ true → Contains (keys es) k

@@ -1,5 +1,6 @@
-ghost use Rattle.std.specs.Prelude.{◌≡◌, ◌+◌, ◌≤◌, List, [], ◌∷◌, length, Some, IsOk, OnOk, OnErr};
+ghost use Rattle.std.specs.Prelude.{◌≡◌, ◌+◌, ◌≤◌, List, [], ◌∷◌, ◌++◌, length, Some, IsOk, OnOk, OnErr};
 ghost use Rattle.std.specs.FinMap as map;
+ghost use Rattle.dubp_atoms.specs.Same.{Text};
 ghost use Rattle.dubp_iindex.specs.Order.{IsNextMember, IsNextKey};
 ghost use Rattle.dubp_iindex.specs.Rows as rows;
 ghost use Rattle.dubp_iindex.specs.Rows.{Rows, newest_rows, texts, one, key_with, FitsRows};
@@ -11,6 +12,7 @@ use crate::writing::{Writes, ready_for, ready_found, set_for, set_found, writes_
 use dubp_atoms::{Key, NoMemory, Secret, Steps, Uid};
 use dubp_undo::{Both, ByHash, Found, Leaf, NoSummary, Tables, Three};
 use std::alloc::Global;
+use std::ops::Bound;
 use std::sync::ledger::Ledger as StepBook;
 
 /// The identities of a chain: the row of each key, found by key and by uid, and the members in the order of their keys.
@@ -132,6 +134,21 @@ impl IIndex {
         }
     }
 
+    /// Appends the members in the order of their texts. It looks at these alone.
+    ///
+    /// `NoMemory` where there is none for the list; it begins with what stood in it then.
+    pub fn put_members(&self, members: &mut Vec<Key>) -> Result<(), NoMemory>
+        ensures put { OnOk result ((s : List Rows) → ⟦<IIndex as Tables<IdentityRows>>⟧.at self.now s → members.new.items ≡ members.old.items ++ rows.members (newest_rows s)) }
+
+        ensures refused { OnErr result ((some : List Text) × (members.new.items ≡ members.old.items ++ some)) }
+    {
+        let mut walk = self.tables.second.second.walk_from(Bound::Unbounded);
+        while let Some((key, ())) = walk.next() {
+            put(members, key)?;
+        }
+        Ok(())
+    }
+
     /// The least key above `after` that has an identity, or the least of all where `after` is `None`. `None` exactly where there is none.
     pub fn next_key(&self, after: Option<Key>) -> Option<Key>
         ensures { (s : List Rows) → ⟦<IIndex as Tables<IdentityRows>>⟧.at self.now s → IsNextKey (newest_rows s) after result }
@@ -231,4 +248,12 @@ impl IIndex {
         set_for(&mut derived.third, (), writes.counts, steps)?;
         Ok(())
     }
+}
+
+// Appends the key.
+fn put(keys: &mut Vec<Key>, key: Key) -> Result<(), NoMemory>
+    ensures put { OnOk result (keys.new.items ≡ keys.old.items ++ key ∷ []) }
+    ensures refused { OnErr result (keys.new.items ≡ keys.old.items) }
+{
+    keys.push(key).map_err(|_| NoMemory)
 }
