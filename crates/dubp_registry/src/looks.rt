@@ -71,6 +71,15 @@ impl Registry {
         self.iindex().next_member(after)
     }
 
+    /// All members, in the order of their texts. `NoMemory` where there is none for the list.
+    pub fn member_list(&self, alloc: Global) -> Result<Vec<Key>, NoMemory>
+        ensures { IfOk result (λ keys. (c : Chain) → ⟦<Registry as Tables<Block>>⟧.at self.now c → IsSound c → keys.items ≡ members c) }
+    {
+        let mut keys = Vec::new(alloc);
+        self.iindex().put_members(&mut keys)?;
+        Ok(keys)
+    }
+
     /// The last membership of the key, or None where it has none.
     pub fn membership(&self, key: Key) -> Option<MemberRow>
         ensures { (c : Chain) → ⟦<Registry as Tables<Block>>⟧.at self.now c → result ≡ membership_left c key }
