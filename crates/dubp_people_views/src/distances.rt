@@ -102,19 +102,14 @@ fn least_certifications(members: u64, steps: u64) -> Option<u64>
 fn sentries<W: Web>(alloc: Global, web: &W, least: u64) -> Result<Vec<Key>, NoMemory>
     ensures { IfOk result (λ found. (members : List Text) (pairs : List (Text × Text)) → W.shows web.now members pairs → IsInOrder members → found.items ≡ filter (has_issued_and_received pairs least) members) }
 {
+    let members = web.members(alloc)?;
     let mut found = Vec::new(alloc);
-    let mut after = None;
-    // what a web shows is no value, so no measure speaks of it; there are fewer members than turns
-    'members: for _ in 0..u64::MAX {
-        let Some(key) = web.next_member(after) else {
-            return Ok(found);
-        };
-        if is_sentry(web, &key, least) {
-            push(&mut found, key)?;
+    for key in &members {
+        if is_sentry(web, key, least) {
+            push(&mut found, *key)?;
         }
-        after = Some(key);
     }
-    Err(NoMemory)
+    Ok(found)
 }
 
 /// Whether the key has issued and received at least so many certifications.

@@ -1,18 +1,13 @@
 -- The members in order, and the walk from each to the next.
-use Rattle.std.proofs.Common.{◌≡◌, ℕ, zero, suc, ◌-◌, ◌<◌, ◌⊎◌, inl, inr, Bool, true, false, not, cond, List, [], ◌∷◌, ◌++◌, Option, Some, None, filter, length, Contains, refl, sym, ap, subst, ◌∙◌, true≢false, arith}
+use Rattle.std.proofs.Common.{◌≡◌, zero, suc, ◌⊎◌, inl, inr, Bool, true, false, not, cond, List, [], ◌∷◌, ◌++◌, Option, Some, None, Contains, refl, sym, ap, subst, ◌∙◌, true≢false, arith}
 use Rattle.std.specs.Prelude.{find}
 use Rattle.std.specs.List.{AllByRecursion}
 use Rattle.std.specs.Ordering.{nat_cmp, is_lt}
 use Rattle.std.specs.declared.cmp.Ordering.TheVariants.{Less}
 use Rattle.std.specs.Cmp.Lexicographic.{slice_cmp}
 use Rattle.std.proofs.lemmas.Map.Keys.{sorted_head, sorted_tail}
-use Rattle.std.proofs.lemmas.List.Sums.{length-filter, count_by-le-length}
-use Rattle.std.proofs.Math.ListN.{length-append}
-use Rattle.std.proofs.lemmas.List.Elements.{filter-append}
-use Rattle.std.proofs.lemmas.List.{append-nil}
 use Rattle.std.proofs.lemmas.Option.{same_Some}
 use Rattle.dubp_atoms.specs.Same.{Text}
-use Rattle.dubp_atoms.specs.Walks.{d_sen_of, has_issued_and_received, sentries_of}
 use Rattle.dubp_wot.specs.Order.{less, is_above, IsInOrder, IsNext, IsNextMember}
 use Rattle.dubp_wot.specs.Search.{up_to}
 use Rattle.dubp_wot.proofs.KeyOrder.{less-own, less-back, less-meets, above-up}
@@ -120,38 +115,9 @@ up_to-first [] = refl
 up_to-first (x ∷ xs) = up_to-first xs
 
 -- where there is no next key, all were taken
-up_to-end : (after : Option Text) (xs : List Text) → IsInOrder xs → IsNextMember xs after None → up_to after xs ≡ xs
+pub up_to-end : (after : Option Text) (xs : List Text) → IsInOrder xs → IsNextMember xs after None → up_to after xs ≡ xs
 up_to-end after xs order next = find-all after xs (next-is-find after None xs order next)
 
-module _ (after : Option Text) (k : Text) (xs : List Text) (order : IsInOrder xs) (next : IsNextMember xs after (Some k)) where
-  pub up_to-next : up_to (Some k) xs ≡ up_to after xs ++ k ∷ []
-  up_to-next = find-last after k xs order (next-is-find after (Some k) xs order next)
-
-  -- fewer keys are left
-  pub left-shrinks : length xs - length (up_to (Some k) xs) < length xs - length (up_to after xs)
-  left-shrinks =
-      let e = ap (length {A = Text}) up_to-next ∙ length-append (up_to after xs) (k ∷ []) in
-      let within = length-filter (λ x. not (is_above (Some k) x)) xs in
-      let few = count_by-le-length (λ x. not (is_above (Some k) x)) xs in
-      omega arith
-
-  module _ (p : Text → Bool) where
-    filter-next : (t : Bool) → p k ≡ t → filter p (up_to (Some k) xs) ≡ filter p (up_to after xs) ++ cond t (k ∷ []) []
-    filter-next t h =
-        ap (filter p) up_to-next ∙ filter-append p (up_to after xs) (k ∷ [])
-        ∙ ap (λ (s : Bool). filter p (up_to after xs) ++ cond s (k ∷ []) []) h
-
-    module _ (items : List Text) (before : items ≡ filter p (up_to after xs)) where
-      pub filter-taken : (new : List Text) → new ≡ items ++ k ∷ [] → p k ≡ true → new ≡ filter p (up_to (Some k) xs)
-      filter-taken new is h = is ∙ ap (λ (ys : List Text). ys ++ k ∷ []) before ∙ sym (filter-next true h)
-
-      pub filter-passed : p k ≡ false → items ≡ filter p (up_to (Some k) xs)
-      filter-passed h = before ∙ sym (filter-next false h ∙ append-nil (filter p (up_to after xs)))
-
--- where there is no next member, those that were kept are the sentries
-pub sentries-found : (members : List Text) (pairs : List (Text × Text)) (after : Option Text) (least count steps : ℕ) (items : List Text)
-    → IsInOrder members → IsNextMember members after None → least ≡ d_sen_of count steps → count ≡ length members
-    → items ≡ filter (has_issued_and_received pairs least) (up_to after members) → items ≡ sentries_of members pairs steps
-sentries-found members pairs after least count steps items order none is all before =
-    before ∙ ap (filter (has_issued_and_received pairs least)) (up_to-end after members order none)
-    ∙ ap (λ n. filter (has_issued_and_received pairs n) members) (is ∙ ap (λ n. d_sen_of n steps) all)
+-- the next key is put behind those that were taken
+pub up_to-next : (after : Option Text) (k : Text) (xs : List Text) → IsInOrder xs → IsNextMember xs after (Some k) → up_to (Some k) xs ≡ up_to after xs ++ k ∷ []
+up_to-next after k xs order next = find-last after k xs order (next-is-find after (Some k) xs order next)

@@ -51,26 +51,21 @@ fn is_enough(base: u64, steps: u64, members: u64) -> bool
 
 /// The members who are sentries, in the order of their texts.
 ///
-/// There are below 2 ^ 21 members, and `steps_max` is from 1 to 16. `NoMemory` where there is no memory for the list.
+/// There are below 2 ^ 21 members, and `steps_max` is from 1 to 16. `NoMemory` where there is no memory for the lists.
 pub fn sentries<W: Web>(alloc: Global, web: &W, steps_max: u64) -> Result<Vec<Key>, NoMemory>
     requires members { (members : List Text) × (pairs : List (Text × Text)) × (W.shows web.now members pairs × (length members < 2 ^ 21)) }
     requires steps { (1 ≤ steps_max) × (steps_max ≤ 16) }
     ensures { IfOk result (λ found. (members : List Text) (pairs : List (Text × Text)) → W.shows web.now members pairs → found.items ≡ sentries_of members pairs steps_max) }
 {
     let least = d_sen(web.count_members(), steps_max);
+    let members = web.members(alloc)?;
     let mut found = Vec::new(alloc);
-    let mut after = None;
-    // what a web shows is no value, so no measure speaks of it; there are fewer members than turns
-    'members: for _ in 0..u64::MAX {
-        let Some(key) = web.next_member(after) else {
-            return Ok(found);
-        };
-        if has_issued_and_received_least(web, &key, least) {
-            push(&mut found, key)?;
+    for key in &members {
+        if has_issued_and_received_least(web, key, least) {
+            push(&mut found, *key)?;
         }
-        after = Some(key);
     }
-    Err(NoMemory)
+    Ok(found)
 }
 
 /// Whether the key certifies at least this many keys, and is certified by at least this many.

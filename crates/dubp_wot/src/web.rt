@@ -7,7 +7,7 @@ use crate::sentry::push;
 use dubp_atoms::{Key, NoMemory, Secret};
 use std::alloc::Global;
 
-/// The members of a chain and its live certifications. Only `issuers` takes memory.
+/// The members of a chain and its live certifications. Only `members` and `issuers` take memory.
 ///
 /// Contracts see two lists that a web shows, `shows w members pairs`:
 /// - the members, each once, in the order of their texts;
@@ -29,6 +29,25 @@ pub trait Web {
     /// The least member above `after`, or the least of all. None exactly where there is none.
     fn next_member(&self, after: Option<Key>) -> Option<Key>
         ensures { (members : List Text) (pairs : List (Text × Text)) → shows self.now members pairs → IsNextMember members after result };
+
+    /// All members, in the order of their texts. `NoMemory` where there is none for the list.
+    fn members(&self, alloc: Global) -> Result<Vec<Key>, NoMemory>
+        ensures { IfOk result (λ keys. (members : List Text) (pairs : List (Text × Text)) → shows self.now members pairs → keys.items ≡ members) }
+    {
+        // that they stand in order is told with their number
+        let _count = self.count_members();
+        let mut keys = Vec::new(alloc);
+        let mut after = None;
+        // what a web shows is no value, so no measure speaks of it; there are fewer members than turns
+        'members: for _ in 0..u64::MAX {
+            let Some(key) = self.next_member(after) else {
+                return Ok(keys);
+            };
+            push(&mut keys, key)?;
+            after = Some(key);
+        }
+        Err(NoMemory)
+    }
 
     /// The least key above `after` that certifies `to`, or the least of all. None exactly where there is none.
     fn next_issuer(&self, to: Key, after: Option<Key>) -> Option<Key>
