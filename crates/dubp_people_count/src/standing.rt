@@ -32,6 +32,11 @@ impl<'a> Web for Standing<'a> {
         self.registry.next_member(after)
     }
 
+    fn members(&self, alloc: Global) -> Result<Vec<Key>, NoMemory> {
+        let keys = self.registry.member_list(alloc)?;
+        Ok(keys)
+    }
+
     fn next_issuer(&self, to: Key, after: Option<Key>) -> Option<Key> {
         self.registry.next_issuer(to, after)
     }
