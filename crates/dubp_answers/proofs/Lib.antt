@@ -3,3 +3,5 @@ pub mod Certs
 pub mod Distances
 pub mod Views
 pub mod RecordNumbers
+pub mod Accounts
+pub mod Rows

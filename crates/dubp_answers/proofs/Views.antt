@@ -1,7 +1,7 @@
 -- The lines of sources by what is shown of them.
 use Rattle.std.proofs.Common.{◌≡◌, List, [], ◌∷◌, map, refl, ap}
 use Rattle.dubp_chain.specs.Money.{Source}
-use Rattle.dubp_money_views.specs.Views.{view_of}
+use Rattle.dubp_answers.specs.MoneyViews.{view_of}
 use Rattle.dubp_replay.specs.Answers.{source_line}
 use Rattle.dubp_answers.specs.SourceLines.{view_line}
 

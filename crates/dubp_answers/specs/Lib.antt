@@ -4,3 +4,4 @@ pub mod RecordLines
 pub mod RecordNumbers
 pub mod MoveLines
 pub mod OfValidity
+pub mod MoneyViews

@@ -3,7 +3,7 @@ use Rattle.std.specs.Prelude.{ℕ, List, [], ◌∷◌, codes, map}
 use Rattle.std.specs.List.{flat_map}
 use Rattle.dubp_cond.specs.declared.source.Input.{Input}
 use Rattle.dubp_cond.specs.Sources.{input_text}
-use Rattle.dubp_money_views.specs.declared.views.SourceView.{SourceView}
+use Rattle.dubp_answers.specs.declared.money_views.SourceView.{SourceView}
 use Rattle.dubp_replay.specs.Answers.{values_line}
 
 abbrev pub view_input : SourceView → Input

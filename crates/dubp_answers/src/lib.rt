@@ -1,4 +1,4 @@
-//! The texts of the answers to queries, over tables and heads alone.
+//! What is asked of the money of a chain, and the texts of the answers to queries, over tables and heads alone.
 //!
 //! Each function gives the answer to one query. What stands behind it is that of the chain whose tables or heads are given, as
 //! `dubp_replay` defines it. A line lies in its value and takes no memory; who has an empty one
@@ -9,6 +9,8 @@
 //! let line = money_line(&money);
 //! let line = identity_line(&registry, key);
 //! let line = distance_line(alloc, &registry, key)?;
+//! let units = balance(&money, &cond);
+//! let found = sources(alloc, &money, &cond)?;
 //! let text = sources_text(alloc, &money, &cond)?;
 //! let text = certs_text(alloc, &registry, key)?;
 //! let text = records_text(alloc, Some(records.as_slice()))?;
@@ -21,18 +23,21 @@ mod certifications;
 mod difficulties;
 mod distance;
 mod money;
+mod money_views;
 mod moves;
 mod people;
 mod records;
-mod sources;
+mod source_texts;
 mod values;
 
 pub use blocks::show_text;
 pub use certifications::certs_text;
 pub use difficulties::{diff_line, put_diff_line};
 pub use distance::{distance_line, put_distance_line};
+pub use dubp_money::Money;
 pub use money::{balance_line, money_line, put_balance_line, put_money_line};
+pub use money_views::{SourceView, balance, first_source, sources};
 pub use moves::statement_text;
 pub use people::{identity_line, put_identity_line, put_uid_line, uid_line};
 pub use records::records_text;
-pub use sources::sources_text;
+pub use source_texts::sources_text;

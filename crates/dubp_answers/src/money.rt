@@ -8,7 +8,8 @@ use arrayvec::ArrayVec;
 use dubp_atoms::{Line, put_bytes};
 use dubp_block::Block;
 use dubp_cond::CondText;
-use dubp_money_views::{Money, balance};
+use crate::Money;
+use crate::money_views::balance;
 use dubp_undo::Tables;
 
 /// The answer to MONEY: the units that the chain issued, those that are unspent and those that were cleared; each is 0 where the

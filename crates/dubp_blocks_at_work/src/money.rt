@@ -5,7 +5,7 @@ use crate::blocks::FIRST_BLOCK;
 use dubp_atoms::{Hash, Steps};
 use dubp_block::{Block, read_block};
 use dubp_chain::Head;
-use dubp_money_checks::{Money, money_rules};
+use dubp_money_rules::{Money, money_rules};
 use std::alloc::Global;
 use std::marker::Brand;
 use std::mem::forget;

@@ -11,12 +11,12 @@ use Rattle.dubp_chain.specs.declared.head.Head.{Head}
 use Rattle.dubp_chain.specs.Chains.{Chain}
 use Rattle.dubp_chain.specs.Heads.{head_of, time_of}
 use Rattle.dubp_chain.specs.Money.{hashes_in}
-use Rattle.dubp_money_checks.proofs.OfMoney.{whole_hashes-all}
+use Rattle.dubp_money_rules.proofs.OfMoney.{whole_hashes-all}
 use Rattle.dubp_people.specs.OfLeft.{IsAsked}
 use Rattle.dubp_people.specs.OfLeft.{Next}
-use Rattle.dubp_judge.specs.OfLocal.{all_hashes}
-use Rattle.dubp_judge.specs.Judged.{IsToJudge}
-use Rattle.dubp_judge.specs.Parts.{people_rules, money_rules, table_parts}
+use Rattle.dubp_kept.specs.OfLocal.{all_hashes}
+use Rattle.dubp_kept.specs.Judged.{IsToJudge}
+use Rattle.dubp_kept.specs.Parts.{people_rules, money_rules, table_parts}
 
 abbrev pub next_to : Head → Params → Next
 next_to h p = record { params = p; time = h.median_time }

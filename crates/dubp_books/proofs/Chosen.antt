@@ -13,8 +13,8 @@ use Rattle.dubp_chain.specs.People.{expired}
 use Rattle.dubp_validity.specs.declared.record.Record.TheVariants.{Create, Enter, Exit, Join, Active, Leave, Revoke, Expire, ExpireRev, Cert, CertExpire}
 use Rattle.dubp_validity.specs.Records.{membership_time, identity_keys, is_revoked_by_time, pairs_in_order, line_records, expiry_records, revocation_records, ended_records}
 use Rattle.dubp_people.specs.OfSteps.{people_records}
-use Rattle.dubp_money_checks.specs.OfMoney.{ArePaid}
-use Rattle.dubp_judge.specs.OfKept.{paid_by}
+use Rattle.dubp_money_rules.specs.OfMoney.{ArePaid}
+use Rattle.dubp_kept.specs.LeftBehind.{paid_by}
 use Rattle.dubp_books.specs.Kinds.{is_ended}
 use Rattle.dubp_books.specs.Paid.{paid_keys}
 use Rattle.dubp_books.proofs.Filtered.{HasNone, HasAll, none_of_map, none_of_flat_map, none_of_both, all_of_map, all_of_both, last_alone}

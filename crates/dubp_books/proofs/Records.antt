@@ -4,8 +4,8 @@ use Rattle.dubp_block.specs.declared.block.Block.{Block}
 use Rattle.dubp_chain.specs.Chains.{Chain}
 use Rattle.dubp_validity.specs.Records.{records, line_records, expiry_records, revocation_records, ended_records}
 use Rattle.dubp_people.specs.OfSteps.{people_records}
-use Rattle.dubp_money_checks.specs.OfMoney.{money_records}
-use Rattle.dubp_judge.specs.OfKept.{most_steps}
+use Rattle.dubp_money_rules.specs.OfMoney.{money_records}
+use Rattle.dubp_kept.specs.KeptChain.{most_steps}
 
 five : {X : Type 0} (a b c d e : List X) → a ++ (b ++ (c ++ (d ++ e))) ≡ (a ++ (b ++ (c ++ d))) ++ e
 five a b c d e =

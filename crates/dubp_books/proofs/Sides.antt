@@ -3,7 +3,7 @@ use Rattle.std.proofs.Common.{◌≡◌, ◌+◌, ℕ, zero, suc, List, [], ◌�
 use Rattle.dubp_chain.specs.Chains.{Chain}
 use Rattle.dubp_undo.specs.Chains.{Waits}
 use Rattle.dubp_undo.specs.Others.{Others, zip, zip_others, length_zip}
-use Rattle.dubp_judge.specs.OfKept.{KeptChain, Out, AreStates, Fits, HasOut, StandsWithin}
+use Rattle.dubp_kept.specs.KeptChain.{KeptChain, Out, AreStates, Fits, HasOut, StandsWithin}
 
 module _ {M N : Type 0} (is : M → Chain → Type 0) (is' : N → Chain → Type 0) where
   abbrev Both : M × N → Chain → Type 0

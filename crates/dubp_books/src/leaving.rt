@@ -2,7 +2,7 @@ ghost use Rattle.std.specs.Prelude.{◌≡◌, filter};
 ghost use Rattle.dubp_books.specs.Kinds.{is_ended};
 
 use dubp_atoms::{Items, Key};
-use dubp_judge::LeftBehind;
+use dubp_kept::LeftBehind;
 use dubp_validity::Record;
 
 /// What a block leaves behind, from its records of people, the keys that it pays and the records of what it clears.

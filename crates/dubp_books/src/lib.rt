@@ -18,6 +18,6 @@ mod lending;
 mod writing;
 
 pub use books::Books;
-pub use dubp_money_checks::Money;
+pub use dubp_money_rules::Money;
 pub use dubp_people::People;
 pub use dubp_people_and_money::{Judges, PeopleAndMoney};

@@ -16,7 +16,7 @@ use dubp_block::Block;
 use dubp_cond::{CondText, Input, SourceId};
 use dubp_drafts::{KEYS, key_of};
 use dubp_ledger::Money;
-use dubp_money_views::SourceView;
+use dubp_answers::SourceView;
 use dubp_undo::Tables;
 
 /// The first unspent source of the account of the key of this number, in the order of making, where it has one. It takes no memory.
@@ -26,7 +26,7 @@ pub(crate) fn first_source(money: &Money, person: u32) -> Option<Input>
     ensures source { (c : Chain) → ⟦<Money as Tables<Block>>⟧.at money.now c → IsSound c → result ≡ first_source c person }
     ensures valid { IsSpendable result }
 {
-    match dubp_money_views::first_source(money, &account_of(&key_of(person))) {
+    match dubp_answers::first_source(money, &account_of(&key_of(person))) {
         None => None,
         Some(view) => Some(input_of(&view)),
     }

@@ -3,3 +3,10 @@ pub mod First
 pub mod Moved
 pub mod Stands
 pub mod Within
+pub mod Chains
+pub mod Orders
+pub mod Asking
+pub mod Early
+pub mod Joins
+pub mod Heads
+pub mod OfValidity

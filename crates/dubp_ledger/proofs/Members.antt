@@ -6,7 +6,7 @@ use Rattle.dubp_chain.specs.Chains.{Chain}
 use Rattle.dubp_head.specs.Following.{MayFollow}
 use Rattle.dubp_head.specs.Laws.{members_with}
 use Rattle.dubp_rows.specs.OfValidity.{IsSound}
-use Rattle.dubp_people_and_money.proofs.OfJudge.{members_are_counted}
+use Rattle.dubp_people_and_money.proofs.OfKept.{members_are_counted}
 
 pub few : (c : Chain) (b : Block) (n : ℕ) → n ≡ members_with c b → IsSound c → length b.joiners ≤ 65536 → n < 2 ^ 21
 few c b n count sound joiners = omega (arith, count, members_are_counted c b sound, joiners)

@@ -3,3 +3,5 @@ pub mod Spending
 pub mod OfLeft
 pub mod OfMoney
 pub mod OfValidity
+pub mod Judged
+pub mod Judging

@@ -2,7 +2,7 @@
 use Rattle.std.proofs.Common.{◌≡◌, ℕ, ◌+◌, Bool, true, false, cond, List, [], ◌∷◌, Option, None, Some, refl, sym, ap, subst, ◌∙◌, fold, length, take, arith}
 use Rattle.std.specs.Prelude.{option_map, is_some, if◌then◌else◌}
 use Rattle.dubp_atoms.specs.Same.{Text, same_text}
-use Rattle.dubp_people_identities.proofs.OfLists.{same_text_is}
+use Rattle.dubp_people_apply.proofs.OfLists.{same_text_is}
 use Rattle.dubp_params.specs.declared.params.Params.{Params}
 use Rattle.dubp_chain.specs.Tables as chain
 use Rattle.dubp_people_apply.specs.OfSteps.{kicked_by}

@@ -7,7 +7,7 @@ ghost use Rattle.dubp_people_apply.specs.OfSteps.{people_records};
 ghost use Rattle.dubp_registry.specs.OfLeft.{queue_left};
 ghost use Rattle.dubp_registry.specs.OfLeft.{IsWritten};
 ghost use Rattle.dubp_registry.specs.OfFacts.{IsNext};
-ghost use Rattle.dubp_people_identities.specs.Writing.{most_sets};
+ghost use Rattle.dubp_people_apply.specs.Writing.{most_sets};
 ghost use Rattle.dubp_people_apply.specs.Counting.{membership_sets, certification_sets, queue_sets};
 ghost use Rattle.dubp_people_apply.specs.Taking.{IsSince};
 
@@ -17,7 +17,7 @@ use dubp_block::Block;
 use dubp_chain::Head;
 use dubp_expiry::{Entries, Queue};
 use dubp_people_apply::write_ends;
-use dubp_people_identities::write_identities;
+use dubp_people_apply::write_identities;
 use dubp_registry::{Facts, Indexes, Next, Others};
 use dubp_undo::Tables;
 use dubp_validity::Record;

@@ -7,7 +7,7 @@ use Rattle.dubp_block.specs.declared.block.CertLine.{CertLine}
 use Rattle.dubp_block.specs.declared.block.MemberLine.{MemberLine}
 use Rattle.dubp_chain.specs.Chains.{Chain, params}
 use Rattle.dubp_chain.specs.Live.{received, stock}
-use Rattle.dubp_people_count.specs.OfValidity.{JoinersAreCertified, StocksAreKept}
+use Rattle.dubp_people_views.specs.OfValidity.{JoinersAreCertified, StocksAreKept}
 use Rattle.dubp_people_after.specs.Lines.{HasEnough, KeepsStock}
 use Rattle.dubp_people_after.proofs.Rests.{Rests, rests_fails, rests_all}
 

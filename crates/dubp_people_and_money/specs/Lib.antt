@@ -1,1 +1,1 @@
-pub mod OfJudge
+pub mod OfKept

@@ -11,10 +11,10 @@
 
 ghost use Rattle.std.specs.Prelude.{◌≡◌, []};
 ghost use Rattle.dubp_chain.specs.Chains.{Chain};
-ghost use Rattle.dubp_judge.specs.OfKept.{KeptChain, AreStates};
+ghost use Rattle.dubp_kept.specs.KeptChain.{KeptChain, AreStates};
 
 use dubp_block::Block;
-pub use dubp_judge::{Judgement, Judges, judge, trial};
+pub use dubp_kept::{Judgement, Judges, judge, trial};
 pub use dubp_money::{Money, Secret, Totals};
 pub use dubp_registry::Registry as People;
 use dubp_undo::Tables;

@@ -11,3 +11,7 @@ pub mod Begins
 pub mod Counted
 pub mod Fitting
 pub mod OfSteps
+pub mod Changed
+pub mod Lines
+pub mod Onward
+pub mod OfLists

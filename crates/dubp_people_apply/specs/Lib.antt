@@ -3,3 +3,4 @@ pub mod Lines
 pub mod Taking
 pub mod Counting
 pub mod OfSteps
+pub mod Writing

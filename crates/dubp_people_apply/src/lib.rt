@@ -1,6 +1,8 @@
-//! What a block writes into memberships, certifications and the queue of what falls due, and the records of its lines and of all ends.
+//! What a block writes into identities, memberships, certifications and the queue of what falls due, and the records of its lines and of
+//! all ends.
 //!
-//! The lines come first (`write_memberships`, `write_certifications`): each takes the ends of what it makes anew out of the queue, and
+//! A line of Identities puts the row of a new identity, Joiners make members, and Excluded end that; nothing else changes an identity
+//! (`write_identities`). In the other tables the lines come first (`write_memberships`, `write_certifications`): each takes the ends of what it makes anew out of the queue, and
 //! plans the new ones where they are later than the time of the chain with the block. Then what the queue has up to that time is taken
 //! (`take_due`), entry after entry. Who is at an end, by a line or by what is taken, has one record. `write_ends` is all of it.
 //!
@@ -9,6 +11,7 @@
 //! records in `docs/protocol` say the same in words.
 //!
 //! ```text
+//! write_identities(&mut identities, &block, &mut steps)?;
 //! let since = heads.last().map(|head| head.median_time);
 //! write_ends(alloc, &mut memberships, &mut certifications, &mut queue, &facts, since, &block, &next, &mut records, &mut steps)?;
 //! ```
@@ -17,6 +20,7 @@
 mod at_once;
 mod certifications;
 mod ended;
+mod identities;
 mod laws;
 mod memberships;
 mod queue;
@@ -26,6 +30,7 @@ mod whole;
 
 pub use certifications::write_certifications;
 pub use ended::Ended;
+pub use identities::write_identities;
 pub use laws::sets_fit;
 pub use memberships::write_memberships;
 pub use records::put_line_records;

@@ -18,8 +18,8 @@ use Rattle.dubp_validity.specs.Rules.{IsSound}
 use Rattle.dubp_people_rules.proofs.OfLists.{and_left, and_right, not_true, or_left, or_right, or_true, in_all, in_any, in_left, any_in, list_any-map}
 use Rattle.dubp_people_rules.proofs.OfLists.{same_text_is, members-once}
 use Rattle.dubp_people_rules.proofs.OfLists.{last_line-any}
-use Rattle.dubp_people_distance.proofs.OfSteps.{some_identity, member_has_entry}
-use Rattle.dubp_people_distance.proofs.OfSteps.{member_named}
+use Rattle.dubp_people_checks.proofs.OfSteps.{some_identity, member_has_entry}
+use Rattle.dubp_people_checks.proofs.OfSteps.{member_named}
 
 abbrev of_key : Text → IdentityLine → Bool
 of_key k line = same_text k line.key

@@ -1,6 +1,6 @@
 -- A block that stands to be judged on the people of a chain, with what it changes there. Protocol: rules; people.
 use Rattle.dubp_chain.specs.Chains.{Chain}
-use Rattle.dubp_people_distance.specs.OfLeft.{IsAsked}
+use Rattle.dubp_people_checks.specs.OfLeft.{IsAsked}
 use Rattle.dubp_people_after.specs.OfRegistry.registry_tables_block as tables
 use Rattle.dubp_people_after.specs.contracts.after.AfterWithBlock.TheImpl as looks
 use Rattle.dubp_people_checks.specs.declared.asked.Asked.{Asked}

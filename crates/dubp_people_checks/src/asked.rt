@@ -6,7 +6,7 @@ ghost use Rattle.dubp_people_checks.specs.Asking.{IsAskedOf};
 use dubp_atoms::NoMemory;
 use dubp_block::Block;
 use dubp_people_after::{After, Registry, WithBlock};
-use dubp_people_distance::Next;
+use crate::Next;
 use dubp_undo::Tables;
 use dubp_verdict::Verdicts;
 use std::alloc::Global;
@@ -191,7 +191,7 @@ impl<'a> Asked<'a> {
         requires { (c : Chain) × (IsAskedOf self.now c × (IdentitiesAreFew c self.now.block.now × MembershipsHaveIdentities c self.now.block.now)) }
         ensures { IfOk result (λ holds. (c : Chain) → IsAskedOf self.now c → (IsTrue holds ↔ ComersPass c self.now.block.now)) }
     {
-        let holds = dubp_people_distance::comers_pass(
+        let holds = crate::rule::comers_pass(
             self.alloc,
             self.registry,
             self.after,

@@ -24,22 +24,22 @@ use Rattle.dubp_validity.specs.Rules.{IsSound}
 use Rattle.dubp_replay.specs.Answers.{certification_values, pairs_to, pairs_from}
 use Rattle.dubp_lists.proofs.Elements.{IsIn, and_left, and_right, any_in, in_any, in_filter, kept_in, filter_true, list_any-map}
 use Rattle.dubp_lists.proofs.InOrder.{names_in_order, same_text_is, same_text_own}
-use Rattle.dubp_people_count.specs.OfSteps.{text_cmp, keys_rise}
-use Rattle.dubp_people_count.proofs.OfSteps.{same_keys, same_truth, filtered_keys_rise}
-use Rattle.dubp_people_count.proofs.OfSteps.{issuers_to, issuers_named, receivers_from, receivers_named}
-use Rattle.dubp_people_count.proofs.OfSteps.{identity_with}
+use Rattle.dubp_people_views.specs.OfSteps.{text_cmp, keys_rise}
+use Rattle.dubp_people_views.proofs.OfSteps.{same_keys, same_truth, filtered_keys_rise}
+use Rattle.dubp_people_views.proofs.OfSteps.{issuers_to, issuers_named, receivers_from, receivers_named}
+use Rattle.dubp_people_views.proofs.OfSteps.{identity_with}
 use Rattle.dubp_iindex.specs.declared.row.IdentityRow.{IdentityRow}
 use Rattle.dubp_cindex.specs.declared.row.CertRow.{CertRow}
 use Rattle.dubp_cindex.specs.Rows.{Rows, Entry, live_to, live_from, lives, rows_about, told}
 use Rattle.dubp_cindex.proofs.Walked as walked
 use Rattle.dubp_cindex.proofs.Walked.{Climbs}
 use Rattle.dubp_cindex.proofs.Entries.{got_in, in_got, to_climbs, from_climbs}
-use Rattle.dubp_people_count.specs.OfFacts.{first_at}
-use Rattle.dubp_people_count.specs.OfFacts.{First}
-use Rattle.dubp_people_count.specs.OfLeft.{identity_entry, identity_left, cert_entry, certification_left, certifications_left}
-use Rattle.dubp_people_count.proofs.OfLeft.{certifications-at}
-use Rattle.dubp_people_count.proofs.OfLeft.{newest-left}
-use Rattle.dubp_people_count.proofs.OfRegistry.{live-shown}
+use Rattle.dubp_people_views.specs.OfFacts.{first_at}
+use Rattle.dubp_people_views.specs.OfFacts.{First}
+use Rattle.dubp_people_views.specs.OfLeft.{identity_entry, identity_left, cert_entry, certification_left, certifications_left}
+use Rattle.dubp_people_views.proofs.OfLeft.{certifications-at}
+use Rattle.dubp_people_views.proofs.OfLeft.{newest-left}
+use Rattle.dubp_people_views.proofs.OfRegistry.{live-shown}
 use Rattle.dubp_people_views.specs.Certifications.{certification_texts, certifications_told, view_of}
 use Rattle.dubp_people_views.specs.declared.certifications.CertificationView.{CertificationView}
 use Rattle.dubp_people_views.proofs.Small.{certification_small, params_short}

@@ -5,3 +5,12 @@ pub mod Walked
 pub mod Certified
 pub mod Nearness
 pub mod OfLists
+pub mod Counting
+pub mod Few
+pub mod Lists
+pub mod OfLeft
+pub mod OfRegistry
+pub mod OfSteps
+pub mod Passing
+pub mod MembersWalked
+pub mod Webs

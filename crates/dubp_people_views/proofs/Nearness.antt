@@ -17,11 +17,11 @@ use Rattle.dubp_chain.specs.Members.{member, members}
 use Rattle.dubp_chain.specs.People.{Written, identity}
 use Rattle.dubp_chain.specs.Tables as chain
 use Rattle.dubp_validity.specs.Rules.{IsSound}
-use Rattle.dubp_people_count.specs.OfFacts.{first_at}
-use Rattle.dubp_people_count.specs.OfFacts.{First}
+use Rattle.dubp_people_views.specs.OfFacts.{first_at}
+use Rattle.dubp_people_views.specs.OfFacts.{First}
 use Rattle.dubp_iindex.specs.declared.row.IdentityRow.{IdentityRow}
-use Rattle.dubp_people_count.specs.OfLeft.{identity_entry, identity_left}
-use Rattle.dubp_people_count.proofs.Few.{members_are_few}
+use Rattle.dubp_people_views.specs.OfLeft.{identity_entry, identity_left}
+use Rattle.dubp_people_views.proofs.Few.{members_are_few}
 use Rattle.dubp_people_views.specs.Nearness.{IsDistanceOf, IsSearchable}
 use Rattle.dubp_people_views.specs.declared.distances.DistanceView.{DistanceView}
 

@@ -15,12 +15,12 @@ use Rattle.dubp_chain.specs.Tables.{membership_row}
 use Rattle.dubp_validity.specs.Rules.{IsSound}
 use Rattle.dubp_replay.specs.Answers.{identity_values, standing}
 use Rattle.dubp_lists.proofs.InOrder.{same_text_is}
-use Rattle.dubp_people_count.proofs.OfSteps.{entry, some_membership}
-use Rattle.dubp_people_count.specs.OfFacts.{first_at}
-use Rattle.dubp_people_count.specs.OfFacts.{First}
+use Rattle.dubp_people_views.proofs.OfSteps.{entry, some_membership}
+use Rattle.dubp_people_views.specs.OfFacts.{first_at}
+use Rattle.dubp_people_views.specs.OfFacts.{First}
 use Rattle.dubp_iindex.specs.declared.row.IdentityRow.{IdentityRow}
-use Rattle.dubp_people_count.specs.OfLeft.{identity_entry, identity_left, member_entry, membership_left}
-use Rattle.dubp_people_count.proofs.OfLeft.{last_line-in}
+use Rattle.dubp_people_views.specs.OfLeft.{identity_entry, identity_left, member_entry, membership_left}
+use Rattle.dubp_people_views.proofs.OfLeft.{last_line-in}
 use Rattle.dubp_people_views.specs.Views.{expiry_of, state_text}
 use Rattle.dubp_people_views.specs.declared.identities.IdentityState.{IdentityState}
 use Rattle.dubp_people_views.proofs.Small.{membership_small, params_short}

@@ -19,9 +19,9 @@ use Rattle.dubp_lists.proofs.Once.{Once, once_head, once_tail, once-append, each
 use Rattle.dubp_iindex.specs.Rows.{key_with}
 use Rattle.dubp_iindex.specs.declared.row.IdentityRow.{IdentityRow}
 use Rattle.dubp_iindex.proofs.Uids.{key_with-has, key_with-none}
-use Rattle.dubp_people_count.specs.OfLeft.{identity_entry, identity_left, identities_left}
-use Rattle.dubp_people_count.proofs.OfLeft.{identities-at}
-use Rattle.dubp_people_count.proofs.OfLeft.{last_line-in, identity_lines-once}
+use Rattle.dubp_people_views.specs.OfLeft.{identity_entry, identity_left, identities_left}
+use Rattle.dubp_people_views.proofs.OfLeft.{identities-at}
+use Rattle.dubp_people_views.proofs.OfLeft.{last_line-in, identity_lines-once}
 
 -- ---- lines of which each stands once by its key, or by its uid
 

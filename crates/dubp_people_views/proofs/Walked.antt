@@ -16,8 +16,8 @@ use Rattle.dubp_lists.proofs.InOrder.{same_text_own}
 use Rattle.dubp_iindex.specs.Order as index
 use Rattle.dubp_wot.specs.Order.{IsInOrder, IsNextMember}
 use Rattle.dubp_wot.proofs.Members.{Contains-cases, Contains-none}
-use Rattle.dubp_people_count.proofs.Webs.{members_rise}
-use Rattle.dubp_people_count.proofs.Walked.{names_contains}
+use Rattle.dubp_people_views.proofs.Webs.{members_rise}
+use Rattle.dubp_people_views.proofs.MembersWalked.{names_contains}
 
 contains_names : (k : Text) (xs : List Text) → Contains xs k → names xs k ≡ true
 contains_names k [] there = absurd (Contains-none k there)

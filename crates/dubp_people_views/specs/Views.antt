@@ -2,7 +2,7 @@
 use Rattle.std.specs.Prelude.{ℕ, ◌+◌, ◌-◌, ◌^◌, List, [], ◌∷◌, codes, Option, Some, None, min}
 use Rattle.std.specs.Fmt.{decimal}
 use Rattle.dubp_atoms.specs.Same.{Text}
-use Rattle.dubp_people_count.specs.OfFacts.{First}
+use Rattle.dubp_people_views.specs.OfFacts.{First}
 use Rattle.dubp_mindex.specs.declared.member.MemberRow.{MemberRow}
 use Rattle.dubp_people_views.specs.declared.identities.IdentityView.{IdentityView}
 use Rattle.dubp_people_views.specs.declared.identities.IdentityState.{IdentityState}

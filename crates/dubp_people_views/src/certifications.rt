@@ -7,7 +7,7 @@ ghost use Rattle.dubp_people_views.specs.Certifications.{certification_texts, ce
 use dubp_atoms::{Key, NoMemory};
 use dubp_block::Block;
 use dubp_cindex::CertRow;
-use dubp_people_count::Registry;
+use crate::Registry;
 use dubp_undo::Tables;
 use std::alloc::Global;
 

@@ -13,7 +13,7 @@ use crate::keys::push;
 use dubp_atoms::{Dec, Key, NoMemory};
 use dubp_block::Block;
 use dubp_params::Params;
-use dubp_people_count::{Registry, Standing};
+use crate::{Registry, Standing};
 use dubp_undo::Tables;
 use dubp_wot::{Web, d_sen, reaches_among};
 use std::alloc::Global;

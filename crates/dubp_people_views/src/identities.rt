@@ -9,7 +9,7 @@ ghost use Rattle.dubp_people_views.specs.Views.{expiry_of, identity_texts, state
 use dubp_atoms::{Key, Uid};
 use dubp_block::Block;
 use dubp_mindex::MemberRow;
-use dubp_people_count::{First, Registry};
+use crate::{First, Registry};
 use dubp_undo::Tables;
 
 /// What is told of an identity.

@@ -5,7 +5,7 @@ ghost use Rattle.dubp_validity.specs.Rules.{IsSound};
 
 use dubp_atoms::{Key, NoMemory};
 use dubp_block::Block;
-use dubp_people_count::Registry;
+use crate::Registry;
 use dubp_undo::Tables;
 use std::alloc::Global;
 

@@ -1,2 +1,4 @@
 pub mod Fronts
 pub mod OfLedger
+pub mod OfReplay
+pub mod Tallies

@@ -1,16 +1,18 @@
 //! The statement of a condition.
 ghost use Rattle.std.specs.Prelude.{◌+◌, ◌<◌, IfOk, OnOk, length};
-ghost use Rattle.dubp_account.specs.OfReplay.{IsStatement, account_of};
+ghost use Rattle.dubp_statement.specs.OfReplay.{IsStatement, account_of};
 ghost use Rattle.dubp_statement.specs.Fronts.{first_blocks};
-ghost use Rattle.dubp_account.specs.Tallies.{IsTallyOf};
+ghost use Rattle.dubp_statement.specs.Tallies.{IsTallyOf};
 
-use dubp_account::move_laws::{
-    accounts_have_the_moves, balances_are_numbers, moves_are_statements,
-};
-use dubp_account::{Move, Tally, add_block};
+use crate::blocks::add_block;
+use crate::tally::Tally;
 use dubp_atoms::NoMemory;
 use dubp_cond::CondText;
 use dubp_ledger::{Ledger, PeopleAndMoney};
+use dubp_replay::Move;
+use dubp_replay::move_laws::{
+    accounts_have_the_moves, balances_are_numbers, moves_are_statements,
+};
 use std::alloc::Global;
 
 /// The moves of the condition of this text on the chain of the ledger, block by block, each with the units that the condition has behind it.

@@ -5,3 +5,8 @@ pub mod Offers
 pub mod Pending
 pub mod Switches
 pub mod Turns
+pub mod Stored
+pub mod Decisions
+pub mod LongAnswers
+pub mod Outside
+mod Valid

@@ -1,7 +1,7 @@
 -- A frame that is too long is refused.
 use Rattle.std.proofs.Common.{◌≡◌, ℕ, ◌<◌, List, length, inl, refl, sym}
 use Rattle.std.specs.Prelude.{codes, Some}
-use Rattle.dubp_branches.proofs.Long as branches
+use Rattle.dubp_turns.proofs.LongAnswers as branches
 use Rattle.dubp_validity.specs.Rules.{longest_block}
 use Rattle.dubp_replay.specs.Answers.{refused_answer}
 use Rattle.dubp_replay.specs.declared.command.Command.TheVariants as command

@@ -3,8 +3,8 @@ use Rattle.std.proofs.Common.{◌∙◌, List, [], ◌∷◌, map}
 use Rattle.std.specs.List.{AllByRecursion}
 use Rattle.dubp_block.specs.declared.block.Block.{Block}
 use Rattle.dubp_block.specs.Text.{IsBlock, stamp_of}
-use Rattle.dubp_branches.specs.OfForks as stores
-use Rattle.dubp_branches.specs.OfForks.{AreStored, IsStorable}
+use Rattle.dubp_turns.specs.OfForks as stores
+use Rattle.dubp_turns.specs.OfForks.{AreStored, IsStorable}
 use Rattle.dubp_resolve.specs.Known.{AreApart, AreOffers}
 use Rattle.dubp_replay.specs.Turns.{offered}
 use Rattle.dubp_choosing.proofs.Offers.{offers_are}

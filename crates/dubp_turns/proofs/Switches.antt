@@ -2,8 +2,8 @@
 use Rattle.std.proofs.Common.{◌≡◌, ◌∙◌, ◌++◌, ◌∷◌, [], List, Some, is_some, Ok, Err, refl, sym, ap, arith, true≢false}
 use Rattle.dubp_atoms.specs.declared.stamp.Stamp.{Stamp}
 use Rattle.dubp_rules.specs.declared.rule.Rule.{Rule}
-use Rattle.dubp_branches.specs.OfForks.{SwitchRefusal, Switched}
-use Rattle.dubp_branches.specs.OfForks.switch_refusal_variants as switch
+use Rattle.dubp_turns.specs.OfForks.{SwitchRefusal, Switched}
+use Rattle.dubp_turns.specs.OfForks.switch_refusal_variants as switch
 use Rattle.dubp_replay.specs.declared.failure.Failure.{Failure}
 use Rattle.dubp_replay.specs.Turns.{Branches, Fails, Succeeds, left_over}
 use Rattle.dubp_choosing.specs.States.{choosing}

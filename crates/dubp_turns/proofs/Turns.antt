@@ -4,11 +4,11 @@ use Rattle.std.specs.List.{list_any}
 use Rattle.std.proofs.lemmas.List.Folds.{list_any-append}
 use Rattle.dubp_atoms.specs.declared.stamp.Stamp.{Stamp}
 use Rattle.dubp_block.specs.declared.block.Block.{Block}
-use Rattle.dubp_branches.specs.Acting.{BranchesActs}
-use Rattle.dubp_branches.specs.Deciding.{offer_text}
-use Rattle.dubp_branches.proofs.Long.{long_offer_turn}
-use Rattle.dubp_branches.proofs.Stored.{offered_acts, offered_none, stored_offer, with_store}
-use Rattle.dubp_branches.specs.OfForks.{OfferRefusal, Offered}
+use Rattle.dubp_turns.specs.BranchActs.{BranchesActs}
+use Rattle.dubp_turns.specs.Deciding.{offer_text}
+use Rattle.dubp_turns.proofs.LongAnswers.{long_offer_turn}
+use Rattle.dubp_turns.proofs.Stored.{offered_acts, offered_none, stored_offer, with_store}
+use Rattle.dubp_turns.specs.OfForks.{OfferRefusal, Offered}
 use Rattle.dubp_replay.specs.Answers.{refused_answer, stored_answer}
 use Rattle.dubp_replay.specs.declared.command.Command.{Command}
 use Rattle.dubp_replay.specs.declared.command.Command.TheVariants as command

@@ -1,7 +1,7 @@
 -- The turn of a command as the node takes it: by what it is handed of the frame. Protocol: the input; commands and answers.
 use Rattle.std.specs.Prelude.{◌≡◌, ◌⊎◌, ℕ, List, Some}
 use Rattle.dubp_atoms.specs.Same.{Text}
-pub use Rattle.dubp_branches.specs.Acting.{IsHanded}
+pub use Rattle.dubp_turns.specs.BranchActs.{IsHanded}
 use Rattle.dubp_replay.specs.Answers.{no_memory_answer}
 use Rattle.dubp_replay.specs.declared.command.Command.{Command}
 use Rattle.dubp_replay.specs.OfForging.{Doc}

@@ -5,10 +5,13 @@ ghost use Rattle.dubp_replay.specs.Turns.{Chooses, left_over};
 ghost use Rattle.dubp_turns.specs.Choosing.{AreTried, ChoosesBehind, TriedOne};
 ghost use Rattle.dubp_replay.specs.AnswerBytes.{answer_bytes};
 
+use crate::branches::Branches;
 use crate::seeing::find_tip;
+use crate::stating::{no_memory, offer_answer};
 use crate::texts::{add, failed_text, switched_text};
 use dubp_atoms::{NoMemory, Stamp, Steps};
-use dubp_branches::{Answer, Branches, PeopleAndMoney, SwitchRefusal, no_memory, offer_answer};
+use dubp_forks::{PeopleAndMoney, SwitchRefusal};
+use dubp_query::Answer;
 use dubp_replay::Failure;
 use std::alloc::Global;
 use std::sync::ledger::Ledger as StepBook;

@@ -3,10 +3,13 @@ ghost use Rattle.dubp_atoms.specs.Spelling.{IsNumber};
 ghost use Rattle.dubp_replay.specs.AnswerBytes.{answer_bytes};
 ghost use Rattle.dubp_turns.specs.Acting.{Forges};
 
+use crate::branches::Branches;
+use crate::stating::no_memory;
 use dubp_atoms::Key;
-use dubp_branches::{Answer, Branches, PeopleAndMoney, no_memory};
 use dubp_forge::forge_answer;
+use dubp_forks::PeopleAndMoney;
 use dubp_pool::Pool;
+use dubp_query::Answer;
 use std::alloc::Global;
 
 /// The answer to FORGE: the block that this key can issue at this time, of the documents that wait; nothing changes. The time is below 2^53.

@@ -2,7 +2,8 @@
 //!
 //! Contracts see a node as its verdicts, the chain of accepted blocks, how many of them can be reversed, the stored blocks of branches, whether
 //! it chooses among these by itself, the branches that it chose and that failed, and the documents that wait. Its chapters are commands and
-//! answers, choice, documents that wait, forging, and the generator, of `docs/protocol`.
+//! answers, choice, documents that wait, forging, and the generator, of `docs/protocol`. What looks at verdicts, chain and stored blocks alone
+//! stands in `branches`.
 //!
 //! ```text
 //! let mut node = Node::<Books>::new(alloc);
@@ -11,11 +12,15 @@
 //! ```
 #![tactic(auto)]
 
+mod branches;
 mod choosing;
 mod forging;
 mod node;
 mod seeing;
+mod stating;
 mod texts;
 
-pub use dubp_branches::{Answer, Asked, head_line, money_line, numbered, one, put_one, refused};
+pub use branches::Branches;
+pub use dubp_query::{Answer, Asked, head_line, money_line};
 pub use node::Node;
+pub use stating::{numbered, one, put_one, refused};

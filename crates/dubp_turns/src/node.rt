@@ -9,16 +9,16 @@ ghost use Rattle.dubp_replay.specs.OneLine.{IsShort, query_of};
 ghost use Rattle.dubp_replay.specs.Turns.{IsTimely, left_over, start};
 ghost use Rattle.dubp_replay.specs.declared.command.Command.TheVariants.{Ask as AskCommand, Auto as AutoCommand, Block as BlockCommand, Failures as FailuresCommand, Forge as ForgeCommand, Forget as ForgetCommand, Offer as OfferCommand, Pend as PendCommand, Revert as RevertCommand, Statement as StatementCommand, Switch as SwitchCommand, Unpend as UnpendCommand, Verdict as VerdictCommand};
 
+use crate::branches::Branches;
 use crate::choosing::{choose_behind, let_go, resolve};
 use crate::forging::forge_on;
+use crate::stating::{forgotten, no_memory, offer_answer, one, refused, unknown};
 use crate::texts::{failures_text, pend_answer};
 use dubp_atoms::{Hash, Key, Line, NoMemory, Secret, Sig, Stamp, Steps};
 use dubp_block::Block;
-use dubp_branches::{
-    Answer, Asked, Branches, CondText, Ledger, PeopleAndMoney, Query, forgotten, no_memory,
-    offer_answer, one, refused, unknown,
-};
+use dubp_forks::{Ledger, PeopleAndMoney};
 use dubp_pool::Pool;
+use dubp_query::{Answer, Asked, CondText, Query};
 use dubp_replay::{Command, Failure, LONGEST_BLOCK};
 use std::alloc::Global;
 use std::marker::Model;

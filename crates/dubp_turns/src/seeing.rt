@@ -4,8 +4,9 @@ ghost use Rattle.dubp_replay.specs.Turns.{offered};
 ghost use Rattle.dubp_choosing.specs.States.{IsTipOf, list_of, seen_of};
 ghost use Rattle.dubp_resolve.specs.Known.{seen};
 
+use crate::branches::Branches;
 use dubp_atoms::{NoMemory, Stamp};
-use dubp_branches::{Branches, Ledger, PeopleAndMoney};
+use dubp_forks::{Ledger, PeopleAndMoney};
 use dubp_replay::Failure;
 use dubp_resolve::{Offered, View, choose};
 use std::alloc::Global;

@@ -4,10 +4,11 @@ ghost use Rattle.dubp_replay.specs.Answers.{answer_line, ended, failed_line, fai
 ghost use Rattle.dubp_replay.specs.AnswerBytes.{answer_bytes};
 ghost use Rattle.dubp_turns.specs.Texts.{failed_lines, pend_text};
 
+use crate::stating::{full, no_memory, refused};
 use arrayvec::ArrayVec;
 use dubp_atoms::{Hash, Line, NoMemory, Stamp, put_bytes};
-use dubp_branches::{Answer, full, no_memory, refused};
 use dubp_pool::PendRefusal;
+use dubp_query::Answer;
 use dubp_replay::Failure;
 use dubp_rules::code;
 use std::alloc::Global;

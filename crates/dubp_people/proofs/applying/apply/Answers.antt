@@ -8,7 +8,7 @@ use Rattle.dubp_registry.specs.contracts.indexes.IndexesTablesBlock.TheImpl as i
 use Rattle.dubp_registry.specs.contracts.others.OthersTablesBlock.TheImpl as others
 use Rattle.dubp_people_apply.specs.OfSteps.{people_records}
 use Rattle.dubp_registry.specs.OfLeft.{kicked_at}
-use Rattle.dubp_people_identities.specs.Writing.{most_sets}
+use Rattle.dubp_people_apply.specs.Writing.{most_sets}
 use Rattle.dubp_people_apply.specs.Counting.{membership_sets, certification_sets, queue_sets}
 use Rattle.dubp_people_apply.proofs.Fitting.{sets_fit}
 use Rattle.dubp_people.proofs.applying.apply.Goals as goal

@@ -9,7 +9,7 @@ use Rattle.dubp_people_apply.specs.OfSteps.{kicked_record}
 use Rattle.dubp_people_apply.specs.OfSteps.{touches}
 use Rattle.dubp_people_apply.specs.OfSteps.{kicked_by}
 use Rattle.dubp_people_apply.proofs.OfSteps.{kicked_fold}
-use Rattle.dubp_people_identities.proofs.Onward.{fold_next, fold_whole}
+use Rattle.dubp_people_apply.proofs.Onward.{fold_next, fold_whole}
 use Rattle.dubp_people.proofs.Rows.{unit_of, some_of}
 use Rattle.dubp_people.proofs.kicked.write_kicked.Goals as goal
 

@@ -1,7 +1,7 @@
 use Rattle.std.proofs.Common.{None, Some, sym, ◌∙◌}
 use Rattle.dubp_chain.specs.Live.{kick}
 use Rattle.dubp_wot.proofs.Members.{up_to-first}
-use Rattle.dubp_people_count.proofs.Walked.{one_taken, all_taken}
+use Rattle.dubp_people_views.proofs.MembersWalked.{one_taken, all_taken}
 use Rattle.dubp_people_views.proofs.Walked.{next_kicked_told, kick_rises}
 use Rattle.dubp_people_views.proofs.keys.kicked.Goals as goal
 

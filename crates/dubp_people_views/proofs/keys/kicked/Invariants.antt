@@ -1,5 +1,5 @@
 use Rattle.std.proofs.Common.{◌≡◌}
-use Rattle.dubp_people_count.specs.OfRegistry.registry_tables_block as registry
+use Rattle.dubp_people_views.specs.OfRegistry.registry_tables_block as registry
 use Rattle.dubp_chain.specs.Chains.{Chain}
 use Rattle.dubp_chain.specs.Live.{kick}
 use Rattle.dubp_validity.specs.Rules.{IsSound}

@@ -1,8 +1,8 @@
 use Rattle.std.proofs.Common.{subst, sym, arith}
 use Rattle.std.proofs.lemmas.Result.{on_ok_weaker}
 use Rattle.dubp_chain.specs.Chains.{Chain}
-use Rattle.dubp_account.specs.OfReplay.{account_of}
-use Rattle.dubp_account.specs.Tallies.{IsTallyOf}
+use Rattle.dubp_statement.specs.OfReplay.{account_of}
+use Rattle.dubp_statement.specs.Tallies.{IsTallyOf}
 use Rattle.dubp_statement.proofs.Fronts.{first_below, first_with}
 use Rattle.dubp_statement.proofs.moves.add_block_of.Goals as goal
 

@@ -1,6 +1,6 @@
 use Rattle.std.proofs.Common.{◌∙◌, List, ℕ, subst, sym}
-use Rattle.dubp_account.specs.OfReplay.{IsStatement, account_of}
-use Rattle.dubp_account.specs.Tallies.{AreNumbers, IsTallyOf}
+use Rattle.dubp_statement.specs.OfReplay.{IsStatement, account_of}
+use Rattle.dubp_statement.specs.Tallies.{AreNumbers, IsTallyOf}
 use Rattle.dubp_statement.proofs.moves.statement.Goals as goal
 
 pub returns : goal.returns

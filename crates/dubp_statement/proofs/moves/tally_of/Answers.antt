@@ -1,7 +1,7 @@
 use Rattle.std.proofs.Common.{subst, sym, arith}
 use Rattle.dubp_chain.specs.Chains.{Chain}
-use Rattle.dubp_account.specs.OfReplay.{account_of}
-use Rattle.dubp_account.specs.Tallies.{IsTallyOf}
+use Rattle.dubp_statement.specs.OfReplay.{account_of}
+use Rattle.dubp_statement.specs.Tallies.{IsTallyOf}
 use Rattle.dubp_statement.proofs.Fronts.{all_first, none_first}
 use Rattle.dubp_statement.proofs.moves.tally_of.Goals as goal
 

@@ -1,5 +1,5 @@
-use Rattle.dubp_account.specs.OfReplay.{account_of}
-use Rattle.dubp_account.specs.Tallies.{IsTallyOf}
+use Rattle.dubp_statement.specs.OfReplay.{account_of}
+use Rattle.dubp_statement.specs.Tallies.{IsTallyOf}
 use Rattle.dubp_statement.specs.Fronts.{first_blocks}
 use Rattle.dubp_statement.proofs.moves.tally_of.Given as goal
 

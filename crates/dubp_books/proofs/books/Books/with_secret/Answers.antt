@@ -1,6 +1,6 @@
 use Rattle.std.proofs.Common.{[], sym, subst}
 use Rattle.dubp_people.specs.OfRegistry.registry_tables_block as people
-use Rattle.dubp_money_checks.specs.OfMoney.money_tables_block as money
+use Rattle.dubp_money_rules.specs.OfMoney.money_tables_block as money
 use Rattle.dubp_books.proofs.books.Books.with_secret.Goals as goal
 
 pub returns-clause-at : goal.returns-clause-at

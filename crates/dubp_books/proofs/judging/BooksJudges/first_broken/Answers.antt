@@ -1,7 +1,7 @@
 use Rattle.std.proofs.Common.{subst}
 use Rattle.dubp_rules.specs.First.{IsFirst}
 use Rattle.dubp_validity.specs.Rules.{Holds}
-use Rattle.dubp_judge.specs.Parts.{people_rules}
+use Rattle.dubp_kept.specs.Parts.{people_rules}
 use Rattle.dubp_books.proofs.Asked.{next_to, asked_by, whole_hashes_are, people_break, money_decides}
 use Rattle.dubp_books.proofs.judging.BooksJudges.first_broken.Goals as goal
 

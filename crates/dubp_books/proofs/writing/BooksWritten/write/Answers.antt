@@ -1,8 +1,8 @@
 use Rattle.std.proofs.Common.{◌∷◌, ◌+◌, ◌*◌, ◌++◌, ◌∙◌, filter, length, refl, ap, sym}
 use Rattle.dubp_people.specs.OfRegistry.registry_tables_block as people
-use Rattle.dubp_money_checks.specs.OfMoney.money_tables_block as money
+use Rattle.dubp_money_rules.specs.OfMoney.money_tables_block as money
 use Rattle.dubp_people.specs.Applied as people_words
-use Rattle.dubp_money_checks.specs.OfMoney.applied as money_words
+use Rattle.dubp_money_rules.specs.OfMoney.applied as money_words
 use Rattle.dubp_people.specs.OfSteps.{people_records}
 use Rattle.dubp_books.specs.Kinds.{is_ended}
 use Rattle.dubp_books.proofs.Asked.{whole_hashes_are}

@@ -1,5 +1,5 @@
 use Rattle.std.proofs.Common.{refl}
-use Rattle.dubp_people_and_money.specs.OfJudge.{Breaks, Keeps}
+use Rattle.dubp_people_and_money.specs.OfKept.{Breaks, Keeps}
 use Rattle.dubp_ledger.proofs.Found.{found_here}
 use Rattle.dubp_ledger.proofs.ledger.Ledger.submit.Goals as goal
 

@@ -1,2 +1,0 @@
-pub mod OfReplay
-pub mod Tallies

@@ -1,5 +1,0 @@
-pub mod Stored
-pub mod Decisions
-pub mod Long
-pub mod Outside
-mod Valid

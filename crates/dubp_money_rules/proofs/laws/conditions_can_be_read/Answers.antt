@@ -1,0 +1,5 @@
+use Rattle.dubp_money_rules.proofs.Conditions.{conditions_are_read}
+use Rattle.dubp_money_rules.proofs.laws.conditions_can_be_read.Goals as goal
+
+pub returns : goal.returns
+returns g = conditions_are_read

@@ -1,7 +1,0 @@
-use Rattle.std.proofs.Common.{◌∙◌, List, ap, sym}
-use Rattle.dubp_atoms.specs.Same.{Text}
-use Rattle.dubp_atoms.specs.Walks.{received_of}
-use Rattle.dubp_people_count.proofs.standing.StandingWeb.received.Goals as goal
-
-pub returns : goal.returns
-returns c = λ keys pairs shown. c.received.ensures shown.0 shown.1.0 ∙ ap (λ (ps : List (Text × Text)). received_of ps c.args.key.now) (sym shown.1.1.1.1)

@@ -1,6 +1,0 @@
-pub mod Certified
-pub mod Ends
-pub mod Moved
-pub mod Stated
-pub mod Webs
-pub mod OfLeft

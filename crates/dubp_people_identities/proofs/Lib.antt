@@ -1,4 +1,0 @@
-pub mod Changed
-pub mod Lines
-pub mod Onward
-pub mod OfLists
