@@ -23,9 +23,8 @@ mod first;
 mod order;
 mod rule;
 mod sample;
-#[cfg(test)]
-mod tests;
 
 pub use codes::{code, of_code};
 pub use order::{RULES, RuleTable, place, table};
 pub use rule::Rule;
+pub use sample::{first_unsuited, try_first_unsuited};

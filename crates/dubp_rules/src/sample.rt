@@ -5,7 +5,7 @@ ghost use Rattle.dubp_rules.specs.declared.rule.Rule.TheVariants.{X01, P01, X02,
 
 use crate::{Rule, first_of};
 
-// Five checks on a number. They prove, with this crate, what the crates above get from `first_of!`.
+// Five checks on a number. They prove, with this crate, what the crates above get from `first_of!`; nothing else stands on them.
 
 fn is_even(n: u8) -> bool
     ensures { IsTrue result ↔ (n % 2 ≡ 0) }
@@ -20,7 +20,7 @@ fn is_below(n: u8, limit: u8) -> bool
 }
 
 /// The first of five rules that does not suit the number.
-pub(crate) fn first_unsuited(n: u8) -> Option<Rule>
+pub fn first_unsuited(n: u8) -> Option<Rule>
     ensures { FirstOf (Suits n) (X01 ∷ P01 ∷ X02 ∷ X07 ∷ L01 ∷ []) result }
 {
     first_of!(
@@ -40,7 +40,7 @@ fn try_below(n: u8, limit: u8) -> Result<bool, u8>
 }
 
 /// The same by checks that refuse a number from 200 on. An odd number is not refused: X01 is named first.
-pub(crate) fn try_first_unsuited(n: u8) -> Result<Option<Rule>, u8>
+pub fn try_first_unsuited(n: u8) -> Result<Option<Rule>, u8>
     ensures told { IfOk result (FirstOf (Suits n) (X01 ∷ P01 ∷ X02 ∷ X07 ∷ L01 ∷ [])) }
     ensures refused { IfErr result (λ m. (m ≡ n) × (200 ≤ n) × (n % 2 ≡ 0)) }
 {

@@ -1,5 +1,4 @@
-use crate::sample::{first_unsuited, try_first_unsuited};
-use crate::{Rule, code, of_code, place, table};
+use dubp_rules::{Rule, code, first_unsuited, of_code, place, table, try_first_unsuited};
 
 #[test]
 fn first_failing_check(rt: HostRuntime) {
