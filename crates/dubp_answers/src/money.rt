@@ -3,13 +3,13 @@ ghost use Rattle.std.specs.Prelude.{◌≡◌, [], ◌∷◌, codes, decimal};
 ghost use Rattle.dubp_chain.specs.Chains.{Chain};
 ghost use Rattle.dubp_replay.specs.Answers.{balance_answer, money_answer, values_line};
 
+use crate::Money;
+use crate::money_views::balance;
 use crate::values::put_spaced;
 use arrayvec::ArrayVec;
 use dubp_atoms::{Line, put_bytes};
 use dubp_block::Block;
 use dubp_cond::CondText;
-use crate::Money;
-use crate::money_views::balance;
 use dubp_undo::Tables;
 
 /// The answer to MONEY: the units that the chain issued, those that are unspent and those that were cleared; each is 0 where the

@@ -7,13 +7,13 @@ ghost use Rattle.dubp_validity.specs.Rules.{IsSound};
 ghost use Rattle.dubp_replay.specs.Answers.{ended, sources_answer};
 ghost use Rattle.dubp_answers.specs.SourceLines.{view_input, view_line, view_lines};
 
+use crate::Money;
+use crate::money_views::{SourceView, sources};
 use crate::values::add;
 use arrayvec::ArrayVec;
 use dubp_atoms::{Line, NoMemory, put_bytes, put_number};
 use dubp_block::Block;
 use dubp_cond::{CondText, SourceId};
-use crate::Money;
-use crate::money_views::{SourceView, sources};
 use dubp_undo::Tables;
 use std::alloc::Global;
 

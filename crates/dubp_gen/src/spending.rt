@@ -11,12 +11,12 @@ ghost use Rattle.dubp_gen.specs.Making.{input_of};
 ghost use Rattle.dubp_gen.specs.Spendable.{IsWorth, place_in};
 
 use arrayvec::ArrayVec;
+use dubp_answers::SourceView;
 use dubp_atoms::Key;
 use dubp_block::Block;
 use dubp_cond::{CondText, Input, SourceId};
 use dubp_drafts::{KEYS, key_of};
 use dubp_ledger::Money;
-use dubp_answers::SourceView;
 use dubp_undo::Tables;
 
 /// The first unspent source of the account of the key of this number, in the order of making, where it has one. It takes no memory.

@@ -8,11 +8,11 @@ ghost use Rattle.dubp_kept.specs.OfLocal.{all_hashes};
 ghost use Rattle.dubp_kept.specs.Parts.{table_parts};
 ghost use Rattle.dubp_kept.specs.Judged.{IsToJudge};
 
+use crate::Written;
 use dubp_atoms::{Key, NoMemory};
 use dubp_block::Block;
 use dubp_chain::Head;
 use dubp_docs::TxHashes;
-use crate::Written;
 use dubp_params::Params;
 use dubp_rules::Rule;
 use dubp_undo::Tables;

@@ -24,12 +24,12 @@ use crate::checks::{
 };
 use crate::judgement::Judgement;
 use crate::judges::Judges;
+use crate::{Asked, Checked, Kept, Written, check_local_hashed};
 use dubp_atoms::{Items, NoMemory};
 use dubp_block::Block;
 use dubp_chain::Head;
 use dubp_docs::TxHashes;
 use dubp_head::{Frame, Heads, augment_over, head_rules_over, stated_rules_over};
-use crate::{Asked, Checked, Kept, Written, check_local_hashed};
 use dubp_params::Params;
 use dubp_rules::{Rule, first_of};
 use dubp_undo::Tables;

@@ -11,14 +11,14 @@ ghost use Rattle.dubp_money_rules.specs.OfValidity.{ConditionsAreTrue, InputsAre
 ghost use Rattle.dubp_money_rules.specs.Judging.{rules_behind_hashes};
 ghost use Rattle.dubp_money_rules.specs.Judged.{IsJudged};
 
-use dubp_atoms::{Hash, NoMemory};
-use dubp_block::Block;
-use dubp_chain::Head;
 use crate::conditions::conditions_are_true;
 use crate::inputs::{inputs_are_there, locktimes_have_ended};
 use crate::outputs::output_bases_fit;
 use crate::times::transactions_are_in_time;
 use crate::{Money, Next};
+use dubp_atoms::{Hash, NoMemory};
+use dubp_block::Block;
+use dubp_chain::Head;
 use dubp_rules::{Rule, first_of};
 use indexmap::IndexSet;
 use std::alloc::Global;

@@ -3,9 +3,9 @@ ghost use Rattle.std.specs.Prelude.{◌≡◌};
 ghost use Rattle.dubp_chain.specs.Chains.{Chain};
 ghost use Rattle.dubp_chain.specs.Tables.{has_transaction};
 
+use crate::{Money, Transactions};
 use dubp_atoms::Hash;
 use dubp_block::Block;
-use crate::{Money, Transactions};
 use dubp_undo::Tables;
 
 /// The transactions of the chain of this money.

@@ -14,12 +14,12 @@ ghost use Rattle.dubp_money_rules.specs.Judging.{AreBlocks, money_rules};
 
 use crate::checks::first_behind_hashes;
 use crate::earlier::Earlier;
+use crate::hashes::{transactions_are_new, tx_numbers};
+use crate::{Money, Next, next_of};
 use dubp_atoms::NoMemory;
 use dubp_block::Block;
 use dubp_chain::Head;
 use dubp_docs::{TxHashes, all_tx_hashes};
-use crate::hashes::{transactions_are_new, tx_numbers};
-use crate::{Money, Next, next_of};
 use dubp_rules::Rule;
 use dubp_undo::Tables;
 use std::alloc::Global;

@@ -3,10 +3,10 @@ ghost use Rattle.dubp_chain.specs.Chains.{Chain};
 ghost use Rattle.dubp_validity.specs.PeopleRules.{IdentitiesAreFew, IdentitiesAreInTime, UidsAreNew, IdentitiesAreNew, MembershipsAreInTime, MembershipsAreNewer, MembershipsAreApart, MembershipsHaveIdentities, JoinersAreNoMembers, ActivesAreMembers, LeaversMayLeave, NobodyRevokedMoves, RevokedHaveIdentities, RevocationsAreSigned, CertificationsAreInTime, StocksAreKept, IssuersWaited, IssuersAreMembers, ReceiversAreMembers, ReceiversStay, LivePairsAreRenewed, CertificationsAreSigned, JoinersAreCertified, ComersPass, ExcludedAreKicked, KickedAreExcluded};
 ghost use Rattle.dubp_people_checks.specs.Asking.{IsAskedOf};
 
+use crate::Next;
 use dubp_atoms::NoMemory;
 use dubp_block::Block;
 use dubp_people_after::{After, Registry, WithBlock};
-use crate::Next;
 use dubp_undo::Tables;
 use dubp_verdict::Verdicts;
 use std::alloc::Global;

@@ -9,11 +9,11 @@ ghost use Rattle.dubp_people_checks.specs.PeopleRules.{people_rules};
 
 use crate::asked::Asked;
 use crate::first::first_broken;
+use crate::{Next, next_of};
 use dubp_atoms::NoMemory;
 use dubp_block::Block;
 use dubp_chain::Head;
 use dubp_people_after::{After, Registry};
-use crate::{Next, next_of};
 use dubp_rules::Rule;
 use dubp_undo::Tables;
 use dubp_verdict::Verdicts;

@@ -4,10 +4,10 @@ ghost use Rattle.dubp_chain.specs.People.{identity};
 ghost use Rattle.dubp_validity.specs.Rules.{IsSound};
 ghost use Rattle.dubp_people_views.specs.Certifications.{certification_texts, certifications_told, view_of};
 
+use crate::Registry;
 use dubp_atoms::{Key, NoMemory};
 use dubp_block::Block;
 use dubp_cindex::CertRow;
-use crate::Registry;
 use dubp_undo::Tables;
 use std::alloc::Global;
 

@@ -10,10 +10,10 @@ ghost use Rattle.dubp_wot.specs.Order.{IsInOrder};
 ghost use Rattle.dubp_people_views.specs.Nearness.{IsDistanceOf, IsSearchable};
 
 use crate::keys::push;
+use crate::{Registry, Standing};
 use dubp_atoms::{Dec, Key, NoMemory};
 use dubp_block::Block;
 use dubp_params::Params;
-use crate::{Registry, Standing};
 use dubp_undo::Tables;
 use dubp_wot::{Web, d_sen, reaches_among};
 use std::alloc::Global;

@@ -6,10 +6,10 @@ ghost use Rattle.dubp_validity.specs.Rules.{IsSound};
 ghost use Rattle.dubp_replay.specs.Answers.{identity_values, standing};
 ghost use Rattle.dubp_people_views.specs.Views.{expiry_of, identity_texts, state_text};
 
+use crate::{First, Registry};
 use dubp_atoms::{Key, Uid};
 use dubp_block::Block;
 use dubp_mindex::MemberRow;
-use crate::{First, Registry};
 use dubp_undo::Tables;
 
 /// What is told of an identity.

@@ -3,9 +3,9 @@ ghost use Rattle.dubp_chain.specs.Chains.{Chain};
 ghost use Rattle.dubp_chain.specs.Live.{kick};
 ghost use Rattle.dubp_validity.specs.Rules.{IsSound};
 
+use crate::Registry;
 use dubp_atoms::{Key, NoMemory};
 use dubp_block::Block;
-use crate::Registry;
 use dubp_undo::Tables;
 use std::alloc::Global;
 

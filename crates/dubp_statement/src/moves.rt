@@ -10,9 +10,7 @@ use dubp_atoms::NoMemory;
 use dubp_cond::CondText;
 use dubp_ledger::{Ledger, PeopleAndMoney};
 use dubp_replay::Move;
-use dubp_replay::move_laws::{
-    accounts_have_the_moves, balances_are_numbers, moves_are_statements,
-};
+use dubp_replay::move_laws::{accounts_have_the_moves, balances_are_numbers, moves_are_statements};
 use std::alloc::Global;
 
 /// The moves of the condition of this text on the chain of the ledger, block by block, each with the units that the condition has behind it.
