@@ -8,5 +8,5 @@ pub mod Early
 pub mod Told
 pub mod OfMoney
 pub mod OfLists
-pub mod Conditions
+pub mod Readable
 pub mod Firsts

@@ -7,7 +7,7 @@ use Rattle.dubp_money.proofs.OfMoneySteps.{sources_are_rows}
 use Rattle.dubp_answers.specs.MoneyViews.{row_view}
 use Rattle.dubp_answers.proofs.Accounts.{rows_left}
 use Rattle.dubp_answers.proofs.Rows.{first_found, first_none}
-use Rattle.dubp_answers.proofs.views.first_of.Goals as goal
+use Rattle.dubp_answers.proofs.money_views.first_of.Goals as goal
 
 pub returns-in-Some : goal.returns-in-Some
 returns-in-Some c = λ chain at sound.

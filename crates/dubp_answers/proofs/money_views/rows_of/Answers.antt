@@ -6,7 +6,7 @@ use Rattle.dubp_money.specs.OfMoneySteps.{sources_left}
 use Rattle.dubp_money.proofs.OfMoneySteps.{sources_are_rows}
 use Rattle.dubp_answers.proofs.Accounts.{rows_left}
 use Rattle.dubp_answers.proofs.Rows.{views_found, views_none}
-use Rattle.dubp_answers.proofs.views.rows_of.Goals as goal
+use Rattle.dubp_answers.proofs.money_views.rows_of.Goals as goal
 
 pub returns-in_ok-rows-in-Some : goal.returns-in_ok-rows-in-Some
 returns-in_ok-rows-in-Some c = λ chain at sound.

@@ -3,7 +3,7 @@ use Rattle.dubp_sindex.specs.Accounts.{accounts}
 use Rattle.dubp_undo.specs.States.{states}
 use Rattle.dubp_money.specs.OfMoneySteps.{sources_left}
 use Rattle.dubp_answers.proofs.Accounts.{units_found, units_none}
-use Rattle.dubp_answers.proofs.views.units_of.Goals as goal
+use Rattle.dubp_answers.proofs.money_views.units_of.Goals as goal
 
 pub returns-in-Some : goal.returns-in-Some
 returns-in-Some c = λ chain at.

@@ -1,6 +1,6 @@
 use Rattle.std.proofs.Common.{◌≡◌, ◌++◌, [], take}
 use Rattle.dubp_answers.specs.SourceLines.{view_lines}
-use Rattle.dubp_answers.proofs.sources.add_views.Given as goal
+use Rattle.dubp_answers.proofs.source_texts.add_views.Given as goal
 
 abbrev pub invariant-loop-view : goal.invariant-loop-view
 invariant-loop-view l = record {

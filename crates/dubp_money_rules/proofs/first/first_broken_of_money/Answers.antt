@@ -3,7 +3,7 @@ use Rattle.dubp_atoms.specs.Same.{same_text}
 use Rattle.dubp_chain.specs.Words.{each_once}
 use Rattle.dubp_chain.specs.Money.{hashes_in}
 use Rattle.dubp_money_rules.specs.Spending.{AreNumbered}
-use Rattle.dubp_money_rules.proofs.Conditions.{conditions_are_read}
+use Rattle.dubp_money_rules.proofs.Readable.{conditions_are_read}
 use Rattle.dubp_money_rules.proofs.Firsts.{hashes_break, hashes_hold, twice_break, told_some, told_none}
 use Rattle.dubp_money_rules.proofs.first.first_broken_of_money.Goals as goal
 

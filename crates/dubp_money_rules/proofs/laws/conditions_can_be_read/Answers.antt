@@ -1,4 +1,4 @@
-use Rattle.dubp_money_rules.proofs.Conditions.{conditions_are_read}
+use Rattle.dubp_money_rules.proofs.Readable.{conditions_are_read}
 use Rattle.dubp_money_rules.proofs.laws.conditions_can_be_read.Goals as goal
 
 pub returns : goal.returns
