@@ -14,15 +14,20 @@ use std::sync::ledger::Ledger as StepBook;
 /// A change of a slot, with the value to put back.
 pub(crate) type Change<V> = (usize, Option<V>);
 
-/// One change fewer names the slot.
-pub(crate) fn release(uses: &mut Vec<usize>, hints: &mut Hints, slot: usize)
+/// One change fewer names the slot. Where none does, and it holds nothing, its key may soon be given up.
+pub(crate) fn release<V: Copy, S: Summary<V>>(
+    uses: &mut Vec<usize>,
+    slots: &Slots<V, S>,
+    hints: &mut Hints,
+    slot: usize,
+)
     requires within { slot < length uses.old.items }
     requires named { 0 < get_or uses.old.items slot 0 }
     ensures uses { uses.new.items ≡ set uses.old.items slot (get_or uses.old.items slot 0 - 1) }
 {
     uses[slot] -= 1;
     if uses[slot] == 0 {
-        hints.note_idle(slot);
+        hints.note_idle(slot, slots.holds_nothing(slot));
     }
 }
 
@@ -48,15 +53,16 @@ pub(crate) fn undo_last<V: Copy, S: Summary<V>, L: StepBook>(
     for _done in 0..n {
         let (slot, value) = journal.pop_back().unwrap();
         slots.set(slot, value);
-        release(uses, hints, slot);
+        release(uses, slots, hints, slot);
         steps.tick();
     }
 }
 
 /// Forgets the first n changes.
-pub(crate) fn drop_first<V: Copy>(
+pub(crate) fn drop_first<V: Copy, S: Summary<V>>(
     journal: &mut VecDeque<Change<V>>,
     uses: &mut Vec<usize>,
+    slots: &Slots<V, S>,
     hints: &mut Hints,
     n: usize,
 )
@@ -69,7 +75,7 @@ pub(crate) fn drop_first<V: Copy>(
 {
     for _done in 0..n {
         let (slot, _value) = journal.pop_front().unwrap();
-        release(uses, hints, slot);
+        release(uses, slots, hints, slot);
     }
 }
 

@@ -100,7 +100,6 @@ pub(crate) fn place<K: Copy, V: Copy, F: Finder<K>, S: Summary<V>>(
     }
     keys[next] = Some(k);
     hints.take_free();
-    hints.note_idle(next);
     Ok(next)
 }
 

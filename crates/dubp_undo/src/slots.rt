@@ -51,6 +51,11 @@ impl<V: Copy, S: Summary<V>> Slots<V, S> {
         self.values[slot]
     }
 
+    /// Whether the slot is there and holds nothing: a hint, of which no contract speaks.
+    pub(crate) fn holds_nothing(&self, slot: usize) -> bool {
+        slot < self.values.len() && self.values[slot].is_none()
+    }
+
     /// Puts v into the slot. It takes no memory.
     pub(crate) fn set(&mut self, slot: usize, v: Option<V>)
         requires { slot < length self.old }

@@ -221,7 +221,7 @@ impl<K: Copy, V: Copy + Eq, F: Finder<K>, S: Summary<V>> UndoTable<K, V, F, S> {
             (slot, self.slots.get(slot)),
         );
         self.slots.set(slot, v);
-        self.hints.note_idle(slot);
+        self.hints.note_idle(slot, v.is_none());
         self.spare = 0;
         steps.tick();
         Ok(())
@@ -245,7 +245,7 @@ impl<K: Copy, V: Copy + Eq, F: Finder<K>, S: Summary<V>> UndoTable<K, V, F, S> {
         ensures succeeds { IsPlaced F.cmp k self.old.placed → n ≤ self.old.room → IsOk result }
     {
         make_room(&mut self.journal, self.redo.len(), n)?;
-        let _slot = place(
+        let slot = place(
             &mut self.finder,
             &mut self.keys,
             &mut self.uses,
@@ -253,6 +253,7 @@ impl<K: Copy, V: Copy + Eq, F: Finder<K>, S: Summary<V>> UndoTable<K, V, F, S> {
             &mut self.hints,
             k,
         )?;
+        self.hints.note_idle(slot, self.slots.holds_nothing(slot));
         Ok(())
     }
 
@@ -408,7 +409,13 @@ impl<K: Copy, V: Copy + Eq, F: Finder<K>, S: Summary<V>> UndoTable<K, V, F, S> {
     {
         let n = self.marks.pop_front().unwrap();
         self.first = n;
-        drop_first(&mut self.journal, &mut self.uses, &mut self.hints, n);
+        drop_first(
+            &mut self.journal,
+            &mut self.uses,
+            &self.slots,
+            &mut self.hints,
+            n,
+        );
         self.spare = 0;
         self.forget();
     }
@@ -428,7 +435,13 @@ impl<K: Copy, V: Copy + Eq, F: Finder<K>, S: Summary<V>> UndoTable<K, V, F, S> {
         ensures room_stays { self.old.room ≤ self.new.room }
     {
         let changes = self.redo.len();
-        drop_first(&mut self.redo, &mut self.uses, &mut self.hints, changes);
+        drop_first(
+            &mut self.redo,
+            &mut self.uses,
+            &self.slots,
+            &mut self.hints,
+            changes,
+        );
         self.redo_marks.clear();
         self.spare = 0;
         self.forget();
