@@ -1,6 +1,7 @@
 ghost use Rattle.std.specs.Prelude.{OnOk, ◌≡◌, ◌<◌, ◌≤◌, [], None, Some, is_some, length, slice_get};
 ghost use Rattle.std.specs.List.{list_any};
-ghost use Rattle.dubp_block.specs.Text.{IsBlock, block_text, stamp_of as block_stamp};
+ghost use Rattle.dubp_atoms.specs.Hashing.{hash_of};
+ghost use Rattle.dubp_block.specs.Text.{IsBlock, block_text, inner_text, stamp_of as block_stamp};
 ghost use Rattle.dubp_block.specs.declared.block.Block.{Block as BlockValue};
 ghost use Rattle.dubp_validity.specs.Rules.{longest_block};
 ghost use Rattle.dubp_verdict.specs.Verdicts.{Verdicts as VerdictsValue};
@@ -15,8 +16,8 @@ use crate::path::path_from;
 use crate::refusals::{OfferRefusal, SwitchRefusal};
 use crate::stored::Stored;
 use crate::switching::{check_room, count_behind, replace};
-use dubp_atoms::{NoMemory, Secret, Stamp, Steps};
-use dubp_block::{Block, ReadRefusal, read_block, stamp_of};
+use dubp_atoms::{Hash, NoMemory, Secret, Stamp, Steps};
+use dubp_block::{Block, ReadRefusal, read_hashed_block, stamp_of};
 use dubp_ledger::{Ledger, PeopleAndMoney};
 use dubp_verdict::Verdicts;
 use indexmap::IndexMap;
@@ -126,8 +127,8 @@ impl Store {
         ensures offered { Offered (state_of verdicts.now ledger.now self.old) bytes.now result self.new }
         ensures outside { AreOutside self.new ledger.now.chain }
     {
-        match read_block(self.alloc, bytes) {
-            Ok(block) => self.check(&block, bytes, ledger, verdicts),
+        match read_hashed_block(self.alloc, bytes) {
+            Ok(read) => self.check(&read.block, &read.inner, bytes, ledger, verdicts),
             Err(ReadRefusal::NotABlock { line }) => Err(OfferRefusal::Unread { line }),
             Err(ReadRefusal::NoMemory) => Err(OfferRefusal::NoMemory),
         }
@@ -184,22 +185,24 @@ impl Store {
         )
     }
 
-    // Stores the block of this text, where it breaks no rule before `G51`.
+    // Stores the block of this text, whose inner hash is at hand, where it breaks no rule before `G51`.
     fn check<T: PeopleAndMoney>(
         &mut self,
         block: &Block,
+        inner: &Hash,
         text: &[u8],
         ledger: &Ledger<T>,
         verdicts: &Verdicts,
     ) -> Result<Stamp, OfferRefusal>
         requires range { IsBlock block.now }
+        requires inner { inner.now ≡ hash_of (inner_text block.now) }
         requires text { text.now ≡ block_text block.now }
         requires short { length text.now ≤ longest_block }
         requires outside { AreOutside self.old ledger.now.chain }
         ensures checked { Checked (state_of verdicts.now ledger.now self.old) block.now result self.new }
         ensures outside { AreOutside self.new ledger.now.chain }
     {
-        match ledger.first_local(block, verdicts) {
+        match ledger.first_local(block, inner, verdicts) {
             Ok(None) => self.add(block, text, ledger),
             Ok(Some(rule)) => Err(OfferRefusal::Local(rule)),
             Err(NoMemory) => Err(OfferRefusal::NoMemory),

@@ -1,9 +1,10 @@
 ghost use Rattle.std.specs.Prelude.{◌≡◌, IfOk};
-ghost use Rattle.dubp_block.specs.Text.{IsBlock, block_text};
+ghost use Rattle.dubp_atoms.specs.Hashing.{hash_of};
+ghost use Rattle.dubp_block.specs.Text.{IsBlock, block_text, inner_text};
 ghost use Rattle.dubp_replay.specs.Turns.{previous_stamp};
 
 use dubp_atoms::{NoMemory, Stamp};
-use dubp_block::{Block, ReadRefusal, put_block, read_block};
+use dubp_block::{Block, HashedBlock, ReadRefusal, put_block, read_hashed_block};
 use std::alloc::Global;
 use std::marker::Model;
 use std::snapshot::Snapshot;
@@ -66,12 +67,13 @@ impl Stored {
         self.before
     }
 
-    /// Reads the block again. `NoMemory` where there is no room for it.
-    pub(crate) fn read(&self, alloc: Global) -> Result<Block, NoMemory>
-        ensures { IfOk result (λ block. block ≡ self.now) }
+    /// Reads the block again, and its inner hash. `NoMemory` where there is no room for it.
+    pub(crate) fn read(&self, alloc: Global) -> Result<HashedBlock, NoMemory>
+        ensures block { IfOk result (λ read. read.block ≡ self.now) }
+        ensures inner { IfOk result (λ read. read.inner ≡ hash_of (inner_text read.block)) }
     {
-        match read_block(alloc, self.text.as_slice()) {
-            Ok(block) => Ok(block),
+        match read_hashed_block(alloc, self.text.as_slice()) {
+            Ok(read) => Ok(read),
             Err(ReadRefusal::NoMemory) => Err(NoMemory),
             Err(ReadRefusal::NotABlock { line: _ }) => unreachable!(),
         }

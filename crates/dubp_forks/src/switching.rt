@@ -18,6 +18,7 @@ use crate::store::MOST_STORED;
 use crate::stored::Stored;
 use crate::written::write_last;
 use dubp_atoms::{Secret, Stamp, Steps};
+use dubp_block::HashedBlock;
 use dubp_ledger::{Ledger, PeopleAndMoney, SubmitRefusal};
 use dubp_verdict::Verdicts;
 use indexmap::IndexMap;
@@ -42,10 +43,11 @@ fn accept<T: PeopleAndMoney, L: StepBook>(
     let Some(stored) = blocks.get(stamp) else {
         unreachable!();
     };
-    let Ok(block) = stored.read(alloc) else {
+    let Ok(read) = stored.read(alloc) else {
         return Err(SwitchRefusal::NoMemory);
     };
-    match ledger.submit(block, verdicts, steps) {
+    let HashedBlock { block, inner } = read;
+    match ledger.submit_read(block, &inner, verdicts, steps) {
         Ok(_) => Ok(()),
         Err(SubmitRefusal::Refused { rule, block: _ }) => {
             Err(SwitchRefusal::Refused { at: *stamp, rule })

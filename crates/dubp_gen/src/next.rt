@@ -10,7 +10,7 @@ ghost use Rattle.dubp_gen.specs.Making.{IsOfMade, IsSealedBlock, Joins, made_of}
 use crate::chain::{Chain, GenRefusal};
 use crate::spending::first_source;
 use dubp_atoms::{Hash, Key, NoMemory, Sig, Steps};
-use dubp_block::{Block, copy_block, put_block};
+use dubp_block::{Block, copy_block, inner_hash_in, put_block};
 use dubp_drafts::{Draft, SealRefusal, Sealed, draft, first_draft, payer, seal};
 use dubp_ledger::{Ledger, PeopleAndMoney, SubmitRefusal};
 use dubp_rules::Rule;
@@ -212,7 +212,8 @@ fn join<T: PeopleAndMoney, L: StepBook>(
     let Ok(copy) = copy_block(alloc, &block) else {
         return Err(GenRefusal::NoMemory);
     };
-    match ledger.submit(block, verdicts, steps) {
+    let inner = inner_hash_in(text.as_slice(), &block);
+    match ledger.submit_read(block, &inner, verdicts, steps) {
         Ok(_) => match blocks.push(copy) {
             Ok(()) => Ok(()),
             Err(_) => Err(GenRefusal::NoMemory),

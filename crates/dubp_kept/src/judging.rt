@@ -1,6 +1,7 @@
 ghost use Rattle.std.specs.Prelude.{◌≡◌, ◌≤◌, ◌<◌, ◌^◌, ◌∷◌, ◌++◌, IfOk, None, Some, length, option_copied, reverse};
 ghost use Rattle.dubp_params.specs.Ranges.{IsInRange};
-ghost use Rattle.dubp_block.specs.Text.{IsBlock, block_text};
+ghost use Rattle.dubp_atoms.specs.Hashing.{hash_of};
+ghost use Rattle.dubp_block.specs.Text.{IsBlock, block_text, inner_text};
 ghost use Rattle.dubp_rules.specs.First.{FirstOf, IsFirst};
 ghost use Rattle.dubp_verdict.specs.Verdicts.{Verdicts as VerdictsValue};
 ghost use Rattle.dubp_chain.specs.Chains.{params as params_of};
@@ -25,8 +26,8 @@ use crate::checks::{
 use crate::judgement::Judgement;
 use crate::judges::Judges;
 use crate::{Asked, Checked, Kept, Written, check_local_hashed};
-use dubp_atoms::{Items, NoMemory};
-use dubp_block::Block;
+use dubp_atoms::{Hash, Items, NoMemory};
+use dubp_block::{Block, inner_hash_of};
 use dubp_chain::Head;
 use dubp_docs::TxHashes;
 use dubp_head::{Frame, Heads, augment_over, head_rules_over, stated_rules_over};
@@ -36,14 +37,16 @@ use dubp_undo::Tables;
 use dubp_verdict::Verdicts;
 use std::alloc::Global;
 
-/// What there is to say of the block, whose text has at most 1,048,576 bytes, behind the chain.
+/// What there is to say of the block, whose text has at most 1,048,576 bytes and whose inner hash is at hand, behind the chain.
 pub fn judge<T: Judges>(
     alloc: Global,
     kept: &Kept<T>,
     block: &Block,
+    inner: &Hash,
     verdicts: &Verdicts,
 ) -> Result<Judgement, NoMemory>
     requires text { IsBlock block.now }
+    requires inner { inner.now ≡ hash_of (inner_text block.now) }
     requires short { length (block_text block.now) ≤ longest_block }
     ensures { IfOk result (Judged verdicts.now kept.now.chain block.now) }
 {
@@ -53,6 +56,7 @@ pub fn judge<T: Judges>(
         kept.heads(),
         kept.blocks(),
         block,
+        inner,
         verdicts,
         Asked::Signed,
     )?;
@@ -79,6 +83,7 @@ pub fn trial<T: Judges>(
         kept.heads(),
         kept.blocks(),
         block,
+        &inner_hash_of(block),
         verdicts,
         Asked::Unsigned,
     )?;
@@ -95,16 +100,18 @@ fn judge_over<T: Judges>(
     heads: &Heads,
     blocks: &[Block],
     block: &Block,
+    inner: &Hash,
     verdicts: &Verdicts,
     asked: Asked,
 ) -> Result<Judgement, NoMemory>
     requires at { T.at tables.now (reverse blocks.now) }
     requires known { IsKnown (reverse blocks.now) heads.now }
     requires text { IsBlock block.now }
+    requires inner { inner.now ≡ hash_of (inner_text block.now) }
     requires short { length (block_text block.now) ≤ longest_block }
     ensures { IfOk result (JudgedAsked asked verdicts.now (reverse blocks.now) block.now) }
 {
-    match first_opening(alloc, heads, blocks, block, verdicts, asked)? {
+    match first_opening(alloc, heads, blocks, block, inner, verdicts, asked)? {
         Checked::Breaks(rule) => Ok(Judgement::Breaks(rule)),
         Checked::Keeps(hashes) => {
             judge_opened(alloc, tables, heads, blocks, block, hashes, verdicts, asked)
@@ -163,14 +170,16 @@ fn first_opening(
     heads: &Heads,
     blocks: &[Block],
     block: &Block,
+    inner: &Hash,
     verdicts: &Verdicts,
     asked: Asked,
 ) -> Result<Checked, NoMemory>
     requires text { IsBlock block.now }
+    requires inner { inner.now ≡ hash_of (inner_text block.now) }
     requires known { IsKnown (reverse blocks.now) heads.now }
     ensures { IfOk result (Opened asked verdicts.now (reverse blocks.now) block.now) }
 {
-    match check_local_hashed(alloc, block, verdicts, stated_params(blocks), asked)? {
+    match check_local_hashed(alloc, block, inner, verdicts, stated_params(blocks), asked)? {
         Checked::Breaks(rule) => Ok(Checked::Breaks(rule)),
         Checked::Keeps(hashes) => {
             if number_is_next(blocks, block) {

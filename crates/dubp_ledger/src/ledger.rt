@@ -1,7 +1,8 @@
 ghost use Rattle.std.specs.Prelude.{◌≡◌, ◌↔◌, ◌+◌, ◌≤◌, ◌<◌, ◌∷◌, [], IsTrue, IfOk, IfErr, OnOk, OnErr, MatchOption, None, Some, drop, length, min, option_map, position, reverse, slice_get, take};
 ghost use Rattle.std.specs.List.{AllByRecursion};
 ghost use Rattle.dubp_atoms.specs.Same.{same_stamp};
-ghost use Rattle.dubp_block.specs.Text.{IsBlock, block_text, stamp_of};
+ghost use Rattle.dubp_atoms.specs.Hashing.{hash_of};
+ghost use Rattle.dubp_block.specs.Text.{IsBlock, block_text, inner_text, stamp_of};
 ghost use Rattle.dubp_chain.specs.Chains.{block_of_number};
 ghost use Rattle.dubp_chain.specs.HeadStamp.{head_stamp};
 ghost use Rattle.dubp_chain.specs.Heads.{head_of};
@@ -17,13 +18,13 @@ ghost use Rattle.dubp_ledger.specs.Written.{IsWrittenAt};
 use crate::refusal::{SubmitRefusal, TooDeep};
 use crate::traces::Traces;
 use crate::written::WrittenBlock;
-use dubp_atoms::{Key, NoMemory, Secret, Stamp, Steps};
-use dubp_block::Block;
+use dubp_atoms::{Hash, Key, NoMemory, Secret, Stamp, Steps};
+use dubp_block::{Block, inner_hash_of};
 use dubp_chain::Head;
 use dubp_head::{Heads, difficulty};
 use dubp_params::Params;
 use dubp_people_and_money::{Judgement, Money, People, PeopleAndMoney, judge, trial};
-use dubp_rows::{Held, Kept, Record, TxHashes, check_local, put_records};
+use dubp_rows::{Held, Kept, Record, TxHashes, check_local_read, put_records};
 use dubp_rules::Rule;
 use dubp_undo::Tables;
 use dubp_verdict::Verdicts;
@@ -230,21 +231,29 @@ impl<T: PeopleAndMoney> Ledger<T> {
         Ok(Some(rows))
     }
 
-    /// The first of the rules before `G51` that the block breaks: those that look at the block, the parameters of the chain and the verdicts.
+    /// The first of the rules before `G51` that the block, whose inner hash is at hand, breaks: those that look at the block, the parameters
+    /// of the chain and the verdicts.
     ///
     /// `NoMemory` where there is no room to look for what stands twice, or for the hashes of the transactions.
-    pub fn first_local(&self, block: &Block, verdicts: &Verdicts) -> Result<Option<Rule>, NoMemory>
-        requires { IsBlock block.now }
+    pub fn first_local(
+        &self,
+        block: &Block,
+        inner: &Hash,
+        verdicts: &Verdicts,
+    ) -> Result<Option<Rule>, NoMemory>
+        requires text { IsBlock block.now }
+        requires inner { inner.now ≡ hash_of (inner_text block.now) }
         ensures { IfOk result (IsFirst (Holds verdicts.now self.now.chain block.now) (X01 ∷ P01 ∷ local_rules)) }
     {
         self.kept.heads();
         match self.people().first() {
             Some(first) => {
-                let found = check_local(self.alloc, block, verdicts, Some(&first.params))?;
+                let params = Some(&first.params);
+                let found = check_local_read(self.alloc, block, inner, verdicts, params)?;
                 Ok(found)
             }
             None => {
-                let found = check_local(self.alloc, block, verdicts, None)?;
+                let found = check_local_read(self.alloc, block, inner, verdicts, None)?;
                 Ok(found)
             }
         }
@@ -291,7 +300,26 @@ impl<T: PeopleAndMoney> Ledger<T> {
         ensures refused { IfErr result (λ refusal. HandedBack verdicts.now self.old block refusal self.new) }
         ensures steps { OnOk result (steps.new ≤ steps.old + most_steps self.old.chain block) }
     {
-        match judge(self.alloc, &self.kept, &block, verdicts) {
+        let inner = inner_hash_of(&block);
+        self.submit_read(block, &inner, verdicts, steps)
+    }
+
+    /// The same of a block whose inner hash is at hand, as it is where the block was just read.
+    pub fn submit_read<L: StepBook>(
+        &mut self,
+        block: Block,
+        inner: &Hash,
+        verdicts: &Verdicts,
+        steps: &mut Steps<L>,
+    ) -> Result<Stamp, SubmitRefusal>
+        requires text { IsBlock block }
+        requires short { length (block_text block) ≤ longest_block }
+        requires inner { inner.now ≡ hash_of (inner_text block) }
+        ensures accepted { IfOk result (λ stamp. Accepted verdicts.now self.old block stamp self.new) }
+        ensures refused { IfErr result (λ refusal. HandedBack verdicts.now self.old block refusal self.new) }
+        ensures steps { OnOk result (steps.new ≤ steps.old + most_steps self.old.chain block) }
+    {
+        match judge(self.alloc, &self.kept, &block, inner, verdicts) {
             Ok(Judgement::Breaks(rule)) => Err(SubmitRefusal::Refused { rule, block }),
             Ok(Judgement::Keeps(head, params, hashes)) => {
                 self.join(block, head, &params, hashes.as_slice(), verdicts, steps)

@@ -1,6 +1,7 @@
 //! The local rules in the order of the table, and the first that a block breaks.
 ghost use Rattle.std.specs.Prelude.{◌≡◌, ◌↔◌, IsTrue, IfOk, MatchOption, option_copied, ⊤};
-ghost use Rattle.dubp_block.specs.Text.{IsBlock};
+ghost use Rattle.dubp_atoms.specs.Hashing.{hash_of};
+ghost use Rattle.dubp_block.specs.Text.{IsBlock, inner_text};
 ghost use Rattle.dubp_params.specs.Ranges.{IsInRange};
 ghost use Rattle.dubp_local.specs.Local.{FirstLocal, local_rules, unsigned_rules, all_hashes};
 ghost use Rattle.dubp_local.specs.Asking.{FirstAsked, IsSignedWhereAsked, asked_rules, rules_before_l24};
@@ -23,8 +24,8 @@ use crate::transactions::{
     amounts_are_not_zero, transactions_are_balanced, transactions_are_short,
 };
 use crate::unlocks::{inputs_are_unlocked_once, senders_stand_once, sources_stand_once};
-use dubp_atoms::{Items, NoMemory};
-use dubp_block::Block;
+use dubp_atoms::{Hash, Items, NoMemory};
+use dubp_block::{Block, inner_hash_of};
 use dubp_docs::{TxHashes, all_tx_hashes};
 use dubp_params::Params;
 use dubp_rules::{Rule, first_of};
@@ -75,7 +76,24 @@ pub fn check_local(
     requires params { MatchOption params ⊤ (λ p. IsInRange p.now) }
     ensures { IfOk result (FirstLocal local_rules verdicts.now (option_copied params.entry) block.now) }
 {
-    let checked = check_local_hashed(alloc, block, verdicts, params, Asked::Signed)?;
+    let found = check_local_read(alloc, block, &inner_hash_of(block), verdicts, params)?;
+    Ok(found)
+}
+
+/// The same of a block whose inner hash is at hand, as it is where the block was just read.
+pub fn check_local_read(
+    alloc: Global,
+    block: &Block,
+    inner: &Hash,
+    verdicts: &Verdicts,
+    params: Option<&Params>,
+) -> Result<Option<Rule>, NoMemory>
+    requires block { IsBlock block.now }
+    requires inner { inner.now ≡ hash_of (inner_text block.now) }
+    requires params { MatchOption params ⊤ (λ p. IsInRange p.now) }
+    ensures { IfOk result (FirstLocal local_rules verdicts.now (option_copied params.entry) block.now) }
+{
+    let checked = check_local_hashed(alloc, block, inner, verdicts, params, Asked::Signed)?;
     Ok(checked.broken())
 }
 
@@ -90,39 +108,44 @@ pub fn check_unsigned(
     requires params { MatchOption params ⊤ (λ p. IsInRange p.now) }
     ensures { IfOk result (FirstLocal unsigned_rules verdicts.now (option_copied params.entry) block.now) }
 {
-    let checked = check_local_hashed(alloc, block, verdicts, params, Asked::Unsigned)?;
+    let inner = inner_hash_of(block);
+    let checked = check_local_hashed(alloc, block, &inner, verdicts, params, Asked::Unsigned)?;
     Ok(checked.broken())
 }
 
-/// As `check_local` of a block that is signed, and as `check_unsigned` of one that is not; and hands on the hashes of the
-/// transactions of a block that keeps the rules. They are made once, when rule `L24` is read.
+/// As `check_local` of a block that is signed, and as `check_unsigned` of one that is not, whose inner hash is at hand; and hands on the
+/// hashes of the transactions of a block that keeps the rules. They are made once, when rule `L24` is read.
 pub fn check_local_hashed(
     alloc: Global,
     block: &Block,
+    inner: &Hash,
     verdicts: &Verdicts,
     params: Option<&Params>,
     asked: Asked,
 ) -> Result<Checked, NoMemory>
     requires block { IsBlock block.now }
+    requires inner { inner.now ≡ hash_of (inner_text block.now) }
     requires params { MatchOption params ⊤ (λ p. IsInRange p.now) }
     ensures { IfOk result (IsChecked (FirstLocal (asked_rules asked) verdicts.now (option_copied params.entry) block.now) block.now) }
 {
-    let checked = check_asked(alloc, block, verdicts, params, asked)?;
+    let checked = check_asked(alloc, block, inner, verdicts, params, asked)?;
     Ok(checked)
 }
 
 fn check_asked(
     alloc: Global,
     block: &Block,
+    inner: &Hash,
     verdicts: &Verdicts,
     params: Option<&Params>,
     asked: Asked,
 ) -> Result<Checked, NoMemory>
     requires block { IsBlock block.now }
+    requires inner { inner.now ≡ hash_of (inner_text block.now) }
     requires params { MatchOption params ⊤ (λ p. IsInRange p.now) }
     ensures { IfOk result (IsChecked (FirstAsked local_rules asked verdicts.now (option_copied params.entry) block.now) block.now) }
 {
-    if let Some(rule) = first_before_l24(alloc, block, verdicts, params, asked)? {
+    if let Some(rule) = first_before_l24(alloc, block, inner, verdicts, params, asked)? {
         return Ok(Checked::Breaks(rule));
     }
     let hashes = all_tx_hashes(alloc, &block.currency, block.transactions.as_slice())?;
@@ -136,18 +159,20 @@ fn check_asked(
 fn first_before_l24(
     alloc: Global,
     block: &Block,
+    inner: &Hash,
     verdicts: &Verdicts,
     params: Option<&Params>,
     asked: Asked,
 ) -> Result<Option<Rule>, NoMemory>
     requires block { IsBlock block.now }
+    requires inner { inner.now ≡ hash_of (inner_text block.now) }
     requires params { MatchOption params ⊤ (λ p. IsInRange p.now) }
     ensures { IfOk result (FirstAsked rules_before_l24 asked verdicts.now (option_copied params.entry) block.now) }
 {
     Ok(first_of!(
         Rule::X02 => params_are_in_range(block),
         Rule::X07 => numbers_are_small(block),
-        Rule::L01 => inner_hash_is_right(block),
+        Rule::L01 => inner_hash_is_right(block, inner),
         Rule::L02 => first_times_are_equal(block),
         Rule::L03 => certifications_are_of_earlier_blocks(block),
         Rule::L04 => first_stamps_are_empty(block),

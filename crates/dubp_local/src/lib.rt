@@ -16,4 +16,6 @@ mod signatures;
 mod transactions;
 mod unlocks;
 
-pub use check::{Asked, Checked, check_local, check_local_hashed, check_unsigned};
+pub use check::{
+    Asked, Checked, check_local, check_local_hashed, check_local_read, check_unsigned,
+};

@@ -1,7 +1,7 @@
 //! Rules on hashes and signatures. No text is made to be hashed, but for the two lines that the issuer of a block signs.
 ghost use Rattle.std.specs.Prelude.{◌≡◌, ◌↔◌, ◌++◌, IsTrue, true};
 ghost use Rattle.dubp_atoms.specs.Hashing.{hash_of};
-ghost use Rattle.dubp_block.specs.Text.{IsBlock, signed_text};
+ghost use Rattle.dubp_block.specs.Text.{inner_text, signed_text};
 ghost use Rattle.dubp_validity.specs.LocalRules.{InnerHashIsRight, BlockIsSigned, IdentitiesAreSigned, MembershipsAreSigned, AreSigned, TransactionsAreSigned};
 ghost use Rattle.dubp_local.specs.Local.{all_hashes};
 ghost use Rattle.dubp_local.specs.Directions.{comes_in};
@@ -9,17 +9,17 @@ ghost use Rattle.dubp_local.specs.Parts.{IsSignedIdentity, IsSignedMembership, I
 
 use arrayvec::ArrayVec;
 use dubp_atoms::{Currency, Hash, Line, put_bytes, put_number};
-use dubp_block::{Block, IdentityLine, MemberLine, inner_hash_of};
+use dubp_block::{Block, IdentityLine, MemberLine};
 use dubp_cond::Tx;
 use dubp_docs::{TxHashes, identity_hash, membership_hash};
 use dubp_verdict::Verdicts;
 
-/// InnerHash is the hash of the text above its line: rule `L01`.
-pub(crate) fn inner_hash_is_right(block: &Block) -> bool
-    requires { IsBlock block.now }
+/// InnerHash is the hash of the text above its line, which is at hand: rule `L01`.
+pub(crate) fn inner_hash_is_right(block: &Block, inner: &Hash) -> bool
+    requires { inner.now ≡ hash_of (inner_text block.now) }
     ensures { IsTrue result ↔ InnerHashIsRight block.now }
 {
-    block.inner_hash == inner_hash_of(block)
+    block.inner_hash == *inner
 }
 
 /// The signature of the block has a verdict by Issuer: rule `L05`.

@@ -16,6 +16,6 @@ mod money;
 mod rows;
 
 pub use dubp_docs::TxHashes;
-pub use dubp_kept::{Held, Kept, LeftBehind, check_local};
+pub use dubp_kept::{Held, Kept, LeftBehind, check_local_read};
 pub use dubp_validity::Record;
 pub use rows::put_records;

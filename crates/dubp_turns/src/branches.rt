@@ -3,7 +3,8 @@ ghost use Rattle.std.specs.List.{list_any};
 ghost use Rattle.dubp_atoms.specs.Spelling.{IsNumber};
 ghost use Rattle.dubp_turns.specs.BranchActs.{BranchesActs};
 ghost use Rattle.dubp_replay.specs.AnswerBytes.{answer_bytes};
-ghost use Rattle.dubp_block.specs.Text.{IsBlock, block_text, stamp_of as block_stamp};
+ghost use Rattle.dubp_atoms.specs.Hashing.{hash_of};
+ghost use Rattle.dubp_block.specs.Text.{IsBlock, block_text, inner_text, stamp_of as block_stamp};
 ghost use Rattle.dubp_block.specs.declared.block.Block.{Block as BlockValue};
 ghost use Rattle.dubp_validity.specs.Rules.{IsSound, IsValid, longest_block};
 ghost use Rattle.dubp_verdict.specs.Verdicts.{verdict_of, with_verdict};
@@ -21,7 +22,7 @@ use crate::stating::{
 };
 use dubp_atoms::{Hash, Key, Line, NoMemory, Secret, Sig, Stamp, Steps};
 use dubp_block::laws::blocks_have_one_text;
-use dubp_block::{Block, ReadRefusal, read_block};
+use dubp_block::{Block, HashedBlock, ReadRefusal, inner_hash_of, read_hashed_block};
 use dubp_forks::{
     Ledger, OfferRefusal, PeopleAndMoney, Store, SubmitRefusal, SwitchRefusal, TooDeep,
 };
@@ -203,20 +204,22 @@ impl<T: PeopleAndMoney> Branches<T> {
         if frame.len() > LONGEST_BLOCK {
             return refused(b"X01");
         }
-        match read_block(self.alloc, frame) {
-            Ok(block) => self.submit(block, steps),
+        match read_hashed_block(self.alloc, frame) {
+            Ok(read) => self.submit(read, steps),
             Err(ReadRefusal::NotABlock { line }) => unread(line),
             Err(ReadRefusal::NoMemory) => no_memory(),
         }
     }
 
     // The block joins the chain and leaves the store, or the first rule that it breaks is named.
-    fn submit<L: StepBook>(&mut self, block: Block, steps: &mut Steps<L>) -> Answer
-        requires text { IsBlock block }
-        requires short { length (block_text block) ≤ longest_block }
-        ensures { Decided self.old block (answer_bytes result) self.new }
+    fn submit<L: StepBook>(&mut self, read: HashedBlock, steps: &mut Steps<L>) -> Answer
+        requires text { IsBlock read.block }
+        requires short { length (block_text read.block) ≤ longest_block }
+        requires inner { read.inner ≡ hash_of (inner_text read.block) }
+        ensures { Decided self.old read.block (answer_bytes result) self.new }
     {
-        match self.decide(block, steps) {
+        let HashedBlock { block, inner } = read;
+        match self.decide(block, &inner, steps) {
             Ok(stamp) => accepted(&stamp),
             Err(refusal) => refusal_answer(refusal),
         }
@@ -226,14 +229,16 @@ impl<T: PeopleAndMoney> Branches<T> {
     fn decide<L: StepBook>(
         &mut self,
         block: Block,
+        inner: &Hash,
         steps: &mut Steps<L>,
     ) -> Result<Stamp, SubmitRefusal>
         requires text { IsBlock block }
         requires short { length (block_text block) ≤ longest_block }
+        requires inner { inner.now ≡ hash_of (inner_text block) }
         ensures { IsDecided self.old block result self.new }
     {
         blocks_have_one_text();
-        match self.ledger.submit(block, &self.verdicts, steps) {
+        match self.ledger.submit_read(block, inner, &self.verdicts, steps) {
             Ok(stamp) => {
                 let of_block = Stamp {
                     number: stamp.number,
@@ -258,7 +263,8 @@ impl<T: PeopleAndMoney> Branches<T> {
         ensures refused { OnErr result (self.new ≡ self.old) }
     {
         blocks_have_one_text();
-        match self.decide(block, steps) {
+        let inner = inner_hash_of(&block);
+        match self.decide(block, &inner, steps) {
             Ok(_) => Ok(()),
             Err(SubmitRefusal::Refused { .. }) => Ok(()),
             Err(SubmitRefusal::NoMemory { .. }) => Err(NoMemory),

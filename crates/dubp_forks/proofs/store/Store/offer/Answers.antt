@@ -6,7 +6,7 @@ use Rattle.dubp_forks.proofs.store.Store.offer.Goals as goal
 
 pub returns-in-Ok-clause-offered : goal.returns-in-Ok-clause-offered
 returns-in-Ok-clause-offered g c =
-    offered (state_of c.args.verdicts.now c.args.ledger.now c.args.self.now) c.args.bytes.now c.in-Ok.block (record { is = c.in-Ok.ensures.found.0; text = c.in-Ok.ensures.found.1 })
+    offered (state_of c.args.verdicts.now c.args.ledger.now c.args.self.now) c.args.bytes.now c.in-Ok.read.block (record { is = c.in-Ok.ensures.found.0; text = c.in-Ok.ensures.found.1 })
     (λ d t. c.in-Ok.ensures.only d t.is t.text) c.requires.short c.check.result c.check.new.self c.check.ensures.checked
 
 pub returns-in-Err-NotABlock-clause-offered : goal.returns-in-Err-NotABlock-clause-offered

@@ -5,8 +5,8 @@ use Rattle.dubp_rows.specs.OfKept.{IsKnown}
 use Rattle.dubp_ledger.proofs.Difficulties.{before_the_rest, may_count, no_params_here, params_here}
 use Rattle.dubp_ledger.proofs.ledger.Ledger.first_local.Goals as goal
 
-pub check_local-requires-clause-params : goal.check_local-requires-clause-params
-check_local-requires-clause-params g c =
+pub check_local_read-requires-clause-params : goal.check_local_read-requires-clause-params
+check_local_read-requires-clause-params g c =
     (may_count c.args.self.now.chain c.heads.result.now c.in-Some.first (subst (λ s. IsKnown s.chain c.heads.result.now) c.self.view_is c.heads.ensures) (c.in-Some.ensures c.args.self.now.chain c.people.ensures.at)).valid
 
 pub returns-in_ok-found-in-Some : goal.returns-in_ok-found-in-Some

@@ -5,7 +5,7 @@ use Rattle.dubp_turns.proofs.branches.Branches.act_short_block.Goals as goal
 
 pub returns-in-Ok : goal.returns-in-Ok
 returns-in-Ok g c = λ short.
-    decided_raw _ _ c.args.frame.now _ c.in-Ok.block (record { is = c.in-Ok.ensures.found.0; text = c.in-Ok.ensures.found.1 }) (λ d t. c.in-Ok.ensures.only d t.is t.text) short c.submit.ensures
+    decided_raw _ _ c.args.frame.now _ c.in-Ok.read.block (record { is = c.in-Ok.ensures.found.0; text = c.in-Ok.ensures.found.1 }) (λ d t. c.in-Ok.ensures.only d t.is t.text) short c.submit.ensures
 
 pub returns-in-Err-NotABlock : goal.returns-in-Err-NotABlock
 returns-in-Err-NotABlock g c = λ short.

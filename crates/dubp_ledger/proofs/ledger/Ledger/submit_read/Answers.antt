@@ -1,7 +1,7 @@
 use Rattle.std.proofs.Common.{refl}
 use Rattle.dubp_people_and_money.specs.OfKept.{Breaks, Keeps}
 use Rattle.dubp_ledger.proofs.Found.{found_here}
-use Rattle.dubp_ledger.proofs.ledger.Ledger.submit.Goals as goal
+use Rattle.dubp_ledger.proofs.ledger.Ledger.submit_read.Goals as goal
 
 pub join-requires-clause-keeps : goal.join-requires-clause-keeps
 join-requires-clause-keeps g c =
