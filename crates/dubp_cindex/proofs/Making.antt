@@ -51,14 +51,6 @@ module _ (rows : Rows) (from to : Text) (row : CertRow) where
       ∙ ap (λ r. one_if (lives r)) (sym (get-insert pair_total rows (from, to) row (x, y)))
 
   module _ (pair : Change (Unit {0})) (is : changed pair (one_if (lives (map.get rows (from, to)))) ≡ one_if row.live) where
-    issued_second : (m n : List (Place × Unit {0})) → ((k : Place) → get place_cmp m k ≡ one_if (lives (row_at rows k.0 k.1))) → Makes place_cmp m n (from, Some to) pair → (x : Text) (second : Option Text) → get place_cmp n (x, second) ≡ one_if (lives (row_at (insert rows (from, to) row) x second))
-    issued_second m n at makes x None = makes (x, None) ∙ apart (is_eq (ordering_then (text_cmp x from) Less)) (changed pair (get place_cmp m (from, Some to))) (get place_cmp m (x, None)) (none_apart (text_cmp x from)) ∙ at (x, None)
-    issued_second m n at makes x (Some y) =
-        makes (x, Some y) ∙ (λ i. cond (is_eq (pair_cmp (x, y) (from, to))) ((ap (changed pair) (at (from, Some to)) ∙ is) i) (at (x, Some y) i)) ∙ lives_put x y
-
-    pub issued_by_put : (m n : List (Place × Unit {0})) → ((k : Place) → get place_cmp m k ≡ one_if (lives (row_at rows k.0 k.1))) → Makes place_cmp m n (from, Some to) pair → (k : Place) → get place_cmp n k ≡ one_if (lives (row_at (insert rows (from, to) row) k.0 k.1))
-    issued_by_put m n at makes k = issued_second m n at makes k.0 k.1
-
     received_second : (m n : List (Place × Unit {0})) → ((k : Place) → get place_cmp m k ≡ received_by_at rows k.0 k.1) → Makes place_cmp m n (to, Some from) pair → (x : Text) (second : Option Text) → get place_cmp n (x, second) ≡ received_by_at (insert rows (from, to) row) x second
     received_second m n at makes x None = makes (x, None) ∙ apart (is_eq (ordering_then (text_cmp x to) Less)) (changed pair (get place_cmp m (to, Some from))) (get place_cmp m (x, None)) (none_apart (text_cmp x to)) ∙ at (x, None)
     received_second m n at makes x (Some y) =

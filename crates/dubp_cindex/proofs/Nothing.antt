@@ -8,7 +8,7 @@ use Rattle.std.specs.declared.cmp.Ordering.{Ordering}
 use Rattle.dubp_undo.specs.Definition.{IsAt}
 use Rattle.dubp_cindex.specs.declared.row.CertRow.{CertRow}
 use Rattle.dubp_cindex.specs.Orders.{pair_cmp, Place}
-use Rattle.dubp_cindex.specs.Rows.{Entry, live_to, is_from, lives, one_if, number_if, stock_in, written_in, rows_along, received_by_along, received_along, issued_by_along, issuers_along}
+use Rattle.dubp_cindex.specs.Rows.{Entry, live_to, is_from, lives, one_if, number_if, stock_in, written_in, rows_along, received_by_along, received_along, issuers_along}
 
 no_length : {A : Type 0} (es : List A) → length es ≡ 0 → es ≡ []
 no_length [] e = refl
@@ -23,9 +23,6 @@ rows_second from (Some to) = get-empty pair_cmp (from, to)
 
 pub rows_nothing : (k : Place) → rows_along [] k ≡ None
 rows_nothing k = rows_second k.0 k.1
-
-pub issued_by_nothing : (k : Place) → issued_by_along [] k ≡ None
-issued_by_nothing k = ap (λ r. one_if (lives r)) (rows_nothing k)
 
 received_by_second : (to : Text) (second : Option Text) → received_by_along [] (to, second) ≡ None
 received_by_second to None = refl

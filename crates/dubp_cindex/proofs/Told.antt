@@ -12,13 +12,17 @@ use Rattle.dubp_undo.specs.MovingTable.{get}
 use Rattle.dubp_cindex.specs.declared.row.CertRow.{CertRow}
 use Rattle.dubp_cindex.specs.Orders.{Place, place_cmp, is_above, IsNext, IsNextIssuer, AreNext}
 use Rattle.dubp_cindex.specs.Following.{Follows}
-use Rattle.dubp_cindex.specs.Rows.{Rows, Entry, live_to, live_from, lives, one_if, row_at, received_by_at, live_pairs}
+use Rattle.dubp_cindex.specs.Rows.{Rows, Entry, live_to, live_from, lives, one_if, row_at, received_by_at, live_pairs, told}
 use Rattle.dubp_cindex.proofs.Texts.{same_text_is, same_text_own}
-use Rattle.dubp_cindex.proofs.Walked.{IsIn, up_to, up_to-none, walk-next, walk-end}
+use Rattle.dubp_cindex.proofs.Walked.{IsIn, up_to, up_to-none, up_to-next, up_to-same, up_to-all, apart_above, walk-next, walk-end}
 use Rattle.dubp_cindex.proofs.Entries.{got_in, in_got, first_true, second_true, both_true, to_climbs, from_climbs}
 
 lives_some : (o : Option CertRow) (r : CertRow) → o ≡ Some r → r.live ≡ true → lives o ≡ true
 lives_some o r e h = ap lives e ∙ h
+
+some_lives : (o : Option CertRow) → lives o ≡ true → is_some o ≡ true
+some_lives None h = h
+some_lives (Some r) h = refl
 
 module _ (rows : Rows) (key : Text) where
   abbrev received_up_to : Option Text → List Entry
@@ -48,20 +52,35 @@ module _ (rows : Rows) (key : Text) where
     received-end is after f =
         walk-end (live_to key) (λ (e : Entry). e.0.0) (entries rows) (λ a r. ((a, key), r)) (λ a. finite.get rows (a, key)) (λ a r. refl) to_shown to_shows (to_climbs key (entries rows) (entries_sorted rows)) m key (λ a. is (key, Some a)) after f
 
-    pub issued-next : ((k : Place) → get place_cmp m k ≡ one_if (lives (row_at rows k.0 k.1))) → (after : Option Text) (a : Text) → Follows m key after (Some (a, tt)) → (r : CertRow) × (finite.get rows (key, a) ≡ Some r) × (issued_up_to (Some a) ≡ issued_up_to after ++ ((key, a), r) ∷ [])
-    issued-next is after a f =
-        walk-next (live_from key) (λ (e : Entry). e.0.1) (entries rows) (λ a r. ((key, a), r)) (λ a. finite.get rows (key, a)) (λ a r. refl) from_shown from_shows (from_climbs key (entries rows) (entries_sorted rows)) m key (λ a. is (key, Some a)) after a f
+  -- the rows from the key, live or not, as their table has them
+  module _ (m : List (Place × CertRow)) (is : (k : Place) → get place_cmp m k ≡ row_at rows k.0 k.1) where
+    row_there : (a : Text) (r : CertRow) → get place_cmp m (key, Some a) ≡ Some r → finite.get rows (key, a) ≡ Some r
+    row_there a r h = sym (is (key, Some a)) ∙ h
 
-    pub issued-end : ((k : Place) → get place_cmp m k ≡ one_if (lives (row_at rows k.0 k.1))) → (after : Option Text) → Follows m key after None → issued_up_to after ≡ filter (live_from key) (entries rows)
-    issued-end is after f =
-        walk-end (live_from key) (λ (e : Entry). e.0.1) (entries rows) (λ a r. ((key, a), r)) (λ a. finite.get rows (key, a)) (λ a r. refl) from_shown from_shows (from_climbs key (entries rows) (entries_sorted rows)) m key (λ a. is (key, Some a)) after f
+    place_there : (x : Entry) → IsIn x (entries rows) → live_from key x ≡ true → is_some (get place_cmp m (key, Some x.0.1)) ≡ true
+    place_there x there p = ap is_some (is (key, Some x.0.1)) ∙ some_lives (finite.get rows (key, x.0.1)) (from_shows x there p)
+
+    issued-live : (after : Option Text) (a : Text) (r : CertRow) → Follows m key after (Some (a, r)) → r.live ≡ true → issued_up_to (Some a) ≡ issued_up_to after ++ ((key, a), r) ∷ []
+    issued-live after a r f l =
+        let there = from_shown a r (row_there a r f.0) l in
+        up_to-next (live_from key) (λ (e : Entry). e.0.1) after ((key, a), r) (entries rows) (from_climbs key (entries rows) (entries_sorted rows)) there.0 there.1 f.1
+        (λ x in_rows p above. f.2 x.0.1 above (place_there x in_rows p))
+
+    issued-ended : (after : Option Text) (a : Text) (r : CertRow) → Follows m key after (Some (a, r)) → r.live ≡ false → issued_up_to (Some a) ≡ issued_up_to after
+    issued-ended after a r f l =
+        up_to-same (live_from key) (λ (e : Entry). e.0.1) after a (entries rows) f.1
+        (λ x in_rows p above. apart_above a x.0.1 (λ same. true≢false (sym (from_shows x in_rows p) ∙ ap (λ q. lives (finite.get rows (key, q))) same ∙ ap lives (row_there a r f.0) ∙ l)) (f.2 x.0.1 above (place_there x in_rows p)))
+
+    pub issued-end : (after : Option Text) → Follows m key after None → issued_up_to after ≡ filter (live_from key) (entries rows)
+    issued-end after f =
+        up_to-all (live_from key) (λ (e : Entry). e.0.1) after (entries rows) (λ x in_rows p. elim (is_above after x.0.1) as (λ t. is_above after x.0.1 ≡ t → t ≡ false) [
+          | true ↦ λ h. absurd (true≢false (sym (place_there x in_rows p) ∙ ap is_some (f x.0.1 h)))
+          | false ↦ λ h. refl
+        ] refl)
 
   -- the row in its table
   pub received-row : (n : List (Place × CertRow)) → ((k : Place) → get place_cmp n k ≡ row_at rows k.0 k.1) → (a : Text) (r : CertRow) → finite.get rows (a, key) ≡ Some r → get place_cmp n (a, Some key) ≡ Some r
   received-row n is a r h = is (a, Some key) ∙ h
-
-  pub issued-row : (n : List (Place × CertRow)) → ((k : Place) → get place_cmp n k ≡ row_at rows k.0 k.1) → (a : Text) (r : CertRow) → finite.get rows (key, a) ≡ Some r → get place_cmp n (key, Some a) ≡ Some r
-  issued-row n is a r h = is (key, Some a) ∙ h
 
   pub received-none : received_up_to None ≡ []
   received-none = up_to-none (live_to key) (λ (e : Entry). e.0.0) (entries rows)
@@ -80,6 +99,16 @@ module _ {A : Type 0} (f : Entry → A) where
 
   pub told-all : (items now : List A) (xs ys : List Entry) → now ≡ items ++ map f xs → xs ≡ ys → now ≡ items ++ map f ys
   told-all items now xs ys is e = is ∙ ap (λ l. items ++ map f l) e
+
+-- what is found where the next row of the key is passed, live or not
+module _ (rows : Rows) (key : Text) (m : List (Place × CertRow)) (is : (k : Place) → get place_cmp m k ≡ row_at rows k.0 k.1) where
+  pub issued-more : (after : Option Text) (a : Text) (r : CertRow) (items now next : List (Text × Text × CertRow)) → Follows m key after (Some (a, r))
+      → (r.live ≡ true → next ≡ now ++ (key, a, r) ∷ []) → (r.live ≡ false → next ≡ now) → now ≡ items ++ map told (issued_up_to rows key after) → next ≡ items ++ map told (issued_up_to rows key (Some a))
+  issued-more after a r items now next f live ended before =
+      elim (r.live) as (λ b. r.live ≡ b → next ≡ items ++ map told (issued_up_to rows key (Some a))) [
+        | true ↦ λ l. told-more told items now next (issued_up_to rows key after) (issued_up_to rows key (Some a)) ((key, a), r) before (live l) (issued-live rows key m is after a r f l)
+        | false ↦ λ l. ended l ∙ before ∙ ap (λ es. items ++ map told es) (sym (issued-ended rows key m is after a r f l))
+      ] refl
 
 -- ---- the live pairs
 

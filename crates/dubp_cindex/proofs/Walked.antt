@@ -4,7 +4,7 @@ use Rattle.std.specs.Prelude.{is_some, ⊤, ◌⊎◌}
 use Rattle.std.specs.Cmp.Lexicographic.{nat_list_cmp_total}
 use Rattle.std.specs.List.{AllByRecursion}
 use Rattle.std.specs.Ordering.{is_lt, ordering_reverse}
-use Rattle.std.specs.declared.cmp.Ordering.TheVariants.{Less}
+use Rattle.std.specs.declared.cmp.Ordering.TheVariants.{Less, Equal, Greater}
 use Rattle.std.proofs.lemmas.Option.{none-some}
 use Rattle.dubp_atoms.specs.Same.{Text}
 use Rattle.dubp_undo.specs.MovingTable.{get}
@@ -12,7 +12,7 @@ use Rattle.dubp_cindex.specs.declared.row.CertRow.{CertRow}
 use Rattle.dubp_cindex.specs.Orders.{text_cmp, Place, place_cmp, less, is_above}
 use Rattle.dubp_cindex.specs.Following.{Follows}
 use Rattle.dubp_cindex.specs.Rows.{Entry, lives, one_if}
-use Rattle.dubp_cindex.proofs.Texts.{is_less, text_itself}
+use Rattle.dubp_cindex.proofs.Texts.{is_less, text_exact, text_itself}
 
 abbrev pub IsIn : {X : Type 0} → X → List X → Type 0
 IsIn x [] = ⊥
@@ -33,6 +33,23 @@ not_itself k = ap is_lt (text_itself k)
 
 not_back : (k a : Text) → text_cmp k a ≡ Less → less a k ≡ false
 not_back k a h = ap is_lt (nat_list_cmp_total.antisymm a k) ∙ ap (λ r. is_lt (ordering_reverse r)) h
+
+-- a key that is neither this one nor before it stands behind it
+pub apart_above : (k a : Text) → (a ≡ k → ⊥) → less a k ≡ false → is_above (Some k) a ≡ true
+apart_above k a apart not_less =
+    elim (text_cmp k a) as (λ o. text_cmp k a ≡ o → is_lt o ≡ true) [
+      | Less ↦ λ _. refl
+      | Equal ↦ λ e. absurd (apart (sym (text_exact k a e)))
+      | Greater ↦ λ e. absurd (true≢false (sym (ap is_lt (nat_list_cmp_total.antisymm a k) ∙ ap (λ r. is_lt (ordering_reverse r)) e) ∙ not_less))
+    ] refl
+
+-- what is not above `after` is not above a key that is
+not_above_more : (after : Option Text) (k a : Text) → is_above after k ≡ true → is_above after a ≡ false → is_above (Some k) a ≡ false
+not_above_more after k a above not_above =
+    elim (is_above (Some k) a) as (λ t. is_above (Some k) a ≡ t → t ≡ false) [
+      | true ↦ λ h. absurd (true≢false (sym (above_more after k a above (is_less _ h)) ∙ not_above))
+      | false ↦ λ h. refl
+    ] refl
 
 module _ (P : Entry → Bool) (pos : Entry → Text) where
   -- those that pass rise strictly
@@ -87,6 +104,21 @@ module _ (P : Entry → Bool) (pos : Entry → Text) where
             ap (λ t. cond (not t) (x ∷ up_to (Some (pos e)) es) (up_to (Some (pos e)) es)) behind
             ∙ ap (λ l. x ∷ l) rest
             ∙ sym (ap (λ t. cond (not t) (x ∷ up_to after es) (up_to after es) ++ e ∷ []) passed)
+        | false ↦ λ q. rest
+      ] refl
+
+  -- no entry that passes stands at the key, nor between `after` and it
+  pub up_to-same : (after : Option Text) (k : Text) (es : List Entry) → is_above after k ≡ true
+      → ((x : Entry) → IsIn x es → P x ≡ true → is_above after (pos x) ≡ true → is_above (Some k) (pos x) ≡ true) → up_to (Some k) es ≡ up_to after es
+  up_to-same after k [] above more = refl
+  up_to-same after k (e ∷ es) above more =
+      let rest = up_to-same after k es above (λ x there. more x (inr there)) in
+      elim (P e) as (λ b. P e ≡ b → cond (b && not (is_above (Some k) (pos e))) (e ∷ up_to (Some k) es) (up_to (Some k) es) ≡ cond (b && not (is_above after (pos e))) (e ∷ up_to after es) (up_to after es)) [
+        | true ↦ λ q.
+            elim (is_above after (pos e)) as (λ t. is_above after (pos e) ≡ t → cond (not (is_above (Some k) (pos e))) (e ∷ up_to (Some k) es) (up_to (Some k) es) ≡ cond (not t) (e ∷ up_to after es) (up_to after es)) [
+              | true ↦ λ h. ap (λ t. cond (not t) (e ∷ up_to (Some k) es) (up_to (Some k) es)) (more e (inl refl) q h) ∙ rest
+              | false ↦ λ h. ap (λ t. cond (not t) (e ∷ up_to (Some k) es) (up_to (Some k) es)) (not_above_more after k (pos e) above h) ∙ ap (λ l. e ∷ l) rest
+            ] refl
         | false ↦ λ q. rest
       ] refl
 

@@ -34,4 +34,4 @@ counted (Becomes (Some live)) n = n + 1
 
 -- how many keys are set in all, the row included
 abbrev pub sets_in : {V : Type 0} → Change (Unit {0}) → Change ℕ → Change V → ℕ
-sets_in pair received issuer = 1 + ((sets_of pair + sets_of received) + (sets_of pair + sets_of issuer))
+sets_in pair received issuer = 1 + ((sets_of pair + sets_of received) + sets_of issuer)

@@ -85,10 +85,6 @@ received_by_at rows to (Some from) = one_if (lives (get rows (from, to)))
 abbrev pub received_by_along : List Rows → Place → Option (Unit {0})
 received_by_along states k = received_by_at (newest empty states) k.0 k.1
 
--- the live pairs, the issuer first
-abbrev pub issued_by_along : List Rows → Place → Option (Unit {0})
-issued_by_along states k = one_if (lives (row_at (newest empty states) k.0 k.1))
-
 -- a count, where it is not 0
 abbrev pub number_if : ℕ → Option ℕ
 number_if n = cond (n == 0) None (Some n)

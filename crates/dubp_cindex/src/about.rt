@@ -1,4 +1,4 @@
-ghost use Rattle.std.specs.Prelude.{◌≡◌, List, [], ◌∷◌, ◌++◌, None, Some, OnOk, OnErr, IfOk, map, filter};
+ghost use Rattle.std.specs.Prelude.{◌≡◌, true, false, List, [], ◌∷◌, ◌++◌, None, Some, OnOk, OnErr, IfOk, map, filter};
 ghost use Rattle.std.specs.FinMap as finite;
 ghost use Rattle.dubp_atoms.specs.Same.{Text};
 ghost use Rattle.dubp_undo.specs.MovingTable.{get};
@@ -67,14 +67,9 @@ impl CIndex {
     fn put_issued(&self, found: &mut Vec<(Key, Key, CertRow)>, key: &Key) -> Result<(), NoMemory>
         ensures { OnOk result ((s : List Rows) → ⟦<CIndex as Tables<CertRows>>⟧.at self.now s → found.new.items ≡ found.old.items ++ map told (filter (live_from key.now) (finite.entries (newest finite.empty s)))) }
     {
-        let mut walk = self
-            .tables
-            .third
-            .tables
-            .first
-            .walk_from(Bound::Excluded((*key, None)));
-        while let Some((to, ())) = next_in(&mut walk, key) {
-            self.put_told(found, key, &to)?;
+        let mut walk = self.tables.first.walk_from(Bound::Excluded((*key, None)));
+        while let Some((to, row)) = next_in(&mut walk, key) {
+            put_live(found, key, &to, row)?;
         }
         Ok(())
     }
@@ -92,6 +87,23 @@ impl CIndex {
             Some(row) => found.push((*from, *to, row)).map_err(|_| NoMemory),
             None => Ok(()),
         }
+    }
+}
+
+// Appends the row of the pair, where it lives.
+fn put_live(
+    found: &mut Vec<(Key, Key, CertRow)>,
+    from: &Key,
+    to: &Key,
+    row: CertRow,
+) -> Result<(), NoMemory>
+    ensures live { OnOk result (row.live ≡ true → found.new.items ≡ found.old.items ++ (from.now, to.now, row) ∷ []) }
+    ensures ended { OnOk result (row.live ≡ false → found.new.items ≡ found.old.items) }
+{
+    if row.live {
+        found.push((*from, *to, row)).map_err(|_| NoMemory)
+    } else {
+        Ok(())
     }
 }
 

@@ -6,11 +6,11 @@ ghost use Rattle.dubp_cindex.specs.Orders.{IsNextIssuer};
 ghost use Rattle.dubp_cindex.specs.Rows.{Rows, issuer_in, received_in, live_pairs};
 
 use crate::row::{CertRow, CertRows, IssuerRow};
-use crate::sides::{no_issued, no_received};
+use crate::sides::no_received;
 use crate::tables::CertTables;
 use crate::walking::next_of;
 use dubp_atoms::{Key, NoMemory, Secret, Steps};
-use dubp_undo::{Leaf, Tables, Three};
+use dubp_undo::{ByHash, Found, Leaf, NoSummary, Tables, Three};
 use std::alloc::Global;
 use std::sync::ledger::Ledger as StepBook;
 
@@ -44,7 +44,7 @@ impl CIndex {
             tables: Three::new(
                 Leaf::new(alloc),
                 no_received(alloc, secret),
-                no_issued(alloc, secret),
+                Found::over(ByHash::new(alloc, secret), NoSummary, alloc),
             ),
         }
     }
@@ -60,7 +60,7 @@ impl CIndex {
     pub fn issuer(&self, from: Key) -> Option<IssuerRow>
         ensures { (s : List Rows) → ⟦<CIndex as Tables<CertRows>>⟧.at self.now s → result ≡ issuer_in (newest map.empty s) from }
     {
-        self.tables.third.tables.second.get(from)
+        self.tables.third.get(from)
     }
 
     /// How many live certifications the key has received.

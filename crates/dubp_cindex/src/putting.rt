@@ -10,7 +10,7 @@ ghost use Rattle.dubp_cindex.specs.declared.changing.Change.TheVariants.{Stays};
 ghost use Rattle.dubp_cindex.specs.Putting.{AreChanges, IsGreatestBesides};
 ghost use Rattle.dubp_cindex.specs.Rows.{Rows, row_at, lives, one_if, number_if, issuer_in, stock_in, written_in};
 
-use crate::changing::{Change, make, ready_for};
+use crate::changing::{Change, make_found, ready_found};
 use crate::index::CIndex;
 use crate::row::{CertRow, CertRows, IssuerRow};
 use crate::tables::{Written, make_side, ready_side};
@@ -170,7 +170,7 @@ fn written_after(
 impl CIndex {
     /// Puts the row of the pair, and changes all that is counted in the rows.
     ///
-    /// At most five keys are set: the row, and where the certification begins or ends the pair of both directions and the count of
+    /// At most five keys are set: the row, and where the certification begins or ends the pair under its receiver and the count of
     /// the receiver, and what the key has issued where that changes. The block in which a key last wrote is told without a walk
     /// where the row's block is not below it, or where the row that is replaced was not of that block.
     ///
@@ -243,7 +243,7 @@ impl CIndex {
         ensures others { ⟦<CIndex as Tables<CertRows>>⟧.others self.new ≡ ⟦<CIndex as Tables<CertRows>>⟧.others self.old }
         ensures ready { OnOk result (IsPlaced place_cmp (from.now, Some to.now) self.new.tables.first.table.placed × (1 ≤ self.new.tables.first.table.room)) }
         ensures ready_received { OnOk result (IsReady place_cmp self.new.tables.second.tables.first.table (to.now, Some from.now) changes.now.pair × IsReady text_cmp self.new.tables.second.tables.second.table to.now changes.now.received) }
-        ensures ready_issued { OnOk result (IsReady place_cmp self.new.tables.third.tables.first.table (from.now, Some to.now) changes.now.pair × IsReady text_cmp self.new.tables.third.tables.second.table from.now changes.now.issuer) }
+        ensures ready_issued { OnOk result (IsReady text_cmp self.new.tables.third.table from.now changes.now.issuer) }
     {
         self.tables.first.ready((*from, Some(*to)), 1)?;
         ready_side(
@@ -253,13 +253,7 @@ impl CIndex {
             to,
             &changes.received,
         )?;
-        ready_side(
-            &mut self.tables.third.tables,
-            &(*from, Some(*to)),
-            &changes.pair,
-            from,
-            &changes.issuer,
-        )?;
+        ready_found(&mut self.tables.third, *from, &changes.issuer)?;
         Ok(())
     }
 
@@ -279,11 +273,10 @@ impl CIndex {
 
         ensures succeeds { IsPlaced place_cmp (from.now, Some to.now) self.old.tables.first.table.placed × (1 ≤ self.old.tables.first.table.room)
             → IsReady place_cmp self.old.tables.second.tables.first.table (to.now, Some from.now) changes.now.pair × IsReady text_cmp self.old.tables.second.tables.second.table to.now changes.now.received
-            → IsReady place_cmp self.old.tables.third.tables.first.table (from.now, Some to.now) changes.now.pair × IsReady text_cmp self.old.tables.third.tables.second.table from.now changes.now.issuer
+            → IsReady text_cmp self.old.tables.third.table from.now changes.now.issuer
             → IsOk result }
     {
         let received_by = (*to, Some(*from));
-        let issued_by = (*from, Some(*to));
         self.tables
             .first
             .set((*from, Some(*to)), Some(changes.row), steps)?;
@@ -295,14 +288,7 @@ impl CIndex {
             &changes.received,
             steps,
         )?;
-        make_side(
-            &mut self.tables.third.tables,
-            &issued_by,
-            &changes.pair,
-            from,
-            &changes.issuer,
-            steps,
-        )?;
+        make_found(&mut self.tables.third, *from, &changes.issuer, steps)?;
         Ok(())
     }
 }

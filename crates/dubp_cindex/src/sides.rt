@@ -1,8 +1,8 @@
 ghost use Rattle.std.specs.Prelude.{◌≡◌, List, []};
 ghost use Rattle.dubp_cindex.specs.Rows.{Rows};
 
-use crate::row::{CertRows, IssuerRow};
-use crate::tables::{IssuedBy, Issuers, Received, ReceivedBy, Side};
+use crate::row::CertRows;
+use crate::tables::{Received, ReceivedBy, Side};
 use dubp_atoms::{NoMemory, Secret, Steps};
 use dubp_undo::{Both, ByHash, Found, Leaf, NoSummary, Tables};
 use std::alloc::Global;
@@ -78,76 +78,6 @@ impl Tables<CertRows> for ReceivedTables {
     ghost at_is = { λ t c is. is };
 }
 
-type IssuedSide = Side<IssuerRow, IssuedBy, Issuers>;
-
-/// Whom each key certifies, and what it has issued.
-#[derive(Drop)]
-pub struct IssuedTables {
-    pub tables: IssuedSide,
-}
-
-impl Tables<CertRows> for IssuedTables {
-    ghost Now = { ⟦<IssuedSide as Tables<CertRows>>⟧.Now };
-
-    ghost Names = { ⟦<IssuedSide as Tables<CertRows>>⟧.Names };
-
-    ghost now = { λ t. ⟦<IssuedSide as Tables<CertRows>>⟧.now t.tables };
-
-    ghost count = { λ t. ⟦<IssuedSide as Tables<CertRows>>⟧.count t.tables };
-
-    ghost others = { λ t. ⟦<IssuedSide as Tables<CertRows>>⟧.others t.tables };
-
-    ghost spare = { λ t. ⟦<IssuedSide as Tables<CertRows>>⟧.spare t.tables };
-
-    ghost names = { λ t. ⟦<IssuedSide as Tables<CertRows>>⟧.names t.tables };
-
-    ghost is = { ⟦<IssuedSide as Tables<CertRows>>⟧.is };
-
-    ghost at = { λ t c. ⟦<IssuedSide as Tables<CertRows>>⟧.at t.tables c };
-
-    fn depth(&self) -> usize {
-        self.tables.depth()
-    }
-
-    fn mark(&mut self) -> Result<(), NoMemory> {
-        self.tables.mark()?;
-        Ok(())
-    }
-
-    fn unmark(&mut self) {
-        self.tables.unmark();
-    }
-
-    fn reserve(&mut self, k: usize) -> Result<(), NoMemory> {
-        self.tables.reserve(k)?;
-        Ok(())
-    }
-
-    fn hold<L: StepBook>(&mut self, steps: &mut Steps<L>) {
-        self.tables.hold(steps);
-    }
-
-    fn back<L: StepBook>(&mut self, steps: &mut Steps<L>) {
-        self.tables.back(steps);
-    }
-
-    fn again<L: StepBook>(&mut self, steps: &mut Steps<L>) {
-        self.tables.again(steps);
-    }
-
-    fn drop_oldest(&mut self) {
-        self.tables.drop_oldest();
-    }
-
-    fn drop_ahead(&mut self) {
-        self.tables.drop_ahead();
-    }
-
-    ghost is_at = { λ t c is. is };
-
-    ghost at_is = { λ t c is. is };
-}
-
 /// Nothing is received. The secret is what the receivers are hashed by.
 pub fn no_received(alloc: Global, secret: Secret) -> ReceivedTables
     ensures at { ⟦<ReceivedTables as Tables<CertRows>>⟧.at result [] }
@@ -159,17 +89,4 @@ pub fn no_received(alloc: Global, secret: Secret) -> ReceivedTables
     let counted = Found::over(ByHash::new(alloc, secret), NoSummary, alloc);
     let tables = Both::new(pairs, counted);
     ReceivedTables { tables }
-}
-
-/// Nothing is issued. The secret is what the issuers are hashed by.
-pub fn no_issued(alloc: Global, secret: Secret) -> IssuedTables
-    ensures at { ⟦<IssuedTables as Tables<CertRows>>⟧.at result [] }
-    ensures count { ⟦<IssuedTables as Tables<CertRows>>⟧.count result ≡ 0 }
-    ensures kept { (⟦<IssuedTables as Tables<CertRows>>⟧.others result).kept ≡ [] }
-    ensures ahead { (⟦<IssuedTables as Tables<CertRows>>⟧.others result).ahead ≡ [] }
-{
-    let pairs = Leaf::new(alloc);
-    let counted = Found::over(ByHash::new(alloc, secret), NoSummary, alloc);
-    let tables = Both::new(pairs, counted);
-    IssuedTables { tables }
 }

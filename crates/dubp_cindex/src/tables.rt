@@ -1,11 +1,11 @@
 ghost use Rattle.std.specs.Prelude.{◌≡◌, ◌+◌, ◌≤◌, OnOk, IsOk};
 ghost use Rattle.dubp_cindex.specs.Changes.{Makes, IsReady, sets_of};
 ghost use Rattle.dubp_cindex.specs.Orders.{text_cmp, place_cmp};
-ghost use Rattle.dubp_cindex.specs.Rows.{rows_along, received_by_along, received_along, issued_by_along, issuers_along};
+ghost use Rattle.dubp_cindex.specs.Rows.{rows_along, received_by_along, received_along, issuers_along};
 
 use crate::changing::{Change, make, make_found, ready_for, ready_found};
 use crate::row::{CertRow, CertRows, IssuerRow};
-use crate::sides::{IssuedTables, ReceivedTables};
+use crate::sides::ReceivedTables;
 use crate::walking::Place;
 use dubp_atoms::{Key, NoMemory, Secret, Steps};
 use dubp_undo::{Both, ByHash, Definition, Found, Leaf, NoSummary, Tables, Three};
@@ -32,13 +32,6 @@ impl Definition<CertRows, Key, u64> for Received {
     ghost at = { received_along };
 }
 
-/// The live pairs, the issuer first.
-pub struct IssuedBy;
-
-impl Definition<CertRows, Place, ()> for IssuedBy {
-    ghost at = { issued_by_along };
-}
-
 /// What each key has issued.
 pub struct Issuers;
 
@@ -57,7 +50,7 @@ pub type CertTables = Three<
     CertRows,
     Leaf<CertRows, Place, CertRow, Written>,
     ReceivedTables,
-    IssuedTables,
+    Counted<IssuerRow, Issuers>,
 >;
 
 /// Makes both keys ready where their values change.

@@ -2,7 +2,7 @@ use Rattle.std.proofs.Common.{ap}
 use Rattle.std.specs.FinMap.{empty, insert}
 use Rattle.dubp_undo.specs.States.{newest}
 use Rattle.dubp_cindex.specs.Rows.{received_in, number_if, issuer_in}
-use Rattle.dubp_cindex.proofs.Making.{rows_put, received_by_put, issued_by_put, keyed_put}
+use Rattle.dubp_cindex.proofs.Making.{rows_put, received_by_put, keyed_put}
 use Rattle.dubp_cindex.proofs.Puts.{received-other, issuer-other}
 use Rattle.dubp_cindex.proofs.index.CIndex.make_all.Goals as goal
 
@@ -14,16 +14,13 @@ returns-clause-at g c = λ s t a are.
     let changes = c.args.changes.now in
     let old = c.args.self.now.tables in
     let received = c.make_side.new.side in
-    let issued = c.make_side-2.new.side in (
+    let issued = c.make_found.new.table in (
       rows_put rows from to changes.row old.first.table.now c.set.new.self.table.now a.0 c.in_ok-set.ensures.now,
       (
         received_by_put rows from to changes.row changes.pair are.pair_is old.second.tables.first.table.now received.first.table.now a.1.0 c.in_ok-make_side.ensures.first,
         keyed_put (λ k. number_if (received_in rows k)) (λ k. number_if (received_in (insert rows (from, to) changes.row) k)) to changes.received old.second.tables.second.table.now received.second.table.now a.1.1 c.in_ok-make_side.ensures.second are.received_is
             (λ k other. ap number_if (received-other rows from to changes.row k other)),
       ),
-      (
-        issued_by_put rows from to changes.row changes.pair are.pair_is old.third.tables.first.table.now issued.first.table.now a.2.0 c.in_ok-make_side-2.ensures.first,
-        keyed_put (issuer_in rows) (issuer_in (insert rows (from, to) changes.row)) from changes.issuer old.third.tables.second.table.now issued.second.table.now a.2.1 c.in_ok-make_side-2.ensures.second are.issuer_is
-            (λ k other. issuer-other rows from to changes.row k other),
-      ),
+      keyed_put (issuer_in rows) (issuer_in (insert rows (from, to) changes.row)) from changes.issuer old.third.table.now issued.table.now a.2 c.in_ok-make_found.ensures.now are.issuer_is
+          (λ k other. issuer-other rows from to changes.row k other),
     )
