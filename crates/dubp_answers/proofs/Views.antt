@@ -1,9 +1,8 @@
 -- The lines of sources by what is shown of them.
 use Rattle.std.proofs.Common.{◌≡◌, List, [], ◌∷◌, map, refl, ap}
 use Rattle.dubp_chain.specs.Money.{Source}
-use Rattle.dubp_answers.specs.MoneyViews.{view_of}
 use Rattle.dubp_replay.specs.Answers.{source_line}
-use Rattle.dubp_answers.specs.SourceLines.{view_line}
+use Rattle.dubp_answers.specs.SourceLines.{view_line, view_of}
 
 pub lines_shown : (sources : List Source) → map view_line (map view_of sources) ≡ map source_line sources
 lines_shown [] = refl

@@ -31,7 +31,7 @@ fn shown(alloc: Global, block: &Block) -> Result<Vec<u8>, NoMemory>
 }
 
 /// The text that says that there is nothing.
-pub(crate) fn none_text(alloc: Global) -> Result<Vec<u8>, NoMemory>
+pub fn none_text(alloc: Global) -> Result<Vec<u8>, NoMemory>
     ensures { IfOk result (λ text. text.items ≡ none_answer) }
 {
     let mut text = Vec::new(alloc);

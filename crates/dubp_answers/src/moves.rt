@@ -5,7 +5,7 @@ ghost use Rattle.dubp_cond.specs.Sources.{input_text};
 ghost use Rattle.dubp_replay.specs.Answers.{ended, kind_text, move_line, moved_input, spaced};
 ghost use Rattle.dubp_answers.specs.MoveLines.{move_lines};
 
-use crate::source_texts::put_source;
+use crate::source_lines::put_source;
 use crate::values::{add, put_spaced};
 use arrayvec::ArrayVec;
 use dubp_atoms::{Line, NoMemory, put_bytes, put_number};

@@ -6,7 +6,7 @@ ghost use Rattle.dubp_replay.specs.Answers.{none_answer, spaced};
 use dubp_atoms::{Line, NoMemory, put_bytes, put_number};
 
 /// A number behind a space. `line` has 41 free places.
-pub(crate) fn put_spaced(n: u128, line: &mut Line)
+pub fn put_spaced(n: u128, line: &mut Line)
     requires { array_vec_len line.old + 41 ≤ 2048 }
     ensures text { line.new.items ≡ line.old.items ++ spaced (decimal n) }
     ensures room { array_vec_len line.new ≤ array_vec_len line.old + 41 }
@@ -16,7 +16,7 @@ pub(crate) fn put_spaced(n: u128, line: &mut Line)
 }
 
 /// The line that says that there is nothing.
-pub(crate) fn put_none(line: &mut Line)
+pub fn put_none(line: &mut Line)
     requires { line.old.items ≡ [] }
     ensures { line.new.items ≡ none_answer }
 {
@@ -24,7 +24,7 @@ pub(crate) fn put_none(line: &mut Line)
 }
 
 /// Adds bytes to a text.
-pub(crate) fn add(text: &mut Vec<u8>, bytes: &[u8]) -> Result<(), NoMemory>
+pub fn add(text: &mut Vec<u8>, bytes: &[u8]) -> Result<(), NoMemory>
     ensures added { OnOk result (text.new.items ≡ text.old.items ++ bytes.now) }
     ensures refused { OnErr result (text.new.items ≡ text.old.items) }
 {

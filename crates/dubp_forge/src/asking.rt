@@ -53,7 +53,7 @@ impl<'a, T: PeopleAndMoney> Forge<'a, T> {
         ensures { result ≡ member self.now.chain key }
     {
         self.ledger.laws();
-        self.ledger.people().is_member(key)
+        self.ledger.tables().is_member(key)
     }
 
     /// A block of this issuer at this time, without lines. It takes no memory.

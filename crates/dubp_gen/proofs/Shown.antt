@@ -9,8 +9,7 @@ use Rattle.dubp_chain.specs.Chains.{Chain}
 use Rattle.dubp_chain.specs.Money.{Source, signed_by, sources_of}
 use Rattle.dubp_validity.specs.Rules.{IsSound}
 use Rattle.dubp_drafts.specs.Keys.{key_text}
-use Rattle.dubp_answers.specs.MoneyViews.{view_of}
-use Rattle.dubp_answers.specs.declared.money_views.SourceView.{SourceView}
+use Rattle.dubp_ledger.specs.OfAnswers.{SourceView, view_of}
 use Rattle.dubp_gen.specs.Generated.{first_source}
 use Rattle.dubp_gen.specs.Making.{input_of}
 use Rattle.dubp_gen.specs.Spendable.{IsWorth}

@@ -10,7 +10,7 @@ use Rattle.dubp_validity.specs.Rules.{FirstBroken, longest_block}
 use Rattle.dubp_drafts.specs.Sealing.{IsSealed}
 use Rattle.dubp_drafts.specs.declared.sealed.Sealed.{Sealed}
 use Rattle.dubp_cond.specs.declared.source.Input.{Input}
-use Rattle.dubp_answers.specs.declared.money_views.SourceView.{SourceView}
+use Rattle.dubp_ledger.specs.OfAnswers.{SourceView}
 use Rattle.dubp_gen.specs.Generated.{Made, IsToSeal, IssuerMay, number_at, with_given}
 
 -- the blocks and the verdicts of a chain that was made

@@ -83,7 +83,7 @@ fn draft_next<T: PeopleAndMoney>(
             Ok(drafted)
         }
         Some(stamp) => {
-            let source = first_source(ledger.money(), payer(x));
+            let source = first_source(ledger.tables(), payer(x));
             let drafted = draft(alloc, ledger.len() as u64, x, &stamp, source)?;
             Ok(drafted)
         }

@@ -11,22 +11,19 @@ ghost use Rattle.dubp_gen.specs.Making.{input_of};
 ghost use Rattle.dubp_gen.specs.Spendable.{IsWorth, place_in};
 
 use arrayvec::ArrayVec;
-use dubp_answers::SourceView;
 use dubp_atoms::Key;
-use dubp_block::Block;
 use dubp_cond::{CondText, Input, SourceId};
 use dubp_drafts::{KEYS, key_of};
-use dubp_ledger::Money;
-use dubp_undo::Tables;
+use dubp_ledger::{PeopleAndMoney, SourceView};
 
 /// The first unspent source of the account of the key of this number, in the order of making, where it has one. It takes no memory.
-pub(crate) fn first_source(money: &Money, person: u32) -> Option<Input>
+pub(crate) fn first_source<T: PeopleAndMoney>(tables: &T, person: u32) -> Option<Input>
     requires key { person < KEYS }
-    requires chain { (c : Chain) × (⟦<Money as Tables<Block>>⟧.at money.now c × IsSound c × AllByRecursion IsBlock c) }
-    ensures source { (c : Chain) → ⟦<Money as Tables<Block>>⟧.at money.now c → IsSound c → result ≡ first_source c person }
+    requires chain { (c : Chain) × (T.at tables.now c × IsSound c × AllByRecursion IsBlock c) }
+    ensures source { (c : Chain) → T.at tables.now c → IsSound c → result ≡ first_source c person }
     ensures valid { IsSpendable result }
 {
-    match dubp_answers::first_source(money, &account_of(&key_of(person))) {
+    match tables.first_source(&account_of(&key_of(person))) {
         None => None,
         Some(view) => Some(input_of(&view)),
     }

@@ -7,14 +7,14 @@ use Rattle.dubp_chain.specs.declared.head.Head.{Head}
 use Rattle.dubp_chain.specs.Chains.{Chain, params}
 use Rattle.dubp_chain.specs.Heads.{difficulty, difficulty_of}
 use Rattle.dubp_chain.specs.Members.{member}
-use Rattle.dubp_people_views.specs.OfFacts.{First}
-use Rattle.dubp_people_views.specs.OfFacts.{first_at}
+use Rattle.dubp_people_and_money.specs.OfFacts.{First}
+use Rattle.dubp_people_and_money.specs.OfFacts.{first_at}
 use Rattle.dubp_head.specs.HeadsStates.{HeadsState, AreOver}
 use Rattle.dubp_head.specs.Following.{AreHeads}
 use Rattle.dubp_head.specs.NextHead.{difficulty_for}
-use Rattle.dubp_rows.specs.OfKept.{IsKnown}
-use Rattle.dubp_rows.proofs.OfKept.{length_heads}
-use Rattle.dubp_rows.specs.OfKept.{AreParamsOf}
+use Rattle.dubp_people_and_money.specs.OfKept.{IsKnown}
+use Rattle.dubp_people_and_money.proofs.OfKept.{length_heads}
+use Rattle.dubp_people_and_money.specs.OfKept.{AreParamsOf}
 use Rattle.dubp_rules.specs.declared.rule.Rule.{Rule}
 use Rattle.dubp_rules.specs.declared.rule.Rule.TheVariants.{X01, P01}
 use Rattle.dubp_rules.specs.First.{IsFirst}

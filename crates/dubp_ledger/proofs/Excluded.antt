@@ -16,7 +16,7 @@ use Rattle.dubp_chain.specs.Chains.{Chain}
 use Rattle.dubp_chain.specs.Live.{is_kicked, kick}
 use Rattle.dubp_chain.specs.Members.{joined_keys, member, members}
 use Rattle.dubp_chain.specs.Words.{in_order, marked}
-use Rattle.dubp_people_views.proofs.OfLists.{all_append}
+use Rattle.dubp_lists.proofs.Elements.{all_append}
 
 abbrev IsKey : Text → Type 0
 IsKey k = is_key k ≡ true

@@ -15,9 +15,9 @@ use Rattle.dubp_chain.specs.Live.{kick}
 use Rattle.dubp_params.specs.declared.params.Params.{Params}
 use Rattle.dubp_head.specs.Following.{MayFollow}
 use Rattle.dubp_head.specs.Laws.{head_with}
-use Rattle.dubp_people_views.specs.OfFacts.{First}
-use Rattle.dubp_people_views.specs.OfFacts.{first_at}
-use Rattle.dubp_rows.proofs.OfKept.{length_heads}
+use Rattle.dubp_people_and_money.specs.OfFacts.{First}
+use Rattle.dubp_people_and_money.specs.OfFacts.{first_at}
+use Rattle.dubp_people_and_money.proofs.OfKept.{length_heads}
 use Rattle.dubp_forging.specs.Filled.{IsBehind, IsFilled, States, StatesMoney}
 use Rattle.dubp_ledger.specs.Filling.{IsStated, hashed, placed, stating}
 

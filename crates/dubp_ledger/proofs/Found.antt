@@ -2,7 +2,7 @@
 use Rattle.std.proofs.Common.{◌≡◌, subst}
 use Rattle.dubp_block.specs.declared.block.Block.{Block}
 use Rattle.dubp_verdict.specs.Verdicts.{Verdicts}
-use Rattle.dubp_rows.specs.OfKept.{KeptChain}
+use Rattle.dubp_people_and_money.specs.OfKept.{KeptChain}
 use Rattle.dubp_people_and_money.specs.OfKept.{Judged}
 use Rattle.dubp_people_and_money.specs.OfKept.{Judgement}
 

@@ -5,7 +5,7 @@ use Rattle.dubp_chain.specs.declared.head.Head.{Head}
 use Rattle.dubp_chain.specs.Chains.{Chain}
 use Rattle.dubp_head.specs.Following.{MayFollow}
 use Rattle.dubp_head.specs.Laws.{members_with}
-use Rattle.dubp_rows.specs.OfValidity.{IsSound}
+use Rattle.dubp_people_and_money.specs.OfValidity.{IsSound}
 use Rattle.dubp_people_and_money.proofs.OfKept.{members_are_counted}
 
 pub few : (c : Chain) (b : Block) (n : ℕ) → n ≡ members_with c b → IsSound c → length b.joiners ≤ 65536 → n < 2 ^ 21

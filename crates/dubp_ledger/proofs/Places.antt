@@ -9,8 +9,8 @@ use Rattle.dubp_block.specs.declared.block.Block.{Block}
 use Rattle.dubp_block.specs.Text.{stamp_of}
 use Rattle.dubp_rules.specs.declared.rule.Rule.TheVariants.{G51}
 use Rattle.dubp_chain.specs.Chains.{Chain}
-use Rattle.dubp_rows.specs.OfValidity.{IsSound}
-use Rattle.dubp_people_views.proofs.OfLists.{same_text_is, same_text_own}
+use Rattle.dubp_people_and_money.specs.OfValidity.{IsSound}
+use Rattle.dubp_lists.proofs.InOrder.{same_text_is, same_text_own}
 
 -- of two stamps
 other_number : (s t : Stamp) → (s.number ≡ t.number → ⊥) → same_stamp s t ≡ false

@@ -13,8 +13,8 @@ use Rattle.dubp_head.specs.Following.{AreHeads, KeepsLimits, LimitHolds, limit_r
 use Rattle.dubp_head.specs.HeadsStates.{HeadsState}
 use Rattle.dubp_head.specs.Laws.{LimitOn, members_with}
 use Rattle.dubp_head.specs.NextHead.{PassesLimit, without_dividend}
-use Rattle.dubp_rows.specs.OfKept.{IsKnown, IsSteered}
-use Rattle.dubp_rows.proofs.OfKept.{length_heads}
+use Rattle.dubp_people_and_money.specs.OfKept.{IsKnown, IsSteered}
+use Rattle.dubp_people_and_money.proofs.OfKept.{length_heads}
 use Rattle.dubp_ledger.specs.Filling.{CanBeStated, IsStated}
 use Rattle.dubp_forging.specs.Filled.{IsWithinLimits}
 use Rattle.dubp_ledger.proofs.Headers.{head_in_range, without_in_range}

@@ -8,10 +8,10 @@ use Rattle.dubp_block.specs.declared.block.Block.{Block}
 use Rattle.dubp_chain.specs.declared.head.Head.{Head}
 use Rattle.dubp_chain.specs.Chains.{Chain, block_of_number}
 use Rattle.dubp_chain.specs.Heads.{head_of, heads_of}
-use Rattle.dubp_rows.specs.OfValidity.{records, records_at}
-use Rattle.dubp_rows.specs.OfKept.{KeptChain, Out, IsHeldBy, IsAsHeld, IsAsBefore, with_block}
-use Rattle.dubp_rows.specs.OfKept.{left_behind}
-use Rattle.dubp_rows.specs.OfKept.{LeftBehind}
+use Rattle.dubp_people_and_money.specs.OfValidity.{records, records_at}
+use Rattle.dubp_people_and_money.specs.OfKept.{KeptChain, Out, IsHeldBy, IsAsHeld, IsAsBefore, with_block}
+use Rattle.dubp_people_and_money.specs.OfKept.{left_behind}
+use Rattle.dubp_people_and_money.specs.OfKept.{LeftBehind}
 use Rattle.dubp_block.specs.Text.{IsBlock}
 use Rattle.dubp_ledger.specs.Traces.{TracesState, AreTraces, AreHeld, IsShort, traces_of}
 use Rattle.dubp_ledger.specs.Written.{IsWrittenAt}

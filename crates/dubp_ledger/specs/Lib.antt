@@ -5,3 +5,4 @@ pub mod Filling
 pub mod OfForging
 pub mod OfKept
 pub mod OfLocal
+pub mod OfAnswers

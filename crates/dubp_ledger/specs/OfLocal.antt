@@ -1,2 +1,2 @@
 -- What those above take from here of the definitions of dubp_local.
-pub use Rattle.dubp_rows.specs.OfLocal.{local_rules}
+pub use Rattle.dubp_people_and_money.specs.OfLocal.{local_rules}

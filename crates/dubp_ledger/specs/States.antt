@@ -8,8 +8,8 @@ use Rattle.dubp_chain.specs.Chains.{Chain}
 use Rattle.dubp_chain.specs.Heads.{difficulty}
 use Rattle.dubp_chain.specs.Members.{member}
 use Rattle.dubp_verdict.specs.Verdicts.{Verdicts}
-use Rattle.dubp_rows.specs.OfValidity.{FirstBroken}
-use Rattle.dubp_rows.specs.OfKept.{KeptChain, with_block}
+use Rattle.dubp_people_and_money.specs.OfValidity.{FirstBroken}
+use Rattle.dubp_people_and_money.specs.OfKept.{KeptChain, with_block}
 use Rattle.dubp_ledger.specs.declared.refusal.TooDeep.{TooDeep}
 use Rattle.dubp_ledger.specs.declared.refusal.SubmitRefusal.{SubmitRefusal}
 use Rattle.dubp_ledger.specs.declared.refusal.SubmitRefusal.TheVariants.{Refused, NoMemory}

@@ -1,11 +1,11 @@
 -- What the blocks of a chain left behind, block by block. Protocol: records.
 use Rattle.std.specs.Prelude.{◌≡◌, ◌≤◌, ℕ, List, [], ◌∷◌, length, take, Option, Some, None, ⊤}
 use Rattle.std.specs.List.{AllByRecursion}
-pub use Rattle.dubp_rows.specs.OfValidity.{IsShort}
+pub use Rattle.dubp_people_and_money.specs.OfValidity.{IsShort}
 use Rattle.dubp_chain.specs.Chains.{Chain}
-use Rattle.dubp_rows.specs.OfKept.{KeptChain, Out}
-use Rattle.dubp_rows.specs.OfKept.{left_behind}
-use Rattle.dubp_rows.specs.OfKept.{LeftBehind}
+use Rattle.dubp_people_and_money.specs.OfKept.{KeptChain, Out}
+use Rattle.dubp_people_and_money.specs.OfKept.{left_behind}
+use Rattle.dubp_people_and_money.specs.OfKept.{LeftBehind}
 
 -- of the blocks that stand, and of those that are held, both newest first; for how many there is room without memory, and for how many
 -- that are held

@@ -5,7 +5,7 @@ use Rattle.dubp_block.specs.Text.{IsBlock}
 use Rattle.dubp_chain.specs.declared.head.Head.{Head}
 use Rattle.dubp_chain.specs.Chains.{Chain}
 use Rattle.dubp_chain.specs.Heads.{head_of}
-use Rattle.dubp_rows.specs.OfKept.{left_behind, LeftBehind}
+use Rattle.dubp_people_and_money.specs.OfKept.{left_behind, LeftBehind}
 
 -- the block of this number, which has so many blocks below it, with its head and what it left behind there
 pub record IsWrittenAt (c : Chain) (number : ℕ) (b : Block) (h : Head) (l : LeftBehind) : Type 0 where

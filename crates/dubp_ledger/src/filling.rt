@@ -15,7 +15,6 @@ use dubp_chain::Head;
 use dubp_head::{HeadRefusal, augment};
 use dubp_params::Params;
 use dubp_people_and_money::PeopleAndMoney;
-use dubp_people_views::{kicked, members_with};
 
 /// Numbers of blocks are below this.
 const NUMBERS: u64 = 1 << 40;
@@ -41,8 +40,8 @@ impl<T: PeopleAndMoney> Ledger<T> {
         }
         self.laws();
         let last = self.head().unwrap();
-        let first = self.people().first().unwrap();
-        let excluded = kicked(self.alloc(), self.people())?;
+        let first = self.tables().first().unwrap();
+        let excluded = self.tables().kicked(self.alloc())?;
         let time = draft.time;
         let block = place(draft, first.currency, number, &last, excluded);
         let head = self.stated_head(&block, &first.params)?;
@@ -52,13 +51,14 @@ impl<T: PeopleAndMoney> Ledger<T> {
     // What the header of the block states: its head, or where it passes a limit, that without a dividend.
     fn stated_head(&self, block: &Block, params: &Params) -> Result<Head, NoMemory>
         requires some { 1 ≤ length self.now.chain }
+        requires valid { IsBlock block.now }
         requires params { params.now ≡ params_of self.now.chain }
         requires may { MayFollow 0 (heads_of self.now.chain) block.now }
         requires joiners { length block.now.joiners ≤ 65536 }
         ensures stated { IfOk result (IsStated self.now.chain block.now) }
         ensures range { IfOk result CanBeStated }
     {
-        let members = members_with(self.alloc(), self.people(), block)?;
+        let members = self.tables().members_with(self.alloc(), block)?;
         match augment(self.alloc(), self.heads(), params, block, members) {
             Ok(head) => Ok(head),
             Err(HeadRefusal::Refused { head, .. }) => Ok(head),

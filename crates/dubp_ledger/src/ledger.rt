@@ -8,9 +8,9 @@ ghost use Rattle.dubp_chain.specs.HeadStamp.{head_stamp};
 ghost use Rattle.dubp_chain.specs.Heads.{head_of};
 ghost use Rattle.dubp_rules.specs.First.{IsFirst};
 ghost use Rattle.dubp_rules.specs.declared.rule.Rule.TheVariants.{X01, P01};
-ghost use Rattle.dubp_rows.specs.OfValidity.{FirstBad, FirstBroken, Holds, IsSound, longest_block, records_at};
-ghost use Rattle.dubp_rows.specs.OfKept.{all_hashes, local_rules};
-ghost use Rattle.dubp_rows.specs.OfKept.{AreStates, IsAsBefore, IsAsHeld, IsHeldBy, IsKnown, MayJoin, last_steps, most_kept, most_steps, steps_of_last, steps_of_out, without_last};
+ghost use Rattle.dubp_people_and_money.specs.OfValidity.{FirstBad, FirstBroken, Holds, IsSound, longest_block, records_at};
+ghost use Rattle.dubp_people_and_money.specs.OfKept.{all_hashes, local_rules};
+ghost use Rattle.dubp_people_and_money.specs.OfKept.{AreStates, IsAsBefore, IsAsHeld, IsHeldBy, IsKnown, MayJoin, last_steps, most_kept, most_steps, steps_of_last, steps_of_out, without_last};
 ghost use Rattle.dubp_ledger.specs.States.{Accepted, HandedBack, IsDifficulty, IsTooDeep};
 ghost use Rattle.dubp_ledger.specs.Traces.{IsShort};
 ghost use Rattle.dubp_ledger.specs.Written.{IsWrittenAt};
@@ -21,12 +21,14 @@ use crate::written::WrittenBlock;
 use dubp_atoms::{Hash, Key, NoMemory, Secret, Stamp, Steps};
 use dubp_block::{Block, inner_hash_of};
 use dubp_chain::Head;
+use dubp_docs::TxHashes;
 use dubp_head::{Heads, difficulty};
 use dubp_params::Params;
-use dubp_people_and_money::{Judgement, Money, People, PeopleAndMoney, judge, trial};
-use dubp_rows::{Held, Kept, Record, TxHashes, check_local_read, put_records};
+use dubp_people_and_money::{
+    Held, Judgement, Kept, PeopleAndMoney, check_local_read, judge, trial,
+};
 use dubp_rules::Rule;
-use dubp_undo::Tables;
+use dubp_validity::Record;
 use dubp_verdict::Verdicts;
 use std::alloc::Global;
 use std::marker::Model;
@@ -43,7 +45,7 @@ pub struct Ledger<T: PeopleAndMoney> {
 }
 
 impl<T: PeopleAndMoney> Model for Ledger<T> {
-    ghost use Rattle.dubp_rows.specs.OfKept.{KeptChain};
+    ghost use Rattle.dubp_people_and_money.specs.OfKept.{KeptChain};
     ghost use Rattle.dubp_ledger.specs.Traces.{AreTraces};
 
     ghost Value = { KeptChain };
@@ -153,30 +155,37 @@ impl<T: PeopleAndMoney> Ledger<T> {
         ensures { IfOk result (IsDifficulty self.now.chain key) }
     {
         self.laws();
-        let Some(first) = self.people().first() else {
+        let Some(first) = self.tables().first() else {
             return Ok(None);
         };
-        if !self.people().is_member(key) {
+        if !self.tables().is_member(key) {
             return Ok(None);
         }
         let found = difficulty(self.alloc, self.kept.heads(), &first.params, key)?;
         Ok(Some(found))
     }
 
+    /// The tables of the chain, which queries are asked of. It takes no memory.
+    pub fn tables(&self) -> &T
+        ensures { T.at result.now self.now.chain }
+    {
+        self.kept.tables()
+    }
+
     /// The people of the chain, with their states before each block that can be reversed, and those of the blocks that are held. It takes no
     /// memory.
-    pub fn people(&self) -> &People
-        ensures at { ⟦<People as Tables<Block>>⟧.at result.now self.now.chain }
-        ensures states { AreStates (⟦<People as Tables<Block>>⟧.is (⟦<People as Tables<Block>>⟧.names result.now)) (⟦<People as Tables<Block>>⟧.now result.now) (⟦<People as Tables<Block>>⟧.count result.now) (⟦<People as Tables<Block>>⟧.others result.now) self.now }
+    pub fn people(&self) -> &T::People
+        ensures at { T.People.at result.now self.now.chain }
+        ensures states { AreStates (T.People.is (T.People.names result.now)) (T.People.now result.now) (T.People.count result.now) (T.People.others result.now) self.now }
     {
         self.kept.tables().people()
     }
 
     /// The money of the chain, with its states before each block that can be reversed, and those of the blocks that are held. It takes no
     /// memory.
-    pub fn money(&self) -> &Money
-        ensures at { ⟦<Money as Tables<Block>>⟧.at result.now self.now.chain }
-        ensures states { AreStates (⟦<Money as Tables<Block>>⟧.is (⟦<Money as Tables<Block>>⟧.names result.now)) (⟦<Money as Tables<Block>>⟧.now result.now) (⟦<Money as Tables<Block>>⟧.count result.now) (⟦<Money as Tables<Block>>⟧.others result.now) self.now }
+    pub fn money(&self) -> &T::Money
+        ensures at { T.Money.at result.now self.now.chain }
+        ensures states { AreStates (T.Money.is (T.Money.names result.now)) (T.Money.now result.now) (T.Money.count result.now) (T.Money.others result.now) self.now }
     {
         self.kept.tables().money()
     }
@@ -220,11 +229,10 @@ impl<T: PeopleAndMoney> Ledger<T> {
             return Ok(None);
         };
         let mut rows = Vec::new(self.alloc);
-        put_records(
+        self.tables().put_records(
             self.alloc,
             written.block,
             written.head,
-            self.people().facts(),
             written.left,
             &mut rows,
         )?;
@@ -246,7 +254,7 @@ impl<T: PeopleAndMoney> Ledger<T> {
         ensures { IfOk result (IsFirst (Holds verdicts.now self.now.chain block.now) (X01 ∷ P01 ∷ local_rules)) }
     {
         self.kept.heads();
-        match self.people().first() {
+        match self.tables().first() {
             Some(first) => {
                 let params = Some(&first.params);
                 let found = check_local_read(self.alloc, block, inner, verdicts, params)?;

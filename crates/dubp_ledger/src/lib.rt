@@ -20,12 +20,7 @@ mod refusal;
 mod traces;
 mod written;
 
-pub use dubp_people_and_money::{Money, People, PeopleAndMoney, Totals};
-pub use dubp_people_views::{
-    CertificationView, DistanceView, IdentityState, IdentityView, certs, distance, identity,
-    key_of, kicked,
-};
-pub use dubp_rows::{Held, LeftBehind};
+pub use dubp_people_and_money::{Held, LeftBehind, PeopleAndMoney, SourceView};
 pub use ledger::Ledger;
 pub use refusal::{SubmitRefusal, TooDeep};
 pub use written::WrittenBlock;

@@ -1,7 +1,7 @@
 ghost use Rattle.std.specs.Prelude.{◌≡◌, ◌+◌, ◌≤◌, ◌<◌, ◌++◌, ◌∷◌, [], MatchOption, None, OnOk, Some, drop, length, reverse, slice_get, take, vec_capacity, vec_len};
 
 use dubp_atoms::NoMemory;
-use dubp_rows::LeftBehind;
+use dubp_people_and_money::LeftBehind;
 use std::alloc::Global;
 use std::marker::Model;
 

@@ -1,6 +1,6 @@
 use dubp_block::Block;
 use dubp_chain::Head;
-use dubp_rows::LeftBehind;
+use dubp_people_and_money::LeftBehind;
 
 /// A block of a chain as the ledger keeps it: with its head, and what it left behind.
 #[derive(Clone, Copy)]

@@ -6,7 +6,7 @@ ghost use Rattle.dubp_query.specs.Asked.{IsAnswer};
 
 use crate::telling::put_answer;
 use arrayvec::ArrayVec;
-use dubp_answers::{balance_line, certs_text, records_text, show_text, sources_text};
+use dubp_answers::{records_text, show_text};
 use dubp_atoms::{Key, Line, NoMemory};
 use dubp_replay::{Answer, Asked, Query};
 use dubp_statement::{CondText, Ledger, PeopleAndMoney};
@@ -56,8 +56,9 @@ fn answer_balance<T: PeopleAndMoney>(
 ) -> Result<Answer, NoMemory>
     ensures { IsAnswer ledger.now.chain (asked.Balance cond.now) result }
 {
-    ledger.laws();
-    Ok(Answer::One(balance_line(ledger.money(), cond)))
+    let mut line: Line = ArrayVec::new();
+    ledger.tables().put_balance(cond, &mut line);
+    Ok(Answer::One(line))
 }
 
 // CERTS.
@@ -69,7 +70,7 @@ fn answer_certs<T: PeopleAndMoney>(
     ensures { IsAnswer ledger.now.chain (asked.Certs key) result }
 {
     ledger.laws();
-    Ok(Answer::Many(certs_text(alloc, ledger.people(), key)?))
+    Ok(Answer::Many(ledger.tables().certs(alloc, key)?))
 }
 
 // SOURCES.
@@ -81,7 +82,7 @@ fn answer_sources<T: PeopleAndMoney>(
     ensures { IsAnswer ledger.now.chain (asked.Sources cond.now) result }
 {
     ledger.laws();
-    Ok(Answer::Many(sources_text(alloc, ledger.money(), cond)?))
+    Ok(Answer::Many(ledger.tables().sources(alloc, cond)?))
 }
 
 // SHOW.

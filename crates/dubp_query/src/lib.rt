@@ -14,10 +14,6 @@ mod moves;
 mod telling;
 
 pub use asking::answer;
-pub use dubp_answers::{
-    balance_line, identity_line, money_line, put_balance_line, put_identity_line, put_money_line,
-    put_uid_line, uid_line,
-};
 pub use dubp_replay::{Answer, Asked, Query};
 pub use dubp_statement::CondText;
 pub use lines::{head_line, put_head_line};

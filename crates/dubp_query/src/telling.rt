@@ -5,10 +5,7 @@ ghost use Rattle.dubp_replay.specs.declared.query.Query.TheVariants as asked;
 ghost use Rattle.dubp_query.specs.Asked.{IsTold};
 
 use crate::lines::put_head_line;
-use dubp_answers::{
-    put_balance_line, put_diff_line, put_distance_line, put_identity_line, put_money_line,
-    put_uid_line,
-};
+use dubp_answers::put_diff_line;
 use dubp_atoms::{Key, Line, NoMemory, Uid};
 use dubp_replay::{Asked, filled};
 use dubp_statement::{Ledger, PeopleAndMoney};
@@ -60,7 +57,7 @@ fn put_money<T: PeopleAndMoney>(ledger: &Ledger<T>, line: &mut Line)
     ensures { IsAnswered ledger.now.chain asked.Money line.new.items }
 {
     ledger.laws();
-    put_money_line(ledger.money(), line);
+    ledger.tables().put_money(line);
 }
 
 // IDENTITY.
@@ -69,7 +66,7 @@ fn put_identity<T: PeopleAndMoney>(ledger: &Ledger<T>, key: Key, line: &mut Line
     ensures { IsAnswered ledger.now.chain (asked.Identity key) line.new.items }
 {
     ledger.laws();
-    put_identity_line(ledger.people(), key, line);
+    ledger.tables().put_identity(key, line);
 }
 
 // UID.
@@ -78,7 +75,7 @@ fn put_uid<T: PeopleAndMoney>(ledger: &Ledger<T>, uid: Uid, line: &mut Line)
     ensures { IsAnswered ledger.now.chain (asked.Uid uid) line.new.items }
 {
     ledger.laws();
-    put_uid_line(ledger.people(), uid, line);
+    ledger.tables().put_uid(uid, line);
 }
 
 // BALANCE. The text of the condition is kept here alone, since it takes a thousand bytes.
@@ -89,7 +86,7 @@ fn put_balance<T: PeopleAndMoney>(ledger: &Ledger<T>, cond: &[u8], line: &mut Li
 {
     ledger.laws();
     let kept = filled(cond);
-    put_balance_line(ledger.money(), &kept, line);
+    ledger.tables().put_balance(&kept, line);
 }
 
 // DISTANCE.
@@ -104,7 +101,7 @@ fn put_distance<T: PeopleAndMoney>(
     ensures refused { OnErr result (line.new.items ≡ []) }
 {
     ledger.laws();
-    put_distance_line(alloc, ledger.people(), key, line)?;
+    ledger.tables().put_distance(alloc, key, line)?;
     Ok(())
 }
 

@@ -10,11 +10,12 @@ ghost use Rattle.dubp_turns.specs.Given.{IsGivenAll, block_given, verdict_given}
 ghost use Rattle.dubp_session.specs.Generating.{IsGivenFront, commands_of, shown_text};
 
 use crate::texts::{asked_for, no_block, no_nonce};
-use dubp_atoms::{Hash, Key, NoMemory, Sig, Steps};
+use arrayvec::ArrayVec;
+use dubp_atoms::{Hash, Key, Line, NoMemory, Sig, Steps};
 use dubp_block::Block;
 use dubp_gen::{Chain, GenRefusal, Ledger, PeopleAndMoney, make_chain};
 use dubp_outside::{Sink, write_whole};
-use dubp_turns::{Node, head_line, money_line};
+use dubp_turns::{Node, head_line};
 use std::alloc::Global;
 use std::sync::ledger::Ledger as StepBook;
 
@@ -141,7 +142,9 @@ fn shown<T: PeopleAndMoney>(
     let mut text = Vec::new(alloc);
     append(&mut text, asked_for(n, start).as_slice())?;
     append(&mut text, head_line(ledger).as_slice())?;
-    append(&mut text, money_line(ledger.money()).as_slice())?;
+    let mut money: Line = ArrayVec::new();
+    ledger.tables().put_money(&mut money);
+    append(&mut text, money.as_slice())?;
     Ok(text)
 }
 

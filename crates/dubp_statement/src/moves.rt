@@ -39,7 +39,7 @@ fn tally_of<T: PeopleAndMoney>(
 ) -> Result<Tally, NoMemory>
     ensures { IfOk result (IsTallyOf (account_of cond.now ledger.now.chain)) }
 {
-    let mut tally = Tally::new(alloc, ledger.people().secret());
+    let mut tally = Tally::new(alloc, ledger.tables().secret());
     for number in 0..ledger.len() as u64 {
         add_block_of(ledger, number, cond, &mut tally)?;
     }

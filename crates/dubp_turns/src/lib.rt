@@ -21,6 +21,6 @@ mod stating;
 mod texts;
 
 pub use branches::Branches;
-pub use dubp_query::{Answer, Asked, head_line, money_line};
+pub use dubp_query::{Answer, Asked, head_line};
 pub use node::Node;
 pub use stating::{numbered, one, put_one, refused};

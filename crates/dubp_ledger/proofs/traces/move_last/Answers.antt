@@ -1,6 +1,6 @@
 use Rattle.std.proofs.Common.{◌≡◌, ◌++◌, ◌∷◌, [], ◌∙◌, append-nil, append_assoc, drop, drop-drop, length, option_to_list, reverse, take, ap, sym, refl, arith}
 use Rattle.std.proofs.lemmas.List.{reverse-append}
-use Rattle.dubp_rows.proofs.OfKept.{take_next}
+use Rattle.dubp_people_and_money.proofs.OfKept.{take_next}
 use Rattle.dubp_ledger.proofs.traces.move_last.Goals as goal
 
 pub loop-i-init : goal.loop-i-init

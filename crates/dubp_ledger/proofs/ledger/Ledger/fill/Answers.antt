@@ -14,7 +14,7 @@ pub unwrap-last-requires : goal.unwrap-last-requires
 unwrap-last-requires g c = some_head c.args.self.now.chain c.head.result c.requires.some c.head.ensures
 
 pub unwrap-first-requires : goal.unwrap-first-requires
-unwrap-first-requires g c = some_first c.args.self.now.chain c.first.result c.requires.some (c.first.ensures c.args.self.now.chain c.people.ensures.at)
+unwrap-first-requires g c = some_first c.args.self.now.chain c.first.result c.requires.some (c.first.ensures c.args.self.now.chain c.tables.ensures)
 
 pub place-block-requires-clause-version : goal.place-block-requires-clause-version
 place-block-requires-clause-version g c =
@@ -23,11 +23,11 @@ place-block-requires-clause-version g c =
 pub place-block-requires-clause-excluded : goal.place-block-requires-clause-excluded
 place-block-requires-clause-excluded g c =
     let chain = c.args.self.now.chain in
-    subst (All (λ key. is_key key ≡ true)) (sym (c.in_ok-excluded.ensures chain c.people-2.ensures.at c.laws.ensures.sound)) (kicked_are_keys chain c.laws.ensures.blocks)
+    subst (All (λ key. is_key key ≡ true)) (sym (c.in_ok-excluded.ensures chain c.tables-2.ensures c.laws.ensures.sound)) (kicked_are_keys chain c.laws.ensures.blocks)
 
 pub stated_head-requires-clause-params : goal.stated_head-requires-clause-params
 stated_head-requires-clause-params g c =
-    first_params c.args.self.now.chain c.unwrap-first.result (sym c.unwrap-first.ensures ∙ c.first.ensures c.args.self.now.chain c.people.ensures.at)
+    first_params c.args.self.now.chain c.unwrap-first.result (sym c.unwrap-first.ensures ∙ c.first.ensures c.args.self.now.chain c.tables.ensures)
 
 pub stated_head-requires-clause-may : goal.stated_head-requires-clause-may
 stated_head-requires-clause-may g c =
@@ -44,9 +44,9 @@ returns-clause-filled g c =
     let chain = c.args.self.now.chain in
     let is = c.place-block.ensures.block in
     let h = c.in_ok-head.head in
-    let first = sym c.unwrap-first.ensures ∙ c.first.ensures chain c.people.ensures.at in
+    let first = sym c.unwrap-first.ensures ∙ c.first.ensures chain c.tables.ensures in
     subst (IsFilled chain c.args.draft) (sym (c.state.ensures.block))
     (subst (λ b. IsFilled chain c.args.draft (hashed (stating c.args.draft.time h b))) (sym is)
     (is_filled chain c.args.draft c.unwrap-first.result.currency c.len-number.result c.unwrap-last.result c.in_ok-excluded.excluded.items h c.requires.some c.len-number.ensures (sym c.unwrap-last.ensures ∙ c.head.ensures) (first_currency chain c.unwrap-first.result first)
-    (c.in_ok-excluded.ensures chain c.people-2.ensures.at c.laws.ensures.sound)
+    (c.in_ok-excluded.ensures chain c.tables-2.ensures c.laws.ensures.sound)
     (subst (λ b. IsStated chain b h) is c.in_ok-head.ensures.stated)))

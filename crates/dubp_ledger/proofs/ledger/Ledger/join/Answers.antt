@@ -1,5 +1,5 @@
 use Rattle.std.proofs.Common.{◌∙◌, ap}
-use Rattle.dubp_rows.specs.OfKept.{with_block}
+use Rattle.dubp_people_and_money.specs.OfKept.{with_block}
 use Rattle.dubp_ledger.proofs.Stamps.{stamp_is}
 use Rattle.dubp_ledger.proofs.ledger.Ledger.join.Goals as goal
 

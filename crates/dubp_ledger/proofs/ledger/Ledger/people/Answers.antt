@@ -1,5 +1,5 @@
 use Rattle.std.proofs.Common.{subst}
-use Rattle.dubp_rows.specs.OfKept.{AreStates}
+use Rattle.dubp_people_and_money.specs.OfKept.{AreStates}
 use Rattle.dubp_ledger.proofs.ledger.Ledger.people.Goals as goal
 
 pub returns-clause-at : goal.returns-clause-at

@@ -1,5 +1,5 @@
 use Rattle.std.proofs.Common.{subst, sym}
-use Rattle.dubp_rows.specs.OfKept.{IsAsHeld, IsHeldBy}
+use Rattle.dubp_people_and_money.specs.OfKept.{IsAsHeld, IsHeldBy}
 use Rattle.dubp_ledger.proofs.Tracing.{can_come, comes_back}
 use Rattle.dubp_ledger.proofs.ledger.Ledger.restore.Goals as goal
 

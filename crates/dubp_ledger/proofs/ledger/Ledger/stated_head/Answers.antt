@@ -8,27 +8,27 @@ use Rattle.dubp_ledger.proofs.ledger.Ledger.stated_head.Goals as goal
 pub augment-requires-clause-block : goal.augment-requires-clause-block
 augment-requires-clause-block g c =
     let chain = c.args.self.now.chain in
-    let may = follows c.in_ok-members.members _ c.args.block.now (few chain c.args.block.now c.in_ok-members.members (c.in_ok-members.ensures chain c.people.ensures.at c.heads.ensures.sound) c.heads.ensures.sound c.requires.joiners) c.requires.may in
+    let may = follows c.in_ok-members.members _ c.args.block.now (few chain c.args.block.now c.in_ok-members.members (c.in_ok-members.ensures chain c.tables.ensures c.heads.ensures.sound) c.heads.ensures.sound c.requires.joiners) c.requires.may in
     subst (λ hs. MayFollow c.in_ok-members.members hs c.args.block.now) (sym c.heads.ensures.are) may
 
 pub returns-in-Ok-clause-stated : goal.returns-in-Ok-clause-stated
 returns-in-Ok-clause-stated g c =
     let chain = c.args.self.now.chain in
-    stated chain c.args.block.now c.heads.result.now c.args.params.now c.in_ok-members.members c.in-Ok.head c.heads.ensures c.requires.some c.requires.params (c.in_ok-members.ensures chain c.people.ensures.at c.heads.ensures.sound) c.in-Ok.ensures.head.0 c.in-Ok.ensures.head.1
+    stated chain c.args.block.now c.heads.result.now c.args.params.now c.in_ok-members.members c.in-Ok.head c.heads.ensures c.requires.some c.requires.params (c.in_ok-members.ensures chain c.tables.ensures c.heads.ensures.sound) c.in-Ok.ensures.head.0 c.in-Ok.ensures.head.1
 
 pub returns-in-Ok-clause-range : goal.returns-in-Ok-clause-range
 returns-in-Ok-clause-range g c =
     let chain = c.args.self.now.chain in
-    range chain c.args.block.now c.heads.result.now c.args.params.now c.in_ok-members.members c.in-Ok.head c.heads.ensures c.requires.some c.requires.params (c.in_ok-members.ensures chain c.people.ensures.at c.heads.ensures.sound) (few chain c.args.block.now c.in_ok-members.members (c.in_ok-members.ensures chain c.people.ensures.at c.heads.ensures.sound) c.heads.ensures.sound c.requires.joiners) c.in-Ok.ensures.head.0 c.in-Ok.ensures.head.1
+    range chain c.args.block.now c.heads.result.now c.args.params.now c.in_ok-members.members c.in-Ok.head c.heads.ensures c.requires.some c.requires.params (c.in_ok-members.ensures chain c.tables.ensures c.heads.ensures.sound) (few chain c.args.block.now c.in_ok-members.members (c.in_ok-members.ensures chain c.tables.ensures c.heads.ensures.sound) c.heads.ensures.sound c.requires.joiners) c.in-Ok.ensures.head.0 c.in-Ok.ensures.head.1
 
 pub returns-in-Err-Refused-clause-stated : goal.returns-in-Err-Refused-clause-stated
 returns-in-Err-Refused-clause-stated g c =
     let chain = c.args.self.now.chain in
     let r = c.in-Err-Refused in
-    stated_without chain c.args.block.now c.heads.result.now c.args.params.now c.in_ok-members.members r.head c.heads.ensures c.requires.some c.requires.params (c.in_ok-members.ensures chain c.people.ensures.at c.heads.ensures.sound) r.field-0-0 (subst (IsRefusal c.args.params.now c.in_ok-members.members c.heads.result.now.list c.args.block.now) r.field-0-is r.ensures.refused)
+    stated_without chain c.args.block.now c.heads.result.now c.args.params.now c.in_ok-members.members r.head c.heads.ensures c.requires.some c.requires.params (c.in_ok-members.ensures chain c.tables.ensures c.heads.ensures.sound) r.field-0-0 (subst (IsRefusal c.args.params.now c.in_ok-members.members c.heads.result.now.list c.args.block.now) r.field-0-is r.ensures.refused)
 
 pub returns-in-Err-Refused-clause-range : goal.returns-in-Err-Refused-clause-range
 returns-in-Err-Refused-clause-range g c =
     let chain = c.args.self.now.chain in
     let r = c.in-Err-Refused in
-    range_without chain c.args.block.now c.heads.result.now c.args.params.now c.in_ok-members.members r.head c.heads.ensures c.requires.some c.requires.params (c.in_ok-members.ensures chain c.people.ensures.at c.heads.ensures.sound) (few chain c.args.block.now c.in_ok-members.members (c.in_ok-members.ensures chain c.people.ensures.at c.heads.ensures.sound) c.heads.ensures.sound c.requires.joiners) r.field-0-0 (subst (IsRefusal c.args.params.now c.in_ok-members.members c.heads.result.now.list c.args.block.now) r.field-0-is r.ensures.refused)
+    range_without chain c.args.block.now c.heads.result.now c.args.params.now c.in_ok-members.members r.head c.heads.ensures c.requires.some c.requires.params (c.in_ok-members.ensures chain c.tables.ensures c.heads.ensures.sound) (few chain c.args.block.now c.in_ok-members.members (c.in_ok-members.ensures chain c.tables.ensures c.heads.ensures.sound) c.heads.ensures.sound c.requires.joiners) r.field-0-0 (subst (IsRefusal c.args.params.now c.in_ok-members.members c.heads.result.now.list c.args.block.now) r.field-0-is r.ensures.refused)

@@ -1,5 +1,5 @@
 use Rattle.std.proofs.Common.{IfOk, subst}
-use Rattle.dubp_rows.specs.OfValidity.{FirstBad}
+use Rattle.dubp_people_and_money.specs.OfValidity.{FirstBad}
 use Rattle.dubp_ledger.proofs.ledger.Ledger.trial.Goals as goal
 
 pub returns : goal.returns

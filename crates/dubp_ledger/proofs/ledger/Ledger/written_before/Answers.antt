@@ -1,6 +1,6 @@
 use Rattle.std.proofs.Common.{◌∙◌, ap, subst, sym}
 use Rattle.std.specs.Prelude.{slice_get}
-use Rattle.dubp_rows.specs.OfKept.{IsKnown}
+use Rattle.dubp_people_and_money.specs.OfKept.{IsKnown}
 use Rattle.dubp_ledger.specs.Traces.{traces_of}
 use Rattle.dubp_ledger.proofs.Tracing.{head_there, left_there, written_found}
 use Rattle.dubp_ledger.proofs.ledger.Ledger.written_before.Goals as goal

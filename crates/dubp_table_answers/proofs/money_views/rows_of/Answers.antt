@@ -1,0 +1,20 @@
+use Rattle.std.proofs.Common.{sym, ◌∙◌, subst}
+use Rattle.dubp_undo.specs.States.{states}
+use Rattle.dubp_sindex.specs.Accounts.{accounts}
+use Rattle.dubp_sindex.specs.Rows.{AreRows}
+use Rattle.dubp_money.specs.OfMoneySteps.{sources_left}
+use Rattle.dubp_money.proofs.OfMoneySteps.{sources_are_rows}
+use Rattle.dubp_table_answers.proofs.Accounts.{rows_left}
+use Rattle.dubp_table_answers.proofs.Rows.{views_found, views_none}
+use Rattle.dubp_table_answers.proofs.money_views.rows_of.Goals as goal
+
+pub returns-in_ok-rows-in-Some : goal.returns-in_ok-rows-in-Some
+returns-in_ok-rows-in-Some c = λ chain at sound.
+    let texts = accounts c.args.sources.now.index in
+    let are = subst AreRows (sym (rows_left texts chain)) (sources_are_rows texts chain sound at.0.small) in
+    views_found texts chain at.0.has c.args.cond.now c.in-Some.account (sym c.find.ensures ∙ c.in-Some.is) c.in_ok-rows-in-Some.rows.items (c.in_ok-rows-in-Some.ensures (states (sources_left texts) chain) at.1 are)
+
+pub returns-in-None : goal.returns-in-None
+returns-in-None c = λ chain at sound.
+    let texts = accounts c.args.sources.now.index in
+    views_none texts chain at.0.has c.args.cond.now (sym c.find.ensures ∙ c.in-None.is) c.new.result.items c.new.ensures.items

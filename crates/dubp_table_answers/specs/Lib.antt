@@ -1,0 +1,2 @@
+pub mod CertificationLines
+pub mod MoneyViews
