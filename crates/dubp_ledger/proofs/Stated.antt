@@ -23,7 +23,7 @@ params_stay : (c : Chain) (b : Block) → 1 ≤ length c → params c ≡ params
 params_stay [] b some = absurd (omega (arith, some))
 params_stay (a ∷ c) b some = refl
 
-steered_now : (c : Chain) → 1 ≤ length c → IsSteered c → IsInRange (params c)
+pub steered_now : (c : Chain) → 1 ≤ length c → IsSteered c → IsInRange (params c)
 steered_now [] some steered = absurd (omega (arith, some))
 steered_now (a ∷ c) some steered = steered
 

@@ -1,9 +1,14 @@
 use Rattle.std.proofs.Common.{subst, sym}
+use Rattle.dubp_params.specs.Ranges.{IsInRange}
 use Rattle.dubp_head.specs.Following.{MayFollow}
 use Rattle.dubp_head.specs.NextHead.{IsRefusal}
-use Rattle.dubp_ledger.proofs.Stated.{stated, stated_without, range, range_without}
+use Rattle.dubp_ledger.proofs.Stated.{stated, stated_without, range, range_without, steered_now}
 use Rattle.dubp_ledger.proofs.Members.{few, follows}
 use Rattle.dubp_ledger.proofs.ledger.Ledger.stated_head.Goals as goal
+
+pub augment-requires-clause-valid : goal.augment-requires-clause-valid
+augment-requires-clause-valid g c =
+    subst IsInRange (sym c.requires.params) (steered_now c.args.self.now.chain c.requires.some c.heads.ensures.steered)
 
 pub augment-requires-clause-block : goal.augment-requires-clause-block
 augment-requires-clause-block g c =
