@@ -14,7 +14,7 @@ use arrayvec::ArrayVec;
 use dubp_atoms::{Line, NoMemory, put_bytes, put_number};
 use dubp_block::Block;
 use dubp_cond::{CondText, SourceId};
-use dubp_undo::Tables;
+use dubp_moving::Tables;
 use std::alloc::Global;
 
 /// The answer to SOURCES: a line for each unspent source of the condition of this text, in the order of making, and END.

@@ -17,7 +17,7 @@ use dubp_block::Block;
 use dubp_cond::{CondText, Input, SourceId};
 use dubp_drafts::{KEYS, key_of};
 use dubp_ledger::Money;
-use dubp_undo::Tables;
+use dubp_moving::Tables;
 
 /// The first unspent source of the account of the key of this number, in the order of making, where it has one. It takes no memory.
 pub(crate) fn first_source(money: &Money, person: u32) -> Option<Input>

@@ -16,8 +16,8 @@ ghost use Rattle.dubp_kept.specs.KeptChain.{KeptChain, AreStates};
 use dubp_block::Block;
 pub use dubp_kept::{Judgement, Judges, judge, trial};
 pub use dubp_money::{Money, Secret, Totals};
+use dubp_moving::Tables;
 pub use dubp_registry::Registry as People;
-use dubp_undo::Tables;
 use std::alloc::Global;
 
 /// Tables of the people and the money of a chain, which a block is judged by and written into.
