@@ -1,4 +1,4 @@
-use Rattle.std.proofs.Common.{Some, None, subst, sym}
+use Rattle.std.proofs.Common.{subst, sym}
 use Rattle.std.specs.declared.ops.Bound.{Bound}
 use Rattle.std.specs.BTreeMap.Range.{IsFromStart}
 use Rattle.dubp_journal.specs.MovingTable.{HasNone}
