@@ -1,8 +1,8 @@
 -- The states of a pair of tables that are those of a chain: so are those of either.
 use Rattle.std.proofs.Common.{◌≡◌, ◌+◌, ℕ, zero, suc, List, [], ◌∷◌, length, Option, Some, None, ◌∙◌, sym, arith}
 use Rattle.dubp_chain.specs.Chains.{Chain}
-use Rattle.dubp_undo.specs.Chains.{Waits}
-use Rattle.dubp_undo.specs.Others.{Others, zip, zip_others, length_zip}
+use Rattle.dubp_moving.specs.Chains.{Waits}
+use Rattle.dubp_moving.specs.Others.{Others, zip, zip_others, length_zip}
 use Rattle.dubp_kept.specs.KeptChain.{KeptChain, Out, AreStates, Fits, HasOut, StandsWithin}
 
 module _ {M N : Type 0} (is : M → Chain → Type 0) (is' : N → Chain → Type 0) where

@@ -4,8 +4,8 @@ ghost use Rattle.dubp_chain.specs.Chains.{Chain};
 use dubp_atoms::{NoMemory, Secret, Steps};
 use dubp_block::Block;
 use dubp_money_rules::Money;
+use dubp_moving::{Both, Tables};
 use dubp_people::People;
-use dubp_undo::{Both, Tables};
 use std::alloc::Global;
 use std::sync::ledger::Ledger as StepBook;
 

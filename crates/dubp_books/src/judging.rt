@@ -5,12 +5,12 @@ use dubp_chain::Head;
 use dubp_docs::TxHashes;
 use dubp_kept::Judges;
 use dubp_money_rules::first_broken_of_money;
+use dubp_moving::Tables;
 use dubp_params::Params;
 use dubp_people::Next;
 use dubp_people_checks::people_rules;
 use dubp_people_views::members_with;
 use dubp_rules::Rule;
-use dubp_undo::Tables;
 use dubp_verdict::Verdicts;
 use std::alloc::Global;
 

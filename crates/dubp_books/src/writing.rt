@@ -10,9 +10,9 @@ use dubp_block::Block;
 use dubp_chain::Head;
 use dubp_docs::TxHashes;
 use dubp_kept::{LeftBehind, Written};
+use dubp_moving::Tables;
 use dubp_people::{People, apply};
 use dubp_people_views::member_keys;
-use dubp_undo::Tables;
 use std::alloc::Global;
 use std::sync::ledger::Ledger as StepBook;
 

@@ -10,7 +10,8 @@ use crate::sides::no_received;
 use crate::tables::CertTables;
 use crate::walking::next_of;
 use dubp_atoms::{Key, NoMemory, Secret, Steps};
-use dubp_undo::{ByHash, Found, Leaf, NoSummary, Tables, Three};
+use dubp_finders::ByHash;
+use dubp_undo::{Found, Leaf, NoSummary, Tables, Three};
 use std::alloc::Global;
 use std::sync::ledger::Ledger as StepBook;
 

@@ -4,7 +4,8 @@ ghost use Rattle.dubp_cindex.specs.Rows.{Rows};
 use crate::row::CertRows;
 use crate::tables::{Received, ReceivedBy, Side};
 use dubp_atoms::{NoMemory, Secret, Steps};
-use dubp_undo::{Both, ByHash, Found, Leaf, NoSummary, Tables};
+use dubp_finders::ByHash;
+use dubp_undo::{Both, Found, Leaf, NoSummary, Tables};
 use std::alloc::Global;
 use std::sync::ledger::Ledger as StepBook;
 

@@ -8,7 +8,8 @@ use crate::row::{CertRow, CertRows, IssuerRow};
 use crate::sides::ReceivedTables;
 use crate::walking::Place;
 use dubp_atoms::{Key, NoMemory, Secret, Steps};
-use dubp_undo::{Both, ByHash, Definition, Found, Leaf, NoSummary, Tables, Three};
+use dubp_finders::ByHash;
+use dubp_undo::{Both, Definition, Found, Leaf, NoSummary, Tables, Three};
 use std::sync::ledger::Ledger as StepBook;
 
 /// The rows, under the issuer and the receiver.

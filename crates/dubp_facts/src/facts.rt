@@ -9,7 +9,8 @@ ghost use Rattle.dubp_facts.specs.declared.facts.BlockTime.{BlockTime as BlockTi
 ghost use Rattle.dubp_atoms.specs.Same.{empty_stamp};
 
 use dubp_atoms::{Currency, Hash, NoMemory, Stamp, Steps};
-use dubp_undo::{Both, ByNumber, Definition, Found, Leaf, NoSummary, Tables};
+use dubp_finders::ByNumber;
+use dubp_undo::{Both, Definition, Found, Leaf, NoSummary, Tables};
 use dubp_validity::{Block, CertLine, Head, Params};
 use std::alloc::Global;
 use std::sync::ledger::Ledger as StepBook;

@@ -2,7 +2,8 @@ ghost use Rattle.dubp_iindex.specs.Rows.{row_at, key_at, member_at, counts_at};
 
 use crate::row::{Counts, IdentityRow, IdentityRows};
 use dubp_atoms::{Key, Secret, Uid};
-use dubp_undo::{Both, ByHash, Definition, Found, Leaf, NoSummary, Three};
+use dubp_finders::ByHash;
+use dubp_undo::{Both, Definition, Found, Leaf, NoSummary, Three};
 
 /// The row of each key.
 pub struct RowsOf;

@@ -3,8 +3,8 @@
 use Rattle.std.proofs.Common.{◌≡◌, ◌∙◌, ◌≤◌, ◌<◌, ◌+◌, ℕ, zero, suc, List, [], ◌∷◌, Option, Some, None, length, drop, drop-drop, refl, ap, subst, arith}
 use Rattle.dubp_block.specs.declared.block.Block.{Block}
 use Rattle.dubp_chain.specs.Chains.{Chain}
-use Rattle.dubp_undo.specs.Chains.{Waits, stands_now, stands_back, stands_but_last, stands_stay, waits_stay}
-use Rattle.dubp_undo.specs.Others.{Others, but_last}
+use Rattle.dubp_moving.specs.Chains.{Waits, stands_now, stands_back, stands_but_last, stands_stay, waits_stay}
+use Rattle.dubp_moving.specs.Others.{Others, but_last}
 use Rattle.dubp_head.specs.HeadsStates.{HeadsState}
 use Rattle.dubp_chain.specs.declared.head.Head.{Head}
 use Rattle.dubp_kept.specs.KeptChain.{Out, KeptChain, AreKept, AreStates, HasOut, Stands as KeepsOut, last_steps, most_steps, steps_of_last, Fits, StandsWithin, WaitsWithin}

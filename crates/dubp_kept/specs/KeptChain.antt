@@ -1,8 +1,8 @@
 -- What contracts see of the blocks that are kept, and what holds of them at any time. Protocol: tables; commands and answers.
 use Rattle.std.specs.Prelude.{◌≡◌, ◌≤◌, ◌<◌, ◌+◌, ◌-◌, ◌*◌, ℕ, zero, suc, List, [], ◌∷◌, length, drop, take, min, Option, Some, None, option_and_then, ⊤}
 use Rattle.std.specs.List.{AllByRecursion}
-use Rattle.dubp_undo.specs.Chains.{Stands as StandsAlong, Waits}
-use Rattle.dubp_undo.specs.Others.{Others}
+use Rattle.dubp_moving.specs.Chains.{Stands as StandsAlong, Waits}
+use Rattle.dubp_moving.specs.Others.{Others}
 use Rattle.dubp_params.specs.declared.params.Params.{Params}
 use Rattle.dubp_params.specs.Ranges.{IsInRange}
 use Rattle.dubp_block.specs.declared.block.Block.{Block}

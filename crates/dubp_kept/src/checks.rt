@@ -8,7 +8,7 @@ use crate::judges::Judges;
 use dubp_block::Block;
 use dubp_chain::Head;
 use dubp_head::Heads;
-use dubp_undo::Tables;
+use dubp_moving::Tables;
 
 // The blocks of a chain stand oldest first here; contracts speak of the chain, which is these blocks turned round.
 

@@ -13,9 +13,9 @@ use dubp_atoms::{Key, NoMemory};
 use dubp_block::Block;
 use dubp_chain::Head;
 use dubp_docs::TxHashes;
+use dubp_moving::Tables;
 use dubp_params::Params;
 use dubp_rules::Rule;
-use dubp_undo::Tables;
 use dubp_verdict::Verdicts;
 use std::alloc::Global;
 

@@ -31,9 +31,9 @@ use dubp_block::{Block, inner_hash_of};
 use dubp_chain::Head;
 use dubp_docs::TxHashes;
 use dubp_head::{Frame, Heads, augment_over, head_rules_over, stated_rules_over};
+use dubp_moving::Tables;
 use dubp_params::Params;
 use dubp_rules::{Rule, first_of};
-use dubp_undo::Tables;
 use dubp_verdict::Verdicts;
 use std::alloc::Global;
 

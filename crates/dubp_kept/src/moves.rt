@@ -13,7 +13,7 @@ use dubp_atoms::{NoMemory, Steps};
 use dubp_block::Block;
 use dubp_chain::Head;
 use dubp_docs::TxHashes;
-use dubp_undo::Tables;
+use dubp_moving::Tables;
 use std::alloc::Global;
 use std::sync::ledger::Ledger as StepBook;
 

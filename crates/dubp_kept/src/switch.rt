@@ -10,8 +10,8 @@ use dubp_atoms::{NoMemory, Steps};
 use dubp_block::Block;
 use dubp_chain::Head;
 use dubp_head::Heads;
+use dubp_moving::Tables;
 use dubp_params::Params;
-use dubp_undo::Tables;
 use std::sync::ledger::Ledger as StepBook;
 
 /// Takes memory for so many states ahead, of which there are none then. The tables stand for the chain as before.

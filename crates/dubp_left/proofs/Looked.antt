@@ -4,7 +4,7 @@ use Rattle.std.specs.Prelude.{map, option_map, is_some, if◌then◌else◌}
 use Rattle.std.specs.Option.{option_map_or}
 use Rattle.std.specs.FinMap.{get, len, empty}
 use Rattle.dubp_atoms.specs.Same.{Text}
-use Rattle.dubp_undo.specs.States.{newest, states}
+use Rattle.dubp_moving.specs.States.{newest, states}
 use Rattle.dubp_chain.specs.Words.{names}
 use Rattle.dubp_chain.specs.Chains.{Chain}
 use Rattle.dubp_chain.specs.Members.{member}

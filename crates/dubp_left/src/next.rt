@@ -7,8 +7,8 @@ use dubp_atoms::Dec;
 use dubp_block::Block;
 use dubp_chain::Head;
 use dubp_facts::Facts;
+use dubp_moving::Tables;
 use dubp_params::Params;
-use dubp_undo::Tables;
 
 /// What holds of a chain with the block on it that stands to be judged or written: its parameters, and its time in seconds.
 #[derive(Clone, Copy, Debug, PartialEq, Eq)]

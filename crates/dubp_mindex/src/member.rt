@@ -3,7 +3,8 @@ ghost use Rattle.std.specs.FinMap.{insert};
 ghost use Rattle.dubp_mindex.specs.Members.{Members, member_at, members};
 
 use dubp_atoms::{Key, NoMemory, Secret, Steps};
-use dubp_undo::{ByHash, Definition, Found, NoSummary, Tables};
+use dubp_finders::ByHash;
+use dubp_undo::{Definition, Found, NoSummary, Tables};
 use std::alloc::Global;
 use std::marker::Model;
 use std::sync::ledger::Ledger as StepBook;

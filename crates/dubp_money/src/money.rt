@@ -7,7 +7,8 @@ use crate::sources::Sources;
 use dubp_atoms::{Hash, NoMemory, Secret, Steps};
 use dubp_block::Block;
 use dubp_facts::Facts;
-use dubp_undo::{Both, ByHash, Definition, Found, Leaf, NoSummary, Tables, Three};
+use dubp_finders::ByHash;
+use dubp_undo::{Both, Definition, Found, Leaf, NoSummary, Tables, Three};
 use std::alloc::Global;
 use std::sync::ledger::Ledger as StepBook;
 

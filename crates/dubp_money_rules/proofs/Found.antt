@@ -17,7 +17,7 @@ use Rattle.dubp_money.proofs.OfLaws.{same_source_is, same_source_own, SourcesApa
 use Rattle.dubp_sindex.specs.declared.rows.SourceRow.{SourceRow}
 use Rattle.dubp_sindex.specs.Rows as rows
 use Rattle.dubp_sindex.specs.Rows.{Entry, is_named, row_at}
-use Rattle.dubp_undo.specs.States.{states}
+use Rattle.dubp_moving.specs.States.{states}
 use Rattle.dubp_sindex.specs.States.{rows_of}
 use Rattle.dubp_money.specs.OfMoneySteps.{numbered}
 use Rattle.dubp_money.specs.OfMoneySteps.{account_in, entry_of, entries_of, sources_left}

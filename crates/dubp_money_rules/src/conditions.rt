@@ -19,8 +19,8 @@ use dubp_block::Block;
 use dubp_cond::{Cond, Input, Output, Tx, Unlock, holds, read_cond};
 use dubp_left::Next;
 use dubp_money::Sources;
+use dubp_moving::Tables;
 use dubp_sindex::SourceRow;
-use dubp_undo::Tables;
 use indexmap::IndexSet;
 use std::alloc::Global;
 

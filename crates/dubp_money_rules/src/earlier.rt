@@ -6,7 +6,7 @@ ghost use Rattle.dubp_chain.specs.Tables.{has_transaction};
 use crate::{Money, Transactions};
 use dubp_atoms::Hash;
 use dubp_block::Block;
-use dubp_undo::Tables;
+use dubp_moving::Tables;
 
 /// The transactions of the chain of this money.
 #[derive(Clone, Copy)]

@@ -20,8 +20,8 @@ use dubp_atoms::NoMemory;
 use dubp_block::Block;
 use dubp_chain::Head;
 use dubp_docs::{TxHashes, all_tx_hashes};
+use dubp_moving::Tables;
 use dubp_rules::Rule;
-use dubp_undo::Tables;
 use std::alloc::Global;
 
 /// The first of the rules on money, in the order of the table, that the block breaks on the chain, or None where it keeps them all.

@@ -13,7 +13,7 @@ use dubp_block::Block;
 use dubp_cond::{Input, Tx};
 use dubp_left::Next;
 use dubp_money::Sources;
-use dubp_undo::Tables;
+use dubp_moving::Tables;
 use indexmap::IndexSet;
 
 /// Each input is an unspent source of the chain, or an output of an earlier transaction of the block, with its amount and base: rule

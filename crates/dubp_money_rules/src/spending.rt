@@ -11,8 +11,8 @@ use dubp_atoms::Hash;
 use dubp_block::Block;
 use dubp_cond::{Input, Output, SourceId, Tx};
 use dubp_money::Sources;
+use dubp_moving::Tables;
 use dubp_sindex::SourceRow;
-use dubp_undo::Tables;
 use indexmap::IndexSet;
 
 /// When the source was made that an input of the transaction of this number spends, in seconds. None where there is none.

@@ -11,7 +11,7 @@ ghost use Rattle.dubp_money_rules.specs.Lines.{IsTxInTime};
 use dubp_block::Block;
 use dubp_cond::Tx;
 use dubp_left::{Facts, Next};
-use dubp_undo::Tables;
+use dubp_moving::Tables;
 
 /// How long a transaction may wait, in seconds.
 const TX_WINDOW: u64 = 604_800;

@@ -7,7 +7,7 @@ use Rattle.dubp_block.specs.Text.{IsBlock}
 use Rattle.dubp_chain.specs.Chains.{Chain}
 use Rattle.dubp_chain.specs.Money.{made_by, made_sources, unspent, unspent_units, units_of}
 use Rattle.dubp_laws.specs.OfValidity.{IsSound, IsShort}
-use Rattle.dubp_undo.specs.States.{states}
+use Rattle.dubp_moving.specs.States.{states}
 use Rattle.dubp_sindex.specs.Rows.{Entry, AreRows, of_account}
 use Rattle.dubp_money_steps.specs.Steps as steps
 use Rattle.dubp_money_steps.specs.Steps.{rest}

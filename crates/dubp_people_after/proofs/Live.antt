@@ -23,7 +23,7 @@ use Rattle.dubp_people_views.proofs.OfSteps.{live_at_is_of_row, live_step}
 use Rattle.dubp_people_views.specs.OfLeft.{cert_entry, certification_left, certifications_left}
 use Rattle.dubp_people_views.proofs.OfLeft.{certifications-at}
 use Rattle.dubp_people_views.proofs.OfLeft.{newest-left}
-use Rattle.dubp_undo.specs.States.{newest, states}
+use Rattle.dubp_moving.specs.States.{newest, states}
 use Rattle.dubp_people_after.specs.Keys.{is_between}
 use Rattle.dubp_people_after.specs.Near.{HasIssuers, HasReceivers, is_end_of}
 

@@ -21,9 +21,9 @@ use crate::keys::{Keys, keys_of, put_all};
 use crate::near::put_rows;
 use dubp_atoms::{Hash, Key, NoMemory, Secret, Sig, Stamp, Uid};
 use dubp_block::{Block, CertLine, MemberLine};
+use dubp_moving::Tables;
 use dubp_params::Params;
 use dubp_people_views::{BlockTime, Next, Registry};
-use dubp_undo::Tables;
 use indexmap::IndexSet;
 use std::alloc::Global;
 

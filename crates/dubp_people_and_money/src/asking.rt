@@ -21,7 +21,7 @@ use dubp_chain::Head;
 use dubp_cond::CondText;
 use dubp_facts::First;
 use dubp_kept::{Judges, LeftBehind};
-use dubp_undo::Tables;
+use dubp_moving::Tables;
 use dubp_validity::Record;
 use std::alloc::Global;
 

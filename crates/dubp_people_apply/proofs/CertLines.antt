@@ -5,7 +5,7 @@ use Rattle.std.specs.Option.{option_map_or}
 use Rattle.std.specs.FinMap.{get, get-insert, insert, empty}
 use Rattle.std.proofs.lemmas.List.Sums.{fold_more}
 use Rattle.dubp_atoms.specs.Same.{Text, same_text}
-use Rattle.dubp_undo.specs.States.{newest}
+use Rattle.dubp_moving.specs.States.{newest}
 use Rattle.dubp_block.specs.declared.block.Block.{Block}
 use Rattle.dubp_block.specs.declared.block.CertLine.{CertLine}
 use Rattle.dubp_chain.specs.Chains.{Chain}

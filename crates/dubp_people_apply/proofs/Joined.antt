@@ -3,7 +3,7 @@ use Rattle.std.proofs.Common.{◌≡◌, ℕ, List, ◌∷◌, Option, Some, Non
 use Rattle.std.specs.FinMap.{get, empty, same_map, contains_key}
 use Rattle.std.proofs.lemmas.Cmp.{nat_list_cmp_total}
 use Rattle.dubp_atoms.specs.Same.{Text}
-use Rattle.dubp_undo.specs.States.{newest, states}
+use Rattle.dubp_moving.specs.States.{newest, states}
 use Rattle.dubp_block.specs.declared.block.Block.{Block}
 use Rattle.dubp_chain.specs.Chains.{Chain}
 use Rattle.dubp_chain.specs.Tables.{membership_row, certification_row, is_queued}

@@ -3,7 +3,7 @@
 use Rattle.std.specs.Prelude.{◌≡◌, ℕ, Bool, List, Option, option_map}
 use Rattle.std.specs.FinMap.{contains_key, get, empty}
 use Rattle.dubp_atoms.specs.Same.{Text}
-use Rattle.dubp_undo.specs.States.{newest}
+use Rattle.dubp_moving.specs.States.{newest}
 use Rattle.dubp_chain.specs.Tables.{MembershipRow, CertificationRow, Due}
 use Rattle.dubp_mindex.specs.Members.{Members, member_at}
 use Rattle.dubp_cindex.specs.Rows.{Rows}

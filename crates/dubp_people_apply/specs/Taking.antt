@@ -2,7 +2,7 @@
 use Rattle.std.specs.Prelude.{◌≡◌, ◌↔◌, ℕ, true, Bool, List, Option, Some, None, option_map, ⊤}
 use Rattle.std.specs.BTreeSet.{contains}
 use Rattle.dubp_atoms.specs.Same.{Text}
-use Rattle.dubp_undo.specs.States.{states}
+use Rattle.dubp_moving.specs.States.{states}
 use Rattle.dubp_block.specs.declared.block.Block.{Block}
 use Rattle.dubp_chain.specs.Chains.{Chain}
 use Rattle.dubp_chain.specs.Heads.{head_of}

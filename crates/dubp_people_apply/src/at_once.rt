@@ -2,7 +2,7 @@ ghost use Rattle.std.specs.Prelude.{◌≡◌, ◌∷◌, false, nat_le, IfOk, O
 ghost use Rattle.std.specs.Option.{option_map_or};
 ghost use Rattle.std.specs.BTreeSet.{contains};
 ghost use Rattle.dubp_atoms.specs.Same.{Text};
-ghost use Rattle.dubp_undo.specs.States.{states};
+ghost use Rattle.dubp_moving.specs.States.{states};
 ghost use Rattle.dubp_block.specs.declared.block.Block.{Block as BlockValue};
 ghost use Rattle.dubp_chain.specs.Chains.{Chain};
 ghost use Rattle.dubp_chain.specs.People.{expired};
@@ -25,7 +25,7 @@ use dubp_block::{Block, CertLine, MemberLine};
 use dubp_cindex::{CIndex, CertRow, CertRows};
 use dubp_left::{Facts, Next};
 use dubp_mindex::{MIndex, MemberRow, MemberRows};
-use dubp_undo::Tables;
+use dubp_moving::Tables;
 use std::alloc::Global;
 use std::collections::BTreeSet;
 

@@ -1,6 +1,6 @@
 ghost use Rattle.std.specs.Prelude.{◌≡◌, ℕ, ◌+◌, ◌*◌, ◌≤◌, List, ◌∷◌, length, OnOk, Option, option_map, fold, IfSome};
 ghost use Rattle.std.specs.FinMap.{insert, empty};
-ghost use Rattle.dubp_undo.specs.States.{newest};
+ghost use Rattle.dubp_moving.specs.States.{newest};
 ghost use Rattle.dubp_chain.specs.Chains.{Chain};
 ghost use Rattle.dubp_chain.specs.Tables.{CertificationRow};
 ghost use Rattle.dubp_cindex.specs.Rows.{Rows};
@@ -19,7 +19,7 @@ use dubp_block::{Block, CertLine};
 use dubp_cindex::{CIndex, CertRow, CertRows};
 use dubp_expiry::{Due, Entries, Queue};
 use dubp_left::{Facts, Next};
-use dubp_undo::Tables;
+use dubp_moving::Tables;
 use std::sync::ledger::Ledger as StepBook;
 
 /// The end of the row leaves the queue.

@@ -1,5 +1,5 @@
 ghost use Rattle.std.specs.Prelude.{◌≡◌, ℕ, ◌+◌, ◌*◌, ◌≤◌, List, ◌∷◌, Bool, false, fold, length, OnOk, OnErr};
-ghost use Rattle.dubp_undo.specs.States.{states};
+ghost use Rattle.dubp_moving.specs.States.{states};
 ghost use Rattle.dubp_chain.specs.Chains.{Chain};
 ghost use Rattle.dubp_left.specs.OfValidity.{IsSound};
 ghost use Rattle.dubp_iindex.specs.Rows.{Rows};
@@ -9,7 +9,7 @@ ghost use Rattle.dubp_people_apply.specs.Writing.{row_of, created, with_member, 
 use dubp_atoms::{Key, NoMemory, Steps};
 use dubp_block::{Block, IdentityLine, MemberLine};
 use dubp_iindex::{IIndex, IdentityRow, IdentityRows};
-use dubp_undo::Tables;
+use dubp_moving::Tables;
 use std::sync::ledger::Ledger as StepBook;
 
 /// Writes what the block makes of the identities: at most 4 steps for each line of Identities, Joiners and Excluded.

@@ -16,7 +16,7 @@ use dubp_block::{Block, MemberLine, RevokedLine};
 use dubp_expiry::{Due, Entries, Queue};
 use dubp_left::{Facts, Next};
 use dubp_mindex::{MIndex, MemberRow, MemberRows};
-use dubp_undo::Tables;
+use dubp_moving::Tables;
 use std::sync::ledger::Ledger as StepBook;
 
 /// A line of Joiners or Actives gives its key a membership made anew.

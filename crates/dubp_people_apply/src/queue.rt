@@ -10,7 +10,7 @@ ghost use Rattle.dubp_people_apply.specs.Lines.{EndsAreSmall, IsReplaced};
 use dubp_atoms::{Key, NoMemory, Steps};
 use dubp_expiry::{Due, Entries, Queue};
 use dubp_mindex::MemberRow;
-use dubp_undo::Tables;
+use dubp_moving::Tables;
 use std::sync::ledger::Ledger as StepBook;
 
 /// The time so long after another, where it can be told.

@@ -9,7 +9,7 @@ ghost use Rattle.dubp_validity.specs.declared.record.Record.TheVariants.{Create,
 use dubp_atoms::{Key, NoMemory};
 use dubp_block::{Block, CertLine, IdentityLine, MemberLine, RevokedLine};
 use dubp_left::Facts;
-use dubp_undo::Tables;
+use dubp_moving::Tables;
 use dubp_validity::Record;
 
 /// When the membership of the line was made, in seconds: 0 where no block has its stamp.

@@ -25,7 +25,7 @@ use dubp_cindex::{CIndex, CertRow, CertRows};
 use dubp_expiry::{Behind, Due, Entries, Queue};
 use dubp_left::Next;
 use dubp_mindex::{MIndex, MemberRow, MemberRows};
-use dubp_undo::Tables;
+use dubp_moving::Tables;
 use std::collections::BTreeSet;
 use std::sync::ledger::Ledger as StepBook;
 

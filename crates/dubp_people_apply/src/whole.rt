@@ -18,7 +18,7 @@ use dubp_cindex::{CIndex, CertRows};
 use dubp_expiry::{Entries, Queue};
 use dubp_left::{Facts, Next};
 use dubp_mindex::{MIndex, MemberRows};
-use dubp_undo::Tables;
+use dubp_moving::Tables;
 use dubp_validity::Record;
 use std::alloc::Global;
 use std::sync::ledger::Ledger as StepBook;

@@ -6,8 +6,8 @@ ghost use Rattle.dubp_people_checks.specs.Asking.{IsAskedOf};
 use crate::Next;
 use dubp_atoms::NoMemory;
 use dubp_block::Block;
+use dubp_moving::Tables;
 use dubp_people_after::{After, Registry, WithBlock};
-use dubp_undo::Tables;
 use dubp_verdict::Verdicts;
 use std::alloc::Global;
 

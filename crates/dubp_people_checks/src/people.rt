@@ -13,9 +13,9 @@ use crate::{Next, next_of};
 use dubp_atoms::NoMemory;
 use dubp_block::Block;
 use dubp_chain::Head;
+use dubp_moving::Tables;
 use dubp_people_after::{After, Registry};
 use dubp_rules::Rule;
-use dubp_undo::Tables;
 use dubp_verdict::Verdicts;
 use std::alloc::Global;
 

@@ -15,9 +15,9 @@ use crate::next_web::NextWeb;
 use crate::two_chains::{Judged, TwoChains};
 use dubp_atoms::{Dec, Key, NoMemory};
 use dubp_block::{Block, MemberLine};
+use dubp_moving::Tables;
 use dubp_params::Params;
 use dubp_people_after::{After, Next, Registry, WithBlock};
-use dubp_undo::Tables;
 use dubp_wot::{KnownIssuers, Sought, Web, reaches_among_known, sentries};
 use std::alloc::Global;
 

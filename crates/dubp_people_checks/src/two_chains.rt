@@ -15,9 +15,9 @@ use crate::certified::{Certified, Counts, certified_of};
 use dubp_atoms::{Key, NoMemory, Secret};
 use dubp_block::Block;
 use dubp_expiry::{Behind, Due};
+use dubp_moving::Tables;
 use dubp_params::Params;
 use dubp_people_after::{After, Next, Registry, WithBlock};
-use dubp_undo::Tables;
 use std::alloc::Global;
 
 /// A chain, and the same chain with a block that stands to be judged on it. Only `issuers_before` and `certified` take memory.

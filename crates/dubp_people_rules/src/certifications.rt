@@ -11,8 +11,8 @@ ghost use Rattle.dubp_people_rules.specs.Lines.{IsCertificationInTime, HasIssuer
 use crate::windows::{has_waited, has_waited_since, is_in_window, is_past};
 use dubp_block::{Block, CertLine};
 use dubp_cindex::CertRow;
+use dubp_moving::Tables;
 use dubp_registry::{Next, Registry};
-use dubp_undo::Tables;
 
 /// The version of blocks that may renew a certification.
 const RENEWING_VERSION: u64 = 11;

@@ -13,8 +13,8 @@ ghost use Rattle.dubp_people_rules.specs.Lines.{IsKicked};
 
 use dubp_atoms::{Key, NoMemory};
 use dubp_block::Block;
+use dubp_moving::Tables;
 use dubp_registry::Registry;
-use dubp_undo::Tables;
 use std::alloc::Global;
 use std::collections::BTreeSet;
 

@@ -11,8 +11,8 @@ ghost use Rattle.dubp_people_rules.specs.Lines.{IsIdentityInTime, IsUidNew, IsId
 use crate::windows::is_in_window;
 use dubp_atoms::Key;
 use dubp_block::{Block, IdentityLine};
+use dubp_moving::Tables;
 use dubp_registry::{Next, Registry};
-use dubp_undo::Tables;
 
 /// The most lines of Identities that a chain has.
 const MOST_IDENTITIES: u64 = 1_000_000;

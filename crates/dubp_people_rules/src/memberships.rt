@@ -12,8 +12,8 @@ use crate::windows::{has_waited_since, is_in_window};
 use dubp_atoms::Key;
 use dubp_block::{Block, MemberLine};
 use dubp_mindex::MemberRow;
+use dubp_moving::Tables;
 use dubp_registry::{Next, Registry};
-use dubp_undo::Tables;
 
 /// The version of blocks whose memberships need not be apart.
 const FIRST_VERSION: u64 = 10;

@@ -11,8 +11,8 @@ use dubp_atoms::Currency;
 use dubp_block::{Block, RevokedLine};
 use dubp_docs::revocation_hash;
 use dubp_iindex::IdentityRow;
+use dubp_moving::Tables;
 use dubp_registry::Registry;
-use dubp_undo::Tables;
 use dubp_verdict::Verdicts;
 
 /// Each key of Revoked has an identity in the chain and is not revoked in it: rule `G83`.

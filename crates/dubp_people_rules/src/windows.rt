@@ -5,8 +5,8 @@ ghost use Rattle.dubp_validity.specs.PeopleRules.{IsInWindow};
 ghost use Rattle.dubp_people_rules.specs.Lines.{IsPast};
 
 use dubp_block::Block;
+use dubp_moving::Tables;
 use dubp_registry::Registry;
-use dubp_undo::Tables;
 
 /// Whether what was made at this time is at most `window` seconds old at `now`. Times are in seconds; what has none is not.
 pub(crate) fn is_in_window(now: u64, window: u64, made: Option<u64>) -> bool

@@ -13,7 +13,7 @@ use Rattle.std.proofs.lemmas.Simd.{map-map}
 use Rattle.dubp_atoms.specs.Same.{Text, same_text}
 use Rattle.dubp_block.specs.declared.block.IdentityLine.{IdentityLine}
 use Rattle.dubp_block.specs.declared.block.CertLine.{CertLine}
-use Rattle.dubp_undo.specs.States.{newest, states}
+use Rattle.dubp_moving.specs.States.{newest, states}
 use Rattle.dubp_chain.specs.Words.{names, marked, in_order}
 use Rattle.dubp_chain.specs.Chains.{Chain, params}
 use Rattle.dubp_chain.specs.Members.{member}

@@ -8,7 +8,7 @@ use crate::Registry;
 use dubp_atoms::{Key, NoMemory};
 use dubp_block::Block;
 use dubp_cindex::CertRow;
-use dubp_undo::Tables;
+use dubp_moving::Tables;
 use std::alloc::Global;
 
 /// A certification that lives.

@@ -13,8 +13,8 @@ use crate::keys::push;
 use crate::{Registry, Standing};
 use dubp_atoms::{Dec, Key, NoMemory};
 use dubp_block::Block;
+use dubp_moving::Tables;
 use dubp_params::Params;
-use dubp_undo::Tables;
 use dubp_wot::{Web, d_sen, reaches_among};
 use std::alloc::Global;
 

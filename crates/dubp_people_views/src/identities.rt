@@ -10,7 +10,7 @@ use crate::{First, Registry};
 use dubp_atoms::{Key, Uid};
 use dubp_block::Block;
 use dubp_mindex::MemberRow;
-use dubp_undo::Tables;
+use dubp_moving::Tables;
 
 /// What is told of an identity.
 #[derive(Clone, Copy, Debug, PartialEq, Eq)]

@@ -6,7 +6,7 @@ ghost use Rattle.dubp_validity.specs.Rules.{IsSound};
 use crate::Registry;
 use dubp_atoms::{Key, NoMemory};
 use dubp_block::Block;
-use dubp_undo::Tables;
+use dubp_moving::Tables;
 use std::alloc::Global;
 
 /// The keys that the chain has to exclude, by key.

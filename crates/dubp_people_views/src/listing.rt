@@ -5,8 +5,8 @@ ghost use Rattle.dubp_registry.specs.OfValidity.{IsSound};
 
 use dubp_atoms::{Key, NoMemory};
 use dubp_block::Block;
+use dubp_moving::Tables;
 use dubp_registry::Registry;
-use dubp_undo::Tables;
 use std::alloc::Global;
 
 /// The members, by key.

@@ -9,9 +9,9 @@ ghost use Rattle.dubp_people_views.specs.Counting.{is_new_member, is_old_member}
 
 use dubp_atoms::{Key, NoMemory, Secret};
 use dubp_block::{Block, MemberLine};
+use dubp_moving::Tables;
 use dubp_registry::Registry;
 use dubp_sets::{insert, set_of};
-use dubp_undo::Tables;
 use indexmap::IndexSet;
 use std::alloc::Global;
 

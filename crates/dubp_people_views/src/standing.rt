@@ -6,8 +6,8 @@ ghost use Rattle.dubp_registry.specs.OfValidity.{IsSound};
 
 use dubp_atoms::{Key, NoMemory, Secret};
 use dubp_block::Block;
+use dubp_moving::Tables;
 use dubp_registry::Registry;
-use dubp_undo::Tables;
 use dubp_wot::Web;
 use std::alloc::Global;
 

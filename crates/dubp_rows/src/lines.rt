@@ -7,8 +7,8 @@ ghost use Rattle.dubp_validity.specs.Rules.{IsSound};
 use dubp_atoms::NoMemory;
 use dubp_block::Block;
 use dubp_money::Facts;
+use dubp_moving::Tables;
 use dubp_people_apply::put_line_records;
-use dubp_undo::Tables;
 use dubp_validity::Record;
 use std::alloc::Global;
 

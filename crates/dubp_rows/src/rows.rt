@@ -16,7 +16,7 @@ use dubp_block::Block;
 use dubp_chain::Head;
 use dubp_kept::LeftBehind;
 use dubp_money::Facts;
-use dubp_undo::Tables;
+use dubp_moving::Tables;
 use dubp_validity::Record;
 use std::alloc::Global;
 

@@ -5,7 +5,9 @@ ghost use Rattle.dubp_sindex.specs.Derived.{measure};
 use crate::link::Link;
 use crate::origins::Name;
 use dubp_atoms::Secret;
-use dubp_undo::{ByHash, ByNumber, Definition, Found, Least, Measure, NoSummary, Three};
+use dubp_finders::{ByHash, ByNumber};
+use dubp_least::{Least, Measure};
+use dubp_undo::{Definition, Found, NoSummary, Three};
 use std::marker::Model;
 
 /// An unspent source.

@@ -13,7 +13,9 @@ use crate::rows::{Balance, NumberedRows, SourceRows, SourceTables};
 use arrayvec::ArrayVec;
 use dubp_atoms::{Key, Line, NoMemory, Secret, Steps};
 use dubp_cond::{Cond, put_cond};
-use dubp_undo::{ByHash, ByNumber, Found, Least, NoSummary, Tables, Three};
+use dubp_finders::{ByHash, ByNumber};
+use dubp_least::Least;
+use dubp_undo::{Found, NoSummary, Tables, Three};
 use std::alloc::Global;
 use std::sync::ledger::Ledger as StepBook;
 

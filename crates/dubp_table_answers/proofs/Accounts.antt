@@ -12,7 +12,7 @@ use Rattle.dubp_chain.specs.Chains.{Chain}
 use Rattle.dubp_chain.specs.Money.{Source, units_of, is_left, made_sources, cleared, unspent, balance, sources_of}
 use Rattle.dubp_lists.proofs.Elements.{IsIn, is_false, in_all, in_map, in_filter, filter_on}
 use Rattle.dubp_lists.proofs.InOrder.{same_text_is, same_text_own}
-use Rattle.dubp_undo.specs.States.{states}
+use Rattle.dubp_moving.specs.States.{states}
 use Rattle.dubp_sindex.specs.Numbering.{number_of}
 use Rattle.dubp_sindex.specs.Rows.{units_of_entry, is_of, of_account, units_in}
 use Rattle.dubp_sindex.specs.States.{rows_of}

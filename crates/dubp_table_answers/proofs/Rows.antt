@@ -3,7 +3,7 @@ use Rattle.std.proofs.Common.{◌≡◌, ℕ, List, [], ◌∷◌, Some, None, o
 use Rattle.dubp_atoms.specs.Same.{Text}
 use Rattle.dubp_chain.specs.Chains.{Chain}
 use Rattle.dubp_chain.specs.Money.{Source, made_sources, sources_of}
-use Rattle.dubp_undo.specs.States.{states}
+use Rattle.dubp_moving.specs.States.{states}
 use Rattle.dubp_sindex.specs.Numbering.{number_of}
 use Rattle.dubp_sindex.specs.Rows.{Entry, of_account}
 use Rattle.dubp_sindex.specs.States.{rows_of}

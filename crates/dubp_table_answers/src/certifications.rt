@@ -10,8 +10,8 @@ use arrayvec::ArrayVec;
 use dubp_answers::{add, none_text, put_spaced};
 use dubp_atoms::{Key, Line, NoMemory, put_bytes};
 use dubp_block::Block;
+use dubp_moving::Tables;
 use dubp_people_views::{CertificationView, Registry, certs};
-use dubp_undo::Tables;
 use std::alloc::Global;
 
 /// The answer to CERTS: a line for each live certification that the key received, by issuer, then one for each that it issued, by

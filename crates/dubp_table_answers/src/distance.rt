@@ -11,8 +11,8 @@ use arrayvec::ArrayVec;
 use dubp_answers::{put_none, put_spaced};
 use dubp_atoms::{Key, Line, NoMemory, put_bytes};
 use dubp_block::Block;
+use dubp_moving::Tables;
 use dubp_people_views::{DistanceView, Registry, distance};
-use dubp_undo::Tables;
 use std::alloc::Global;
 
 /// The answer to DISTANCE: how many of the sentries reach the key, how many there are beside it, and whether that is near enough, or

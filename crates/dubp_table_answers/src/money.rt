@@ -10,7 +10,7 @@ use dubp_answers::put_spaced;
 use dubp_atoms::{Line, put_bytes};
 use dubp_block::Block;
 use dubp_cond::CondText;
-use dubp_undo::Tables;
+use dubp_moving::Tables;
 
 /// The answer to MONEY: the units that the chain issued, those that are unspent and those that were cleared; each is 0 where the
 /// chain is empty. It takes no memory.

@@ -10,8 +10,8 @@ use dubp_atoms::NoMemory;
 use dubp_block::Block;
 use dubp_cond::{CondText, SourceId};
 use dubp_money::{Money, Sources};
+use dubp_moving::Tables;
 use dubp_sindex::SourceRow;
-use dubp_undo::Tables;
 use std::alloc::Global;
 
 /// The units that the condition of this text has. It takes no memory.

@@ -10,8 +10,8 @@ use arrayvec::ArrayVec;
 use dubp_answers::{put_none, put_spaced};
 use dubp_atoms::{Key, Line, Uid, put_bytes};
 use dubp_block::Block;
+use dubp_moving::Tables;
 use dubp_people_views::{IdentityState, IdentityView, Registry, identity, key_of};
-use dubp_undo::Tables;
 
 /// The answer to IDENTITY: what is told of the identity of the key, or `NONE` where it has none. It takes no memory.
 pub fn identity_line(registry: &Registry, key: Key) -> Line

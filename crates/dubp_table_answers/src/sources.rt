@@ -10,7 +10,7 @@ use dubp_answers::sources_lines;
 use dubp_atoms::NoMemory;
 use dubp_block::Block;
 use dubp_cond::CondText;
-use dubp_undo::Tables;
+use dubp_moving::Tables;
 use std::alloc::Global;
 
 /// The answer to SOURCES: a line for each unspent source of the condition of this text, in the order of making, and END.

@@ -1,7 +1,9 @@
 ghost use Rattle.std.specs.Prelude.{◌≡◌, ◌<◌, ℕ, None};
 
 use dubp_atoms::{NoMemory, Secret, Steps};
-use dubp_undo::{ByHash, ByNumber, ByOrder, Finder, Least, Measure, UndoTable};
+use dubp_finders::{ByHash, ByNumber};
+use dubp_least::{Least, Measure};
+use dubp_undo::{ByOrder, Finder, UndoTable};
 use std::alloc::Global;
 use std::marker::Brand;
 use std::mem::forget;

@@ -3,8 +3,8 @@ use Rattle.std.proofs.Common.{◌≡◌, ℕ, ◌+◌, ◌<◌, ◌≤◌, List,
 use Rattle.std.specs.declared.cmp.Ordering.{Ordering}
 use Rattle.dubp_undo.specs.Definition.{IsAt}
 use Rattle.std.proofs.lemmas.List.{length_push}
-use Rattle.dubp_undo.specs.Others.{but_last, but_last_push}
-use Rattle.dubp_undo.specs.MovingTable.{one_more, first_count, last_count, SameValues}
+use Rattle.dubp_moving.specs.Others.{but_last, but_last_push}
+use Rattle.dubp_journal.specs.MovingTable.{one_more, first_count, last_count, SameValues}
 use Rattle.dubp_undo.specs.Turned.{turned, last_from}
 
 module _ {M : Type 0} where

@@ -1,7 +1,7 @@
 -- The kept maps as others see them: the last first, each with how many keys were set to it from the one before it.
 use Rattle.std.proofs.Common.{ℕ, List, [], ◌∷◌, ◌++◌}
-use Rattle.dubp_undo.specs.MovingTable.{MovingTable}
-use Rattle.dubp_undo.specs.Others.{Others}
+use Rattle.dubp_journal.specs.MovingTable.{MovingTable}
+use Rattle.dubp_moving.specs.Others.{Others}
 
 module _ {M : Type 0} where
   -- n keys were set to the oldest

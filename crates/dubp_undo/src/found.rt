@@ -1,16 +1,13 @@
 ghost use Rattle.std.specs.Prelude.{◌≡◌, ◌+◌, ◌≤◌, ◌∷◌, [], List, Option, length, None, OnOk, OnErr, IsOk, IfSome, IfNone, ⊤};
 ghost use Rattle.std.specs.BTreeMap.Range.{IsLeBy};
-ghost use Rattle.dubp_undo.specs.Others.{Others};
-ghost use Rattle.dubp_undo.specs.MovingTable.{get, Puts, IsLeast, IsLowest, HasNone, IsPlaced, Places, IsAfter};
+ghost use Rattle.dubp_moving.specs.Others.{Others};
+ghost use Rattle.dubp_journal.specs.MovingTable.{get, Puts, IsLeast, IsLowest, HasNone, IsPlaced, Places, IsAfter};
 ghost use Rattle.dubp_undo.specs.Definition.{IsAt};
 ghost use Rattle.dubp_undo.specs.Turned.{others_of, count_of};
 
-use crate::UndoTable;
-use crate::finder::Finder;
-use crate::least::{Least, Measure};
-use crate::moving::{Definition, Tables};
-use crate::summary::Summary;
 use dubp_atoms::{NoMemory, Steps};
+use dubp_journal::{Finder, Summary, TellsLeast, UndoTable};
+use dubp_moving::{Definition, Tables};
 use std::alloc::Global;
 use std::marker::PhantomData;
 use std::sync::ledger::Ledger as StepBook;
@@ -87,18 +84,18 @@ impl<B, K: Copy, V: Copy + Eq, D: Definition<B, K, V>, F: Finder<K>, S: Summary<
     ghost at_is = { λ t c is. is };
 }
 
-impl<B, K: Copy, V: Copy + Eq, D: Definition<B, K, V>, F: Finder<K>, M: Measure<V>> Found<
+impl<B, K: Copy, V: Copy + Eq, D: Definition<B, K, V>, F: Finder<K>, S: TellsLeast<V>> Found<
     B,
     K,
     V,
     D,
     F,
-    Least<M>,
+    S,
 > {
     /// An entry of the table whose value has the least measure, in one look. `None` where the table has no entry.
     pub fn lowest(&self) -> Option<(K, V)>
-        ensures found { IfSome result (IsLowest F.cmp M.measure (⟦<Found<B, K, V, D, F, Least<M>> as Tables<B>>⟧.now self.now)) }
-        ensures none { IfNone result (HasNone F.cmp (⟦<Found<B, K, V, D, F, Least<M>> as Tables<B>>⟧.now self.now) (λ q. ⊤)) }
+        ensures found { IfSome result (IsLowest F.cmp S.measure (⟦<Found<B, K, V, D, F, S> as Tables<B>>⟧.now self.now)) }
+        ensures none { IfNone result (HasNone F.cmp (⟦<Found<B, K, V, D, F, S> as Tables<B>>⟧.now self.now) (λ q. ⊤)) }
     {
         self.table.lowest()
     }

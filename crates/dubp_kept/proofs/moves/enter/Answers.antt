@@ -1,5 +1,5 @@
 use Rattle.std.proofs.Common.{◌∙◌, ap, sym, ◌∷◌, arith}
-use Rattle.dubp_undo.specs.Chains.{stands_now}
+use Rattle.dubp_moving.specs.Chains.{stands_now}
 use Rattle.dubp_kept.specs.KeptChain.{Fits}
 use Rattle.dubp_kept.proofs.Within.{within_more, within_back, waits_same}
 use Rattle.dubp_kept.proofs.moves.enter.Goals as goal

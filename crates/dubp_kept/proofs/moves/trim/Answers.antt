@@ -1,5 +1,5 @@
 use Rattle.std.proofs.Common.{◌∙◌, length, ap, arith}
-use Rattle.dubp_undo.specs.Others.{length_but_last}
+use Rattle.dubp_moving.specs.Others.{length_but_last}
 use Rattle.dubp_kept.proofs.Within.{within_fewer, waits_same}
 use Rattle.dubp_kept.proofs.moves.trim.Goals as goal
 

@@ -2,7 +2,7 @@ use Rattle.std.proofs.Common.{refl, ◌≡◌, ◌+◌, ◌++◌, ◌∙◌, len
 use Rattle.std.proofs.lemmas.List.{length-drop, length-reverse}
 use Rattle.dubp_chain.specs.Heads.{heads_of}
 use Rattle.dubp_chain.specs.Chains.{Chain}
-use Rattle.dubp_undo.specs.Chains.{stands_now}
+use Rattle.dubp_moving.specs.Chains.{stands_now}
 use Rattle.dubp_kept.specs.KeptChain.{steps_of_last, Fits, StandsWithin, WaitsWithin}
 use Rattle.dubp_kept.specs.Moves.{HasMoved}
 use Rattle.dubp_kept.proofs.Moved.{length_heads, length_push, moved_back, time_small}

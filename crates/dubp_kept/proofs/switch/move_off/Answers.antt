@@ -1,7 +1,7 @@
 use Rattle.std.proofs.Common.{drop, ◌++◌, ◌∙◌, length, reverse, ap, option_to_list, arith, refl}
 use Rattle.std.proofs.lemmas.List.{length-reverse}
 use Rattle.dubp_chain.specs.Chains.{Chain}
-use Rattle.dubp_undo.specs.Chains.{stands_now}
+use Rattle.dubp_moving.specs.Chains.{stands_now}
 use Rattle.dubp_kept.specs.KeptChain.{Fits, StandsWithin, WaitsWithin}
 use Rattle.dubp_kept.proofs.Moved.{length_heads, moved_on}
 use Rattle.dubp_kept.proofs.Within.{last_within, steps_on, within_held}

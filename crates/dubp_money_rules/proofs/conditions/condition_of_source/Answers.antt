@@ -1,5 +1,5 @@
 use Rattle.std.proofs.Common.{ap, refl, sym, ◌∙◌, ◌≡◌, ℕ, Some, None, option_map}
-use Rattle.dubp_undo.specs.States.{states}
+use Rattle.dubp_moving.specs.States.{states}
 use Rattle.dubp_chain.specs.Money.{unspent}
 use Rattle.dubp_validity.specs.MoneyRules.{spent}
 use Rattle.dubp_sindex.specs.Accounts.{accounts}

@@ -1,5 +1,5 @@
 use Rattle.std.proofs.Common.{ap, ◌∙◌}
-use Rattle.dubp_undo.specs.States.{states}
+use Rattle.dubp_moving.specs.States.{states}
 use Rattle.dubp_sindex.specs.Accounts.{accounts}
 use Rattle.dubp_money.specs.OfMoneySteps.{sources_left}
 use Rattle.dubp_money_rules.specs.Spending.{time_of_row}

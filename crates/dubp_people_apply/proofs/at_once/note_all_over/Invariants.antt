@@ -1,7 +1,7 @@
 use Rattle.std.proofs.Common.{◌≡◌, take, fold}
 use Rattle.std.specs.BTreeSet.{contains}
 use Rattle.dubp_atoms.specs.Same.{Text}
-use Rattle.dubp_undo.specs.States.{states}
+use Rattle.dubp_moving.specs.States.{states}
 use Rattle.dubp_chain.specs.Chains.{Chain}
 use Rattle.dubp_left.specs.Left.{memberships_left}
 use Rattle.dubp_left.specs.Next.{IsWritten}

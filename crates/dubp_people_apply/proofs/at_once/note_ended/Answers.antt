@@ -2,7 +2,7 @@ use Rattle.std.proofs.Common.{ap, sym, ◌∙◌, ◌&&◌, ◌||◌, le-leb}
 use Rattle.std.proofs.lemmas.Bool.{lt-leb}
 use Rattle.std.proofs.lemmas.Result.{on_ok_weaker}
 use Rattle.std.specs.BTreeSet.{contains}
-use Rattle.dubp_undo.specs.States.{states}
+use Rattle.dubp_moving.specs.States.{states}
 use Rattle.dubp_cindex.specs.Rows.{lives}
 use Rattle.dubp_left.specs.Left.{certifications_left}
 use Rattle.dubp_steps.specs.Ordered.{pair_cmp}

@@ -2,7 +2,7 @@ use Rattle.std.proofs.Common.{ap, refl, ◌∙◌, ◌&&◌, ◌||◌, not, le-l
 use Rattle.std.proofs.lemmas.Bool.{lt-leb}
 use Rattle.std.proofs.lemmas.Result.{on_ok_weaker}
 use Rattle.std.specs.BTreeSet.{contains}
-use Rattle.dubp_undo.specs.States.{states}
+use Rattle.dubp_moving.specs.States.{states}
 use Rattle.dubp_chain.specs.People.{expired}
 use Rattle.dubp_left.specs.Left.{memberships_left}
 use Rattle.dubp_left.proofs.Looked.{membership-look}

@@ -1,5 +1,5 @@
 use Rattle.std.proofs.Common.{◌∷◌, ◌∙◌, false, fold, sym, subst}
-use Rattle.dubp_undo.specs.States.{states}
+use Rattle.dubp_moving.specs.States.{states}
 use Rattle.dubp_iindex.specs.contracts.index.IIndexTablesIdentityRows.TheImpl as tables
 use Rattle.dubp_left.specs.Left.{identities_left}
 use Rattle.dubp_people_apply.specs.Writing.{created, with_member, joined, AreNewLines}

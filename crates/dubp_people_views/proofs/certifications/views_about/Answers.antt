@@ -1,5 +1,5 @@
 use Rattle.std.proofs.Common.{◌∙◌}
-use Rattle.dubp_undo.specs.States.{states}
+use Rattle.dubp_moving.specs.States.{states}
 use Rattle.dubp_people_views.specs.OfLeft.{certifications_left}
 use Rattle.dubp_people_views.proofs.Certified.{views_told}
 use Rattle.dubp_people_views.proofs.certifications.views_about.Goals as goal

@@ -1,6 +1,6 @@
 use Rattle.std.proofs.Common.{refl, ap, ◌∙◌}
 use Rattle.std.specs.FinMap.{empty}
-use Rattle.dubp_undo.specs.States.{states}
+use Rattle.dubp_moving.specs.States.{states}
 use Rattle.dubp_iindex.specs.Rows.{key_with}
 use Rattle.dubp_people_views.specs.OfLeft.{identities_left}
 use Rattle.dubp_people_views.proofs.OfLeft.{newest-left}

@@ -1,6 +1,6 @@
 use Rattle.std.proofs.Common.{sym, ◌∙◌}
 use Rattle.dubp_sindex.specs.Accounts.{accounts}
-use Rattle.dubp_undo.specs.States.{states}
+use Rattle.dubp_moving.specs.States.{states}
 use Rattle.dubp_money.specs.OfMoneySteps.{sources_left}
 use Rattle.dubp_table_answers.proofs.Accounts.{units_found, units_none}
 use Rattle.dubp_table_answers.proofs.money_views.units_of.Goals as goal

@@ -1,5 +1,5 @@
 use Rattle.std.proofs.Common.{arith}
-use Rattle.dubp_undo.specs.Others.{same_others}
+use Rattle.dubp_moving.specs.Others.{same_others}
 use Rattle.dubp_undo.proofs.Turned.{more, counts}
 use Rattle.dubp_undo.proofs.found.Found.set.Goals as goal
 

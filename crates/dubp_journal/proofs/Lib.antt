@@ -1,0 +1,15 @@
+pub mod Alike
+pub mod Counting
+pub mod Covering
+pub mod Forgetting
+pub mod Giving
+pub mod Journals
+pub mod Live
+pub mod Lowest
+pub mod Naming
+pub mod Placed
+pub mod Placing
+pub mod Results
+pub mod Setting
+pub mod Turning
+pub mod Walks

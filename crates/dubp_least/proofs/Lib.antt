@@ -1,0 +1,4 @@
+pub mod Building
+pub mod Nodes
+pub mod Playing
+pub mod Winning

@@ -1,9 +1,0 @@
-use Rattle.dubp_undo.specs.Matches.{measure_at}
-use Rattle.dubp_undo.proofs.Playing.{IsPlayedBelow}
-use Rattle.dubp_undo.proofs.matches.play_above.Given as goal
-
-abbrev pub invariant-loop-k : goal.invariant-loop-k
-invariant-loop-k g l = IsPlayedBelow (measure_at g.M.Measure.measure l.values) l.winners l.k
-
-abbrev pub decreases-loop-k : goal.decreases-loop-k
-decreases-loop-k g l = l.k

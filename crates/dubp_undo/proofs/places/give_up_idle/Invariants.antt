@@ -1,5 +1,0 @@
-use Rattle.dubp_undo.specs.Slots.{GivesUp}
-use Rattle.dubp_undo.proofs.places.give_up_idle.Given as goal
-
-abbrev pub invariant-loop-done : goal.invariant-loop-done
-invariant-loop-done g l = GivesUp g.F.Finder.cmp l.uses l.slots l.fn.keys.items (g.F.Finder.slot_of l.fn.finder) l.keys.items (g.F.Finder.slot_of l.finder)
