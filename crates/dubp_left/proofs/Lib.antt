@@ -4,6 +4,7 @@ pub mod Lines
 pub mod Queued
 pub mod Times
 pub mod Looked
+pub mod Webs
 pub mod OfSteps
 pub mod OfLists
 pub mod OfFacts

@@ -3,4 +3,7 @@ pub mod Folds
 pub mod InOrder
 pub mod LastLines
 pub mod Once
+pub mod OneMore
+pub mod Passing
+pub mod Rests
 pub mod Sums

@@ -6,9 +6,9 @@ use Rattle.std.specs.List.{list_any}
 use Rattle.std.proofs.lemmas.List.Folds.{list_any-append}
 use Rattle.indexmap.specs.IndexMap.{IndexMap, get}
 use Rattle.dubp_atoms.specs.Same.{Text, same_text}
-use Rattle.dubp_people_views.proofs.OfLists.{same_text_is}
+use Rattle.dubp_registry.proofs.OfLists.{same_text_is}
 use Rattle.dubp_people_after.specs.Partners.{is_partner}
-use Rattle.dubp_people_views.proofs.Lists.{text_flip}
+use Rattle.dubp_lists.proofs.OneMore.{text_flip}
 
 -- a key put into a set that may have it
 pub put_or : (t s : Bool) → cond t true s ≡ (s || t)

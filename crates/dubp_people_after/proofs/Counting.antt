@@ -8,10 +8,10 @@ use Rattle.dubp_block.specs.declared.block.Block.{Block}
 use Rattle.dubp_chain.specs.Words.{names}
 use Rattle.dubp_chain.specs.Chains.{Chain}
 use Rattle.dubp_chain.specs.Live.{live, received, stock}
-use Rattle.dubp_people_views.proofs.OfLists.{and_left, and_right, any_in, in_any, in_filter, kept_in}
-use Rattle.dubp_people_views.proofs.OfLists.{same_text_is}
-use Rattle.dubp_people_views.proofs.OfSteps.{received_is_count, stock_is_count}
-use Rattle.dubp_people_views.proofs.Lists.{any_more, text_flip}
+use Rattle.dubp_registry.proofs.OfLists.{and_left, and_right, any_in, in_any, in_filter, kept_in}
+use Rattle.dubp_registry.proofs.OfLists.{same_text_is}
+use Rattle.dubp_registry.proofs.OfSteps.{received_is_count, stock_is_count}
+use Rattle.dubp_lists.proofs.OneMore.{any_more, text_flip}
 use Rattle.dubp_people_after.specs.Near.{HasIssuers, HasReceivers, is_issuer, is_near_issuer, is_receiver}
 
 -- ---- keys once, of which some are kept

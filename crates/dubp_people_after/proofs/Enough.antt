@@ -7,9 +7,9 @@ use Rattle.dubp_block.specs.declared.block.CertLine.{CertLine}
 use Rattle.dubp_block.specs.declared.block.MemberLine.{MemberLine}
 use Rattle.dubp_chain.specs.Chains.{Chain, params}
 use Rattle.dubp_chain.specs.Live.{received, stock}
-use Rattle.dubp_people_views.specs.OfValidity.{JoinersAreCertified, StocksAreKept}
+use Rattle.dubp_registry.specs.OfValidity.{JoinersAreCertified, StocksAreKept}
 use Rattle.dubp_people_after.specs.Lines.{HasEnough, KeepsStock}
-use Rattle.dubp_people_after.proofs.Rests.{Rests, rests_fails, rests_all}
+use Rattle.dubp_lists.proofs.Rests.{Rests, rests_fails, rests_all}
 
 module _ (c : Chain) (b : Block) where
   pub enough_told : (line : MemberLine) (p : Params) (n : ℕ) (answer : Bool) → p ≡ params (b ∷ c) → n ≡ received (b ∷ c) line.key → (IsTrue answer ↔ (p.sig_qty ≤ n)) → IsTrue answer ↔ HasEnough c b line

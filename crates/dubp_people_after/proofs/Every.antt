@@ -6,7 +6,7 @@ use Rattle.dubp_atoms.specs.declared.stamp.Stamp.{Stamp}
 use Rattle.dubp_block.specs.declared.block.CertLine.{CertLine}
 use Rattle.dubp_block.specs.declared.block.IdentityLine.{IdentityLine}
 use Rattle.dubp_block.specs.declared.block.MemberLine.{MemberLine}
-use Rattle.dubp_people_views.proofs.OfLists.{all_append}
+use Rattle.dubp_registry.proofs.OfLists.{all_append}
 use Rattle.std.specs.Prelude.{option_map}
 use Rattle.std.specs.Option.{IsSomeAnd}
 use Rattle.dubp_chain.specs.Chains.{Chain}
@@ -16,7 +16,7 @@ use Rattle.dubp_chain.specs.People.{Written, identity, identity_lines, leaving, 
 use Rattle.dubp_verdict.specs.Verdicts.{Verdicts}
 use Rattle.dubp_people_after.specs.Names.{Certifies, CertifiesOn, name_of}
 use Rattle.dubp_people_after.specs.declared.after.Name.{Name}
-use Rattle.dubp_people_views.specs.OfValidity.{CertificationsAreSigned, MembershipsHaveIdentities, ReceiversAreMembers, ReceiversStay, is_identity_of}
+use Rattle.dubp_registry.specs.OfValidity.{CertificationsAreSigned, MembershipsHaveIdentities, ReceiversAreMembers, ReceiversStay, is_identity_of}
 use Rattle.dubp_people_after.specs.Lines.{HasIdentity, HasMember, HasStaying, IsCertified}
 
 same_truth : (a b : Bool) → a ≡ b → IsTrue a ↔ IsTrue b

@@ -18,18 +18,18 @@ use Rattle.dubp_chain.specs.declared.head.Head.{Head}
 use Rattle.dubp_chain.specs.HeadStamp.{head_stamp}
 use Rattle.dubp_chain.specs.Heads.{heads_of}
 use Rattle.dubp_chain.specs.Made.{head_numbered, certification_stamp}
-use Rattle.dubp_people_views.specs.OfFacts.{First}
-use Rattle.dubp_people_views.specs.OfFacts.{BlockTime}
-use Rattle.dubp_people_views.specs.OfFacts.{first_at, time_at, block_time}
-use Rattle.dubp_people_views.specs.OfValidity.{IsSound}
-use Rattle.dubp_people_views.specs.OfValidity.{is_identity_of}
-use Rattle.dubp_people_views.proofs.OfLists.{and_left, and_right, IsIn, any_in, in_any, last_in, is_false}
-use Rattle.dubp_people_views.proofs.OfLists.{same_text_is, same_text_own}
-use Rattle.dubp_people_views.proofs.OfLists.{last_any, last_line-any}
-use Rattle.dubp_people_views.proofs.OfLists.{Once, once_head, once_tail, each_once-map}
-use Rattle.dubp_people_views.specs.OfLeft.{IsAsked}
-use Rattle.dubp_people_views.specs.OfLeft.{Next}
-use Rattle.dubp_people_views.proofs.OfLeft.{last_line-in, identity_lines-once}
+use Rattle.dubp_registry.specs.OfFacts.{First}
+use Rattle.dubp_registry.specs.OfFacts.{BlockTime}
+use Rattle.dubp_registry.specs.OfFacts.{first_at, time_at, block_time}
+use Rattle.dubp_registry.specs.OfValidity.{IsSound}
+use Rattle.dubp_registry.specs.OfValidity.{is_identity_of}
+use Rattle.dubp_registry.proofs.OfLists.{and_left, and_right, IsIn, any_in, in_any, last_in, is_false}
+use Rattle.dubp_registry.proofs.OfLists.{same_text_is, same_text_own}
+use Rattle.dubp_registry.proofs.OfLists.{last_any, last_line-any}
+use Rattle.dubp_registry.proofs.OfLists.{Once, once_head, once_tail, each_once-map}
+use Rattle.dubp_registry.specs.OfLeft.{IsAsked}
+use Rattle.dubp_registry.specs.OfLeft.{Next}
+use Rattle.dubp_registry.proofs.OfLeft.{last_line-in, identity_lines-once}
 use Rattle.dubp_people_after.specs.Keys.{identity_in}
 use Rattle.dubp_people_after.specs.Names.{name_of, name_of_line, is_repeated, stamp_at}
 use Rattle.dubp_people_after.specs.declared.after.Name.{Name}

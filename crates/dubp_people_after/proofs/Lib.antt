@@ -5,9 +5,4 @@ pub mod Every
 pub mod Identities
 pub mod Lists
 pub mod Live
-pub mod Rests
-pub mod OfCount
-pub mod OfRegistry
-pub mod OfLeft
 pub mod OfSteps
-pub mod OfLists

@@ -5,10 +5,10 @@ use Rattle.dubp_atoms.specs.Same.{Text, same_text}
 use Rattle.dubp_block.specs.declared.block.CertLine.{CertLine}
 use Rattle.dubp_block.specs.declared.block.IdentityLine.{IdentityLine}
 use Rattle.dubp_chain.specs.Words.{last_of}
-use Rattle.dubp_people_views.specs.OfSteps.{of_pair}
+use Rattle.dubp_registry.specs.OfSteps.{of_pair}
 use Rattle.dubp_people_after.specs.Keys.{same_pair}
-use Rattle.dubp_people_views.proofs.Lists.{take_with, text_flip}
-use Rattle.dubp_people_views.proofs.OfLists.{last_of-append}
+use Rattle.dubp_lists.proofs.OneMore.{take_with, text_flip}
+use Rattle.dubp_registry.proofs.OfLists.{last_of-append}
 
 last_more : {X : Type 0} (t : Bool) (x : X) (o : Option X) → cond t (Some x) o ≡ option_or (option_or None (cond t (Some x) None)) o
 last_more true x o = refl

@@ -11,18 +11,18 @@ use Rattle.dubp_chain.specs.Words.{last_of}
 use Rattle.dubp_chain.specs.Chains.{Chain, params}
 use Rattle.dubp_chain.specs.Live.{live, live_at}
 use Rattle.dubp_chain.specs.Tables.{CertificationRow, certification_row}
-use Rattle.dubp_people_views.proofs.OfLists.{and_left, IsIn, in_any, in_left, in_right, in_map, kept_in, last_in}
-use Rattle.dubp_people_views.proofs.OfLists.{same_text_own}
-use Rattle.dubp_people_views.proofs.OfLists.{time_of-rises}
+use Rattle.dubp_registry.proofs.OfLists.{and_left, IsIn, in_any, in_left, in_right, in_map, kept_in, last_in}
+use Rattle.dubp_registry.proofs.OfLists.{same_text_own}
+use Rattle.dubp_registry.proofs.OfLists.{time_of-rises}
 use Rattle.dubp_cindex.specs.declared.row.CertRow.{CertRow}
 use Rattle.dubp_cindex.specs.Rows.{Rows, Entry, live_to, live_from, rows_about, told}
 use Rattle.dubp_cindex.proofs.Walked as walked
 use Rattle.dubp_cindex.proofs.Entries.{got_in}
-use Rattle.dubp_people_views.specs.OfSteps.{now_of, cert_lasting, certification_time, of_pair}
-use Rattle.dubp_people_views.proofs.OfSteps.{live_at_is_of_row, live_step}
-use Rattle.dubp_people_views.specs.OfLeft.{cert_entry, certification_left, certifications_left}
-use Rattle.dubp_people_views.proofs.OfLeft.{certifications-at}
-use Rattle.dubp_people_views.proofs.OfLeft.{newest-left}
+use Rattle.dubp_registry.specs.OfSteps.{now_of, cert_lasting, certification_time, of_pair}
+use Rattle.dubp_registry.proofs.OfSteps.{live_at_is_of_row, live_step}
+use Rattle.dubp_registry.specs.OfLeft.{cert_entry, certification_left, certifications_left}
+use Rattle.dubp_registry.proofs.OfLeft.{certifications-at}
+use Rattle.dubp_registry.proofs.OfLeft.{newest-left}
 use Rattle.dubp_moving.specs.States.{newest, states}
 use Rattle.dubp_people_after.specs.Keys.{is_between}
 use Rattle.dubp_people_after.specs.Near.{HasIssuers, HasReceivers, is_end_of}

@@ -1,2 +1,2 @@
 -- What those above take from here of the lemmas of dubp_steps.
-pub use Rattle.dubp_people_views.proofs.OfSteps.{same_keys, same_truth, filtered_keys_rise, issuers_to, issuers_named, receivers_from, receivers_named, identity_with, entry, some_membership, member_named, live_at_is_of_row, live_step, certifications_fit, live_is_of_row, planned_later, queued_certification, same_received, some_identity, member_has_entry, stock_is_count, received_is_count}
+pub use Rattle.dubp_registry.proofs.OfSteps.{member_named, some_identity, member_has_entry, received_is_count}

@@ -8,7 +8,7 @@ use Rattle.dubp_block.specs.declared.block.IdentityLine.{IdentityLine}
 use Rattle.dubp_block.specs.declared.block.CertLine.{CertLine}
 use Rattle.dubp_chain.specs.Words.{names, last_of}
 use Rattle.dubp_chain.specs.Members.{is_of}
-use Rattle.dubp_people_views.specs.OfSteps.{of_pair}
+use Rattle.dubp_registry.specs.OfSteps.{of_pair}
 
 -- the last line of Identities of a key; where each stands once it is the only one
 abbrev pub identity_in : Block → Text → Option IdentityLine

@@ -6,6 +6,4 @@ pub mod Near
 pub mod Partners
 pub mod OfRegistry
 pub mod OfLeft
-pub mod OfSteps
 pub mod OfValidity
-pub mod OfFacts

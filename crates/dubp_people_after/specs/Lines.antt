@@ -9,7 +9,7 @@ use Rattle.dubp_chain.specs.Live.{received, stock}
 use Rattle.dubp_chain.specs.Members.{member}
 use Rattle.dubp_chain.specs.People.{identity_lines, leaving}
 use Rattle.dubp_verdict.specs.Verdicts.{Verdicts}
-use Rattle.dubp_people_views.specs.OfValidity.{is_identity_of, IsCertifiedBy}
+use Rattle.dubp_registry.specs.OfValidity.{is_identity_of, IsCertifiedBy}
 
 unfoldable pub HasMember : Chain → Block → CertLine → Type 0
 HasMember c b line = IsTrue (member (b ∷ c) line.to)

@@ -10,7 +10,7 @@ use Rattle.dubp_chain.specs.OfDocs.{signed_text as signed_document}
 use Rattle.dubp_chain.specs.OfDocs.{Certification}
 use Rattle.dubp_chain.specs.People.{Written}
 use Rattle.dubp_verdict.specs.Verdicts.{Verdicts, HasVerdict}
-use Rattle.dubp_people_views.specs.OfFacts.{BlockTime}
+use Rattle.dubp_registry.specs.OfFacts.{BlockTime}
 use Rattle.dubp_people_after.specs.declared.after.Name.{Name}
 
 abbrev pub name_of_line : IdentityLine → Name

@@ -1,15 +1,13 @@
 -- The keys that a key has certifications with. Protocol: certifications.
-use Rattle.std.specs.Prelude.{Bool, IsTrue, ◌&&◌, ◌||◌, ◌∷◌}
+use Rattle.std.specs.Prelude.{Bool, IsTrue, ◌&&◌, ◌∷◌}
 use Rattle.dubp_atoms.specs.Same.{Text, same_text}
 use Rattle.dubp_block.specs.declared.block.Block.{Block}
 use Rattle.dubp_chain.specs.Chains.{Chain}
 use Rattle.dubp_chain.specs.Live.{live}
 use Rattle.dubp_cindex.specs.declared.row.CertRow.{CertRow}
+use Rattle.dubp_registry.specs.OfSteps.{is_end}
 
--- one of the two ends of a certification
-abbrev pub is_end : Text → Text → Text → Bool
-is_end from to k = same_text from k || same_text to k
-
+-- the key is one of the two ends
 abbrev pub is_end_of : Text → Text × Text × CertRow → Bool
 is_end_of k row = is_end row.0 row.1 k
 

@@ -1,2 +1,2 @@
 -- What those above take from here of the definitions of dubp_left.
-pub use Rattle.dubp_people_views.specs.OfLeft.{identity_entry, identity_left, cert_entry, certification_left, certifications_left, member_entry, membership_left, identities_left, queue_left, IsAsked, Next}
+pub use Rattle.dubp_registry.specs.OfLeft.{queue_left, IsAsked, Next}

@@ -1,7 +1,7 @@
 ghost use Rattle.std.specs.Prelude.{◌↔◌, ◌≤◌, IsTrue, IfOk};
 ghost use Rattle.dubp_block.specs.declared.block.Block.{Block as BlockValue};
 ghost use Rattle.dubp_chain.specs.Chains.{Chain};
-ghost use Rattle.dubp_people_views.specs.OfValidity.{JoinersAreCertified, StocksAreKept};
+ghost use Rattle.dubp_registry.specs.OfValidity.{JoinersAreCertified, StocksAreKept};
 ghost use Rattle.dubp_people_after.specs.Lines.{HasEnough, KeepsStock};
 
 use crate::after::WithBlock;

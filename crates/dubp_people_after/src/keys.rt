@@ -8,7 +8,7 @@ ghost use Rattle.dubp_chain.specs.Members.{is_of};
 ghost use Rattle.dubp_people_after.specs.Keys.{AreKeysOf, same_pair};
 ghost use Rattle.dubp_people_after.specs.Empty.{AreEmpty};
 ghost use Rattle.dubp_people_after.specs.Partners.{is_partner};
-ghost use Rattle.dubp_people_views.specs.OfSteps.{of_pair};
+ghost use Rattle.dubp_registry.specs.OfSteps.{of_pair};
 
 use crate::partners::put_partners;
 use dubp_atoms::{Key, NoMemory, Secret};

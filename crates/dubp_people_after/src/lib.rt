@@ -22,7 +22,7 @@ mod rules;
 pub use after::{After, Name, WithBlock};
 pub use counted::{joiners_are_certified, stocks_are_kept};
 pub use counts::{issuers, received, stock};
-pub use dubp_people_views::{First, Next, Registry, next_of};
+pub use dubp_registry::{First, Next, Registry, next_of};
 pub use rules::{
     certifications_are_signed, issuers_are_members, memberships_have_identities,
     receivers_are_members, receivers_stay,

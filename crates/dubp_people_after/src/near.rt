@@ -2,7 +2,8 @@ ghost use Rattle.std.specs.Prelude.{◌≡◌, ◌||◌, OnOk};
 ghost use Rattle.std.specs.List.{list_any};
 ghost use Rattle.indexmap.specs.IndexSet.{contains};
 ghost use Rattle.dubp_atoms.specs.Same.{Text, same_text};
-ghost use Rattle.dubp_people_after.specs.Near.{is_end, is_end_of};
+ghost use Rattle.dubp_people_after.specs.Near.{is_end_of};
+ghost use Rattle.dubp_registry.specs.OfSteps.{is_end};
 
 use dubp_atoms::{Key, NoMemory, Secret};
 use dubp_cindex::CertRow;

@@ -2,7 +2,7 @@ ghost use Rattle.std.specs.Prelude.{◌≡◌, ◌↔◌, IsTrue};
 ghost use Rattle.std.specs.List.{AllByRecursion};
 ghost use Rattle.dubp_block.specs.declared.block.Block.{Block as BlockValue};
 ghost use Rattle.dubp_chain.specs.Chains.{Chain};
-ghost use Rattle.dubp_people_views.specs.OfValidity.{IssuersAreMembers, ReceiversAreMembers, ReceiversStay, MembershipsHaveIdentities, CertificationsAreSigned, may_certify};
+ghost use Rattle.dubp_registry.specs.OfValidity.{IssuersAreMembers, ReceiversAreMembers, ReceiversStay, MembershipsHaveIdentities, CertificationsAreSigned, may_certify};
 ghost use Rattle.dubp_people_after.specs.Lines.{HasIdentity, HasMember, HasStaying, IsCertified};
 ghost use Rattle.dubp_people_after.specs.Names.{Certifies, CertifiesOn};
 

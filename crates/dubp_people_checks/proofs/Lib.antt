@@ -1,13 +1,3 @@
 pub mod Few
-pub mod Counted
-pub mod Kept
-pub mod Known
-pub mod Made
-pub mod Nexts
-pub mod Passing
-pub mod Same
-pub mod Sets
-pub mod Staying
 pub mod Stated
-pub mod Walked
 pub mod OfSteps

@@ -1,5 +1,5 @@
 -- The parameters of the chain with a block that stands to be judged are in range, or there are none.
-use Rattle.std.proofs.Common.{◌≡◌, ℕ, ◌≤◌, ◌<◌, ◌⊎◌, inl, inr, List, [], ◌∷◌, Option, Some, None, refl, sym, subst, arith}
+use Rattle.std.proofs.Common.{◌≡◌, ◌≤◌, ◌⊎◌, inl, inr, [], ◌∷◌, Option, Some, None, refl, sym, subst, arith}
 use Rattle.std.specs.Prelude.{unwrap_or, ⊤}
 use Rattle.std.specs.Option.{MatchOption}
 use Rattle.dubp_block.specs.declared.block.Block.{Block}
@@ -10,7 +10,7 @@ use Rattle.dubp_rules.specs.declared.rule.Rule.TheVariants.{X02}
 use Rattle.dubp_people_after.specs.OfValidity.{IsSound}
 use Rattle.dubp_people_after.specs.OfLeft.{IsAsked}
 use Rattle.dubp_people_after.specs.OfLeft.{Next}
-use Rattle.dubp_people_checks.specs.Stated.{AreStated}
+use Rattle.dubp_people_distance.specs.Stated.{AreStated}
 
 -- they are in range, or there are none
 abbrev IsRanged : Params → Type 0

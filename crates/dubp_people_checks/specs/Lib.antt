@@ -1,8 +1,3 @@
 pub mod PeopleRules
 pub mod Asking
-pub mod Certified
-pub mod Ends
-pub mod Moved
-pub mod Stated
-pub mod Webs
 pub mod OfLeft

@@ -191,7 +191,7 @@ impl<'a> Asked<'a> {
         requires { (c : Chain) × (IsAskedOf self.now c × (IdentitiesAreFew c self.now.block.now × MembershipsHaveIdentities c self.now.block.now)) }
         ensures { IfOk result (λ holds. (c : Chain) → IsAskedOf self.now c → (IsTrue holds ↔ ComersPass c self.now.block.now)) }
     {
-        let holds = crate::rule::comers_pass(
+        let holds = crate::judged::comers_pass(
             self.alloc,
             self.registry,
             self.after,

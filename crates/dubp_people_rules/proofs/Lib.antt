@@ -1,4 +1,3 @@
-pub mod Rests
 pub mod Sections
 pub mod Sets
 pub mod Told

@@ -7,10 +7,8 @@ pub mod Nearness
 pub mod OfLists
 pub mod Counting
 pub mod Few
-pub mod Lists
 pub mod OfLeft
 pub mod OfRegistry
 pub mod OfSteps
-pub mod Passing
 pub mod MembersWalked
 pub mod Webs

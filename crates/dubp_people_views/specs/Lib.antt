@@ -6,4 +6,3 @@ pub mod Counting
 pub mod OfLeft
 pub mod OfRegistry
 pub mod OfSteps
-pub mod OfValidity

@@ -1,2 +1,2 @@
 -- What those above take from here of the definitions of dubp_steps.
-pub use Rattle.dubp_registry.specs.OfSteps.{text_cmp, keys_rise, certification_time, now_of, of_pair, cert_lasting, is_planned, waits_for_end}
+pub use Rattle.dubp_registry.specs.OfSteps.{text_cmp, keys_rise}

@@ -1,9 +1,9 @@
-ghost use Rattle.std.specs.Prelude.{◌≡◌, ◌∷◌, ◌||◌, ◌&&◌, ◌≤◌, ◌<◌, ◌^◌, IfOk, OnOk, count_by, length, not};
+ghost use Rattle.std.specs.Prelude.{◌≡◌, ◌∷◌, ◌&&◌, ◌<◌, ◌^◌, IfOk, count_by, length};
 ghost use Rattle.std.specs.List.{IsDistinct, list_any};
 ghost use Rattle.indexmap.specs.IndexSet.{contains};
 ghost use Rattle.dubp_atoms.specs.Same.{Text, same_text};
 ghost use Rattle.dubp_chain.specs.Chains.{Chain};
-ghost use Rattle.dubp_chain.specs.Members.{is_of, member, members};
+ghost use Rattle.dubp_chain.specs.Members.{is_of, members};
 ghost use Rattle.dubp_registry.specs.OfValidity.{IsSound};
 ghost use Rattle.dubp_people_views.specs.Counting.{is_new_member, is_old_member};
 

@@ -5,3 +5,4 @@ pub use Rattle.dubp_left.proofs.Looked.{newest-left, some-shown, identity-look, 
 pub use Rattle.dubp_left.proofs.OfSteps.{live_at_is_of_row}
 pub use Rattle.dubp_left.proofs.Times.{written-time}
 pub use Rattle.dubp_left.proofs.Queued.{queue-at}
+pub use Rattle.dubp_left.proofs.Webs.{member_told, next_member_told, next_issuer_told, issuers_told}

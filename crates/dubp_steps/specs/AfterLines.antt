@@ -1,7 +1,7 @@
 -- What the lines of a block make of the rows and of the queue at a key, section by section. Each change of a line is a function of what
 -- stands there and of the line; a section is its fold. The lines cancel what stood in the queue for their key or pair and plan what is
 -- to come later than the time of the chain with the block; no row waits for the queue here. Protocol: people, certifications, tables.
-use Rattle.std.specs.Prelude.{ℕ, ◌+◌, ◌*◌, Bool, true, false, ◌&&◌, ◌==◌, List, ◌∷◌, ◌++◌, Option, Some, option_map, unwrap_or, fold, nat_le, nat_lt, if◌then◌else◌}
+use Rattle.std.specs.Prelude.{ℕ, ◌+◌, ◌*◌, Bool, true, false, ◌&&◌, ◌||◌, ◌==◌, List, ◌∷◌, ◌++◌, Option, Some, option_map, unwrap_or, fold, nat_le, nat_lt, if◌then◌else◌}
 use Rattle.dubp_atoms.specs.Same.{Text, same_text}
 use Rattle.dubp_block.specs.declared.block.Block.{Block}
 use Rattle.dubp_block.specs.declared.block.IdentityLine.{IdentityLine}
@@ -34,6 +34,10 @@ entering_lines b = b.joiners ++ b.actives
 
 abbrev pub of_pair : Text → Text → CertLine → Bool
 of_pair x y line = same_text x line.from && same_text y line.to
+
+-- one of the two ends of a certification
+abbrev pub is_end : Text → Text → Text → Bool
+is_end from to k = same_text from k || same_text to k
 
 abbrev pub certification_time : Chain → Block → CertLine → ℕ
 certification_time c b line = unwrap_or (certification_made c b line) 0

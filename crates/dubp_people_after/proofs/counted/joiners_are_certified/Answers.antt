@@ -1,6 +1,6 @@
 use Rattle.std.proofs.Common.{arith}
 use Rattle.dubp_people_after.specs.Lines.{HasEnough}
-use Rattle.dubp_people_after.proofs.Rests.{rests_first, rests_one_more}
+use Rattle.dubp_lists.proofs.Rests.{rests_first, rests_one_more}
 use Rattle.dubp_people_after.proofs.Enough.{joiners_fail, joiners_pass}
 use Rattle.dubp_people_after.proofs.counted.joiners_are_certified.Goals as goal
 

@@ -1,6 +1,6 @@
 use Rattle.dubp_chain.specs.Chains.{Chain}
 use Rattle.dubp_people_after.specs.Lines.{HasEnough}
-use Rattle.dubp_people_after.proofs.Rests.{Rests}
+use Rattle.dubp_lists.proofs.Rests.{Rests}
 use Rattle.dubp_people_after.proofs.counted.joiners_are_certified.Given as goal
 
 abbrev pub invariant-loop-line : goal.invariant-loop-line

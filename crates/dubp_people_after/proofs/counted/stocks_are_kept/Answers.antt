@@ -1,6 +1,6 @@
 use Rattle.std.proofs.Common.{arith}
 use Rattle.dubp_people_after.specs.Lines.{KeepsStock}
-use Rattle.dubp_people_after.proofs.Rests.{rests_first, rests_one_more}
+use Rattle.dubp_lists.proofs.Rests.{rests_first, rests_one_more}
 use Rattle.dubp_people_after.proofs.Enough.{stocks_fail, stocks_pass}
 use Rattle.dubp_people_after.proofs.counted.stocks_are_kept.Goals as goal
 

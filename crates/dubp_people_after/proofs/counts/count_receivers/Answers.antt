@@ -1,6 +1,6 @@
 use Rattle.std.proofs.Common.{◌≤◌, ◌+◌, ◌∙◌, ℕ, true, false, sym, subst, arith}
 use Rattle.dubp_people_after.specs.Near.{is_receiver}
-use Rattle.dubp_people_views.proofs.Passing.{one_passes, one_fails}
+use Rattle.dubp_lists.proofs.Passing.{one_passes, one_fails}
 use Rattle.dubp_people_after.proofs.Counting.{receiver_told}
 use Rattle.dubp_people_after.proofs.counts.count_receivers.Goals as goal
 use Rattle.dubp_people_after.proofs.counts.count_receivers.Goals.{then-is_live, else-is_live}

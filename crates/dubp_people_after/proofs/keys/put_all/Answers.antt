@@ -1,7 +1,7 @@
 use Rattle.std.proofs.Common.{◌∙◌, ◌||◌, ap}
 use Rattle.std.specs.List.{list_any}
 use Rattle.dubp_atoms.specs.Same.{same_text}
-use Rattle.dubp_people_views.proofs.Lists.{any_more, text_flip}
+use Rattle.dubp_lists.proofs.OneMore.{any_more, text_flip}
 use Rattle.dubp_people_after.proofs.Between.{put_or}
 use Rattle.dubp_people_after.proofs.keys.put_all.Goals as goal
 

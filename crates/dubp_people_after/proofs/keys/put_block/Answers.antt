@@ -4,7 +4,7 @@ use Rattle.std.proofs.lemmas.List.Folds.{list_any-append}
 use Rattle.dubp_atoms.specs.Same.{same_text}
 use Rattle.dubp_chain.specs.Words.{last_of}
 use Rattle.dubp_chain.specs.Members.{is_of}
-use Rattle.dubp_people_views.specs.OfSteps.{of_pair}
+use Rattle.dubp_registry.specs.OfSteps.{of_pair}
 use Rattle.dubp_people_after.specs.Keys.{is_between}
 use Rattle.dubp_people_after.proofs.keys.put_block.Goals as goal
 

@@ -2,7 +2,7 @@ use Rattle.std.proofs.Common.{◌≡◌, take}
 use Rattle.indexmap.specs.IndexMap.{get}
 use Rattle.dubp_atoms.specs.Same.{Text}
 use Rattle.dubp_chain.specs.Words.{last_of}
-use Rattle.dubp_people_views.specs.OfSteps.{of_pair}
+use Rattle.dubp_registry.specs.OfSteps.{of_pair}
 use Rattle.dubp_people_after.specs.Keys.{same_pair}
 use Rattle.dubp_people_after.proofs.keys.put_certifications.Given as goal
 

@@ -1,4 +1,4 @@
-use Rattle.dubp_people_views.proofs.Lists.{one_key_more}
+use Rattle.dubp_lists.proofs.OneMore.{one_key_more}
 use Rattle.dubp_people_after.proofs.keys.put_keys.Goals as goal
 
 pub loop-line-preserved : goal.loop-line-preserved

@@ -1,5 +1,5 @@
 use Rattle.dubp_people_after.specs.Near.{is_end_of}
-use Rattle.dubp_people_views.proofs.Lists.{any_more}
+use Rattle.dubp_lists.proofs.OneMore.{any_more}
 use Rattle.dubp_people_after.proofs.near.put_rows.Goals as goal
 
 pub loop-row-preserved : goal.loop-row-preserved

@@ -1,6 +1,6 @@
 use Rattle.std.proofs.Common.{arith}
 use Rattle.dubp_people_rules.specs.Lines.{HasIssuerWaited}
-use Rattle.dubp_people_rules.proofs.Rests.{rests_first, rests_one_more, fails_all, passes_all}
+use Rattle.dubp_lists.proofs.Rests.{rests_first, rests_one_more, fails_all, passes_all}
 use Rattle.dubp_people_rules.proofs.certifications.all_issuers_waited.Goals as goal
 
 pub loop-line-init : goal.loop-line-init

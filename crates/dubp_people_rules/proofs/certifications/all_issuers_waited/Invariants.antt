@@ -2,7 +2,7 @@ use Rattle.dubp_chain.specs.Chains.{Chain}
 use Rattle.dubp_validity.specs.Rules.{IsSound}
 use Rattle.dubp_registry.specs.contracts.registry.RegistryTablesBlock.TheImpl as tables
 use Rattle.dubp_people_rules.specs.Lines.{HasIssuerWaited}
-use Rattle.dubp_people_rules.proofs.Rests.{Rests}
+use Rattle.dubp_lists.proofs.Rests.{Rests}
 use Rattle.dubp_people_rules.proofs.certifications.all_issuers_waited.Given as goal
 
 abbrev pub invariant-loop-line : goal.invariant-loop-line

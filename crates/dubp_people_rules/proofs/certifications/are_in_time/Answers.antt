@@ -1,6 +1,6 @@
 use Rattle.std.proofs.Common.{arith}
 use Rattle.dubp_people_rules.specs.Lines.{IsCertificationInTime}
-use Rattle.dubp_people_rules.proofs.Rests.{rests_first, rests_one_more, fails_all, passes_all}
+use Rattle.dubp_lists.proofs.Rests.{rests_first, rests_one_more, fails_all, passes_all}
 use Rattle.dubp_people_rules.proofs.certifications.are_in_time.Goals as goal
 
 pub loop-line-init : goal.loop-line-init

@@ -1,6 +1,6 @@
 use Rattle.std.proofs.Common.{true, false, arith}
 use Rattle.dubp_people_rules.specs.Lines.{IsKicked}
-use Rattle.dubp_people_rules.proofs.Rests.{rests_first, rests_one_more, fails_all, passes_all}
+use Rattle.dubp_lists.proofs.Rests.{rests_first, rests_one_more, fails_all, passes_all}
 use Rattle.dubp_people_rules.proofs.Sections.{on_lines}
 use Rattle.dubp_people_rules.proofs.exclusions.excluded_are_kicked.Goals as goal
 

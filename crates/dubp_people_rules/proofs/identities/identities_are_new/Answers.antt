@@ -1,6 +1,6 @@
 use Rattle.std.proofs.Common.{true, false, arith}
 use Rattle.dubp_people_rules.specs.Lines.{IsIdentityNew}
-use Rattle.dubp_people_rules.proofs.Rests.{rests_first, rests_one_more, fails_all, passes_all}
+use Rattle.dubp_lists.proofs.Rests.{rests_first, rests_one_more, fails_all, passes_all}
 use Rattle.dubp_people_rules.proofs.Sections.{on_lines}
 use Rattle.dubp_people_rules.proofs.identities.identities_are_new.Goals as goal
 

@@ -1,6 +1,6 @@
 use Rattle.std.proofs.Common.{true, false, arith}
 use Rattle.dubp_people_rules.specs.Lines.{MayBeRevoked}
-use Rattle.dubp_people_rules.proofs.Rests.{rests_first, rests_one_more, fails_all, passes_all}
+use Rattle.dubp_lists.proofs.Rests.{rests_first, rests_one_more, fails_all, passes_all}
 use Rattle.dubp_people_rules.proofs.Sections.{on_lines}
 use Rattle.dubp_people_rules.proofs.revocations.revoked_have_identities.Goals as goal
 

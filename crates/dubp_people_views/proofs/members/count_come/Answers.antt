@@ -1,7 +1,7 @@
 use Rattle.std.proofs.Common.{◌≤◌, ◌+◌, ◌∙◌, ℕ, sym, subst, arith}
 use Rattle.indexmap.specs.IndexSet.{contains}
 use Rattle.dubp_atoms.specs.Same.{same_text}
-use Rattle.dubp_people_views.proofs.Passing.{one_passes, one_fails}
+use Rattle.dubp_lists.proofs.Passing.{one_passes, one_fails}
 use Rattle.dubp_people_views.specs.Counting.{is_new_member}
 use Rattle.dubp_people_views.proofs.members.count_come.Goals as goal
 use Rattle.dubp_people_views.proofs.members.count_come.Goals.{then-is_new, else-is_new}

@@ -1,5 +1,5 @@
 use Rattle.std.proofs.Common.{◌≤◌, ◌+◌, ◌∙◌, ℕ, true, false, sym, subst, arith}
-use Rattle.dubp_people_views.proofs.Passing.{one_passes, one_fails}
+use Rattle.dubp_lists.proofs.Passing.{one_passes, one_fails}
 use Rattle.dubp_people_views.specs.Counting.{is_old_member}
 use Rattle.dubp_people_views.proofs.Counting.{old_told}
 use Rattle.dubp_people_views.proofs.members.count_gone.Goals as goal

@@ -1,7 +1,7 @@
 use Rattle.std.proofs.Common.{[], ap}
 use Rattle.std.specs.List.{list_any}
 use Rattle.dubp_atoms.specs.Same.{same_text}
-use Rattle.dubp_people_views.proofs.Lists.{one_key_more}
+use Rattle.dubp_lists.proofs.OneMore.{one_key_more}
 use Rattle.dubp_people_views.proofs.members.joined_keys.Goals as goal
 
 pub loop-line-init : goal.loop-line-init

@@ -2,7 +2,7 @@ use Rattle.std.proofs.Common.{◌∙◌}
 use Rattle.indexmap.specs.IndexSet.{contains}
 use Rattle.dubp_atoms.specs.Same.{same_text}
 use Rattle.dubp_moving.specs.States.{states}
-use Rattle.dubp_people_views.specs.OfLeft.{certifications_left}
+use Rattle.dubp_registry.specs.OfLeft.{certifications_left}
 use Rattle.dubp_people_after.proofs.Live.{issuers_near, receivers_near}
 use Rattle.dubp_people_after.proofs.after.After.put_near.Goals as goal
 

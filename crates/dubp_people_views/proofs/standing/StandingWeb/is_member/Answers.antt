@@ -1,4 +1,4 @@
-use Rattle.dubp_people_views.proofs.Webs.{member_told}
+use Rattle.dubp_registry.proofs.OfLeft.{member_told}
 use Rattle.dubp_people_views.proofs.standing.StandingWeb.is_member.Goals as goal
 
 pub returns : goal.returns

@@ -1,5 +1,5 @@
 use Rattle.std.proofs.Common.{None}
-use Rattle.dubp_people_views.proofs.Webs.{issuers_told}
+use Rattle.dubp_registry.proofs.OfLeft.{issuers_told}
 use Rattle.dubp_people_views.proofs.standing.StandingWeb.issuers.Goals as goal
 
 pub returns : goal.returns

@@ -1,4 +1,4 @@
-use Rattle.dubp_people_views.proofs.Webs.{next_issuer_told}
+use Rattle.dubp_registry.proofs.OfLeft.{next_issuer_told}
 use Rattle.dubp_people_views.proofs.standing.StandingWeb.next_issuer.Goals as goal
 
 pub returns : goal.returns

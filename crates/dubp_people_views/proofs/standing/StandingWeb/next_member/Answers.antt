@@ -1,4 +1,4 @@
-use Rattle.dubp_people_views.proofs.Webs.{next_member_told}
+use Rattle.dubp_registry.proofs.OfLeft.{next_member_told}
 use Rattle.dubp_people_views.proofs.standing.StandingWeb.next_member.Goals as goal
 
 pub returns : goal.returns

@@ -1,3 +1,0 @@
--- What those above take from here of the definitions of dubp_facts.
-pub use Rattle.dubp_people_views.specs.OfFacts.{First, first_at}
-pub use Rattle.dubp_people_views.specs.OfFacts.facts_tables_block as facts_tables_block

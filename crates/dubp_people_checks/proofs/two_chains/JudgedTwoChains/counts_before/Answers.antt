@@ -1,7 +1,0 @@
-use Rattle.dubp_people_checks.proofs.two_chains.JudgedTwoChains.counts_before.Goals as goal
-
-pub returns-clause-stock : goal.returns-clause-stock
-returns-clause-stock c = λ chain b shown. c.stock.ensures chain shown.0
-
-pub returns-clause-received : goal.returns-clause-received
-returns-clause-received c = λ chain b shown. c.received.ensures chain shown.0

@@ -1,4 +1,0 @@
-use Rattle.dubp_people_checks.proofs.two_chains.JudgedTwoChains.is_member.Goals as goal
-
-pub returns : goal.returns
-returns c = λ chain b shown. c.is_member.ensures chain b shown.1.0

@@ -1,4 +1,0 @@
-use Rattle.dubp_people_checks.proofs.two_chains.JudgedTwoChains.issuer_before.Goals as goal
-
-pub returns : goal.returns
-returns c = λ chain b shown. c.next_issuer.ensures chain shown.0

@@ -1,4 +1,0 @@
-use Rattle.dubp_people_checks.proofs.two_chains.JudgedTwoChains.was_member.Goals as goal
-
-pub returns : goal.returns
-returns c = λ chain b shown. c.is_member.ensures chain shown.0 shown.1.1.sound

@@ -1,0 +1,10 @@
+pub mod Counted
+pub mod Kept
+pub mod Known
+pub mod Made
+pub mod Nexts
+pub mod Passing
+pub mod Same
+pub mod Sets
+pub mod Staying
+pub mod Walked

@@ -1,0 +1,5 @@
+pub mod Certified
+pub mod Ends
+pub mod Moved
+pub mod Stated
+pub mod Webs
