@@ -16,7 +16,7 @@
 //!
 //! ```text
 //! let mut kept = Kept::new(alloc, tables);
-//! match judge(alloc, &kept, &block, &verdicts)? {
+//! match judge(alloc, &kept, &block, &inner, &verdicts)? {
 //!     Judgement::Breaks(rule) => refuse(rule),
 //!     Judgement::Keeps(head, params, hashes) => kept.add(block, head, &params, hashes.as_slice(), &mut steps),
 //! }
