@@ -7,3 +7,4 @@ pub mod Same
 pub mod Walks
 pub mod Adding
 pub mod Secrets
+pub mod OfCosts

@@ -1,6 +1,6 @@
 ghost use Rattle.std.specs.Prelude.{◌≡◌, ◌↔◌, IsTrue, IfOk, [], length};
 
-use crate::no_memory::NoMemory;
+use dubp_costs::NoMemory;
 use std::alloc::Global;
 use std::marker::Model;
 

@@ -1,7 +1,7 @@
 ghost use Rattle.std.specs.Prelude.{◌≡◌, List, ℕ, OnOk, OnErr};
 ghost use Rattle.dubp_atoms.specs.Adding.{Adds, Stays};
 
-use crate::no_memory::NoMemory;
+use dubp_costs::NoMemory;
 
 /// Where a text is written piece after piece: the bytes of a `Vec`, or a SHA-256 that is computed on the way.
 ///

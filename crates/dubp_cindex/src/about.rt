@@ -8,7 +8,7 @@ ghost use Rattle.dubp_cindex.specs.Rows.{Rows, live_pairs, live_to, live_from, i
 
 use crate::index::CIndex;
 use crate::row::{CertRow, CertRows};
-use crate::walking::next_in;
+use crate::walking::{Place, next_in};
 use dubp_atoms::{Key, NoMemory};
 use dubp_undo::Tables;
 use std::alloc::Global;
@@ -16,7 +16,7 @@ use std::ops::Bound;
 
 impl CIndex {
     /// The live certifications that the key has received, by issuer, and then those that it has issued, by receiver: the issuer,
-    /// the receiver and the row of each. It looks at these alone.
+    /// the receiver and the row of each. It looks at these, and passes over the rows of the key's own certifications that have ended.
     pub fn rows_of(&self, alloc: Global, key: Key) -> Result<Vec<(Key, Key, CertRow)>, NoMemory>
         ensures { (s : List Rows) → ⟦<CIndex as Tables<CertRows>>⟧.at self.now s → IfOk result (λ found. found.items ≡ rows_about (newest finite.empty s) key) }
     {
@@ -35,12 +35,10 @@ impl CIndex {
 
         ensures refused { OnErr result ((some : List Text) × (issuers.new.items ≡ issuers.old.items ++ some)) }
     {
-        let mut walk = self
-            .tables
-            .second
-            .tables
-            .first
-            .walk_from(Bound::Excluded((*to, None)));
+        let mut walk = self.tables.second.tables.first.walk_from(Bound::Excluded(Place {
+            owner: *to,
+            other: None,
+        }));
         while let Some((from, ())) = next_in(&mut walk, to) {
             put(issuers, from)?;
         }
@@ -51,12 +49,10 @@ impl CIndex {
     fn put_received(&self, found: &mut Vec<(Key, Key, CertRow)>, key: &Key) -> Result<(), NoMemory>
         ensures { OnOk result ((s : List Rows) → ⟦<CIndex as Tables<CertRows>>⟧.at self.now s → found.new.items ≡ found.old.items ++ map told (filter (live_to key.now) (finite.entries (newest finite.empty s)))) }
     {
-        let mut walk = self
-            .tables
-            .second
-            .tables
-            .first
-            .walk_from(Bound::Excluded((*key, None)));
+        let mut walk = self.tables.second.tables.first.walk_from(Bound::Excluded(Place {
+            owner: *key,
+            other: None,
+        }));
         while let Some((from, ())) = next_in(&mut walk, key) {
             self.put_told(found, &from, key)?;
         }
@@ -67,7 +63,10 @@ impl CIndex {
     fn put_issued(&self, found: &mut Vec<(Key, Key, CertRow)>, key: &Key) -> Result<(), NoMemory>
         ensures { OnOk result ((s : List Rows) → ⟦<CIndex as Tables<CertRows>>⟧.at self.now s → found.new.items ≡ found.old.items ++ map told (filter (live_from key.now) (finite.entries (newest finite.empty s)))) }
     {
-        let mut walk = self.tables.first.walk_from(Bound::Excluded((*key, None)));
+        let mut walk = self.tables.first.walk_from(Bound::Excluded(Place {
+            owner: *key,
+            other: None,
+        }));
         while let Some((to, row)) = next_in(&mut walk, key) {
             put_live(found, key, &to, row)?;
         }
@@ -83,7 +82,10 @@ impl CIndex {
     ) -> Result<(), NoMemory>
         ensures { OnOk result ((row : CertRow) → get place_cmp self.now.tables.first.table.now (from.now, Some to.now) ≡ Some row → found.new.items ≡ found.old.items ++ (from.now, to.now, row) ∷ []) }
     {
-        match self.tables.first.get((*from, Some(*to))) {
+        match self.tables.first.get(Place {
+            owner: *from,
+            other: Some(*to),
+        }) {
             Some(row) => found.push((*from, *to, row)).map_err(|_| NoMemory),
             None => Ok(()),
         }

@@ -8,7 +8,7 @@ ghost use Rattle.dubp_cindex.specs.Rows.{Rows, issuer_in, received_in, live_pair
 use crate::row::{CertRow, CertRows, IssuerRow};
 use crate::sides::no_received;
 use crate::tables::CertTables;
-use crate::walking::next_of;
+use crate::walking::{Place, next_of};
 use dubp_atoms::{Key, NoMemory, Secret, Steps};
 use dubp_finders::ByHash;
 use dubp_undo::{Found, Leaf, NoSummary, Tables, Three};
@@ -54,7 +54,10 @@ impl CIndex {
     pub fn row(&self, from: Key, to: Key) -> Option<CertRow>
         ensures { (s : List Rows) → ⟦<CIndex as Tables<CertRows>>⟧.at self.now s → result ≡ map.get (newest map.empty s) (from, to) }
     {
-        self.tables.first.get((from, Some(to)))
+        self.tables.first.get(Place {
+            owner: from,
+            other: Some(to),
+        })
     }
 
     /// What the key has issued, or `None` where it never certified.

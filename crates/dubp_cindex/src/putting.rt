@@ -13,7 +13,8 @@ ghost use Rattle.dubp_cindex.specs.Rows.{Rows, row_at, lives, one_if, number_if,
 use crate::changing::{Change, make_found, ready_found};
 use crate::index::CIndex;
 use crate::row::{CertRow, CertRows, IssuerRow};
-use crate::tables::{Written, make_side, ready_side};
+use crate::sides::{make_side, ready_side};
+use crate::tables::Written;
 use crate::walking::{Place, next_in};
 use dubp_atoms::{Key, NoMemory, Steps};
 use dubp_undo::{Leaf, Tables};
@@ -136,7 +137,10 @@ fn greatest_besides(
     ensures { IsGreatestBesides (λ y. get place_cmp rows.now.table.now (from.now, Some y)) to.now least result }
 {
     let mut best = least;
-    let mut walk = rows.walk_from(Bound::Excluded((*from, None)));
+    let mut walk = rows.walk_from(Bound::Excluded(Place {
+        owner: *from,
+        other: None,
+    }));
     while let Some((other, row)) = next_in(&mut walk, from) {
         best = higher(best, row.written, &other, to);
     }
@@ -170,7 +174,7 @@ fn written_after(
 impl CIndex {
     /// Puts the row of the pair, and changes all that is counted in the rows.
     ///
-    /// At most five keys are set: the row, and where the certification begins or ends the pair under its receiver and the count of
+    /// At most four keys are set: the row, and where the certification begins or ends the pair under its receiver and the count of
     /// the receiver, and what the key has issued where that changes. The block in which a key last wrote is told without a walk
     /// where the row's block is not below it, or where the row that is replaced was not of that block.
     ///
@@ -185,7 +189,7 @@ impl CIndex {
         ensures at { OnOk result ((s t : List Rows) → ⟦<CIndex as Tables<CertRows>>⟧.at self.old s → ⟦<CIndex as Tables<CertRows>>⟧.at self.new (map.insert (newest map.empty s) (from, to) row ∷ t)) }
         ensures others { ⟦<CIndex as Tables<CertRows>>⟧.others self.new ≡ ⟦<CIndex as Tables<CertRows>>⟧.others self.old }
         ensures count { ⟦<CIndex as Tables<CertRows>>⟧.count self.new + steps.old ≤ ⟦<CIndex as Tables<CertRows>>⟧.count self.old + steps.new }
-        ensures steps { OnOk result (steps.new ≤ steps.old + 5) }
+        ensures steps { OnOk result (steps.new ≤ steps.old + 4) }
         ensures once { OnOk result ((s : List Rows) → ⟦<CIndex as Tables<CertRows>>⟧.at self.old s → lives (map.get (newest map.empty s) (from, to)) ≡ row.live
             → issuer_in (map.insert (newest map.empty s) (from, to) row) from ≡ issuer_in (newest map.empty s) from
             → steps.new ≡ steps.old + 1) }
@@ -245,10 +249,19 @@ impl CIndex {
         ensures ready_received { OnOk result (IsReady place_cmp self.new.tables.second.tables.first.table (to.now, Some from.now) changes.now.pair × IsReady text_cmp self.new.tables.second.tables.second.table to.now changes.now.received) }
         ensures ready_issued { OnOk result (IsReady text_cmp self.new.tables.third.table from.now changes.now.issuer) }
     {
-        self.tables.first.ready((*from, Some(*to)), 1)?;
+        self.tables.first.ready(
+            Place {
+                owner: *from,
+                other: Some(*to),
+            },
+            1,
+        )?;
         ready_side(
-            &mut self.tables.second.tables,
-            &(*to, Some(*from)),
+            &mut self.tables.second,
+            &Place {
+                owner: *to,
+                other: Some(*from),
+            },
             &changes.pair,
             to,
             &changes.received,
@@ -276,12 +289,20 @@ impl CIndex {
             → IsReady text_cmp self.old.tables.third.table from.now changes.now.issuer
             → IsOk result }
     {
-        let received_by = (*to, Some(*from));
-        self.tables
-            .first
-            .set((*from, Some(*to)), Some(changes.row), steps)?;
+        let received_by = Place {
+            owner: *to,
+            other: Some(*from),
+        };
+        self.tables.first.set(
+            Place {
+                owner: *from,
+                other: Some(*to),
+            },
+            Some(changes.row),
+            steps,
+        )?;
         make_side(
-            &mut self.tables.second.tables,
+            &mut self.tables.second,
             &received_by,
             &changes.pair,
             to,

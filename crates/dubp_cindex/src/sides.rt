@@ -1,15 +1,19 @@
-ghost use Rattle.std.specs.Prelude.{◌≡◌, List, []};
+ghost use Rattle.std.specs.Prelude.{◌≡◌, ◌+◌, ◌≤◌, List, [], OnOk, IsOk};
+ghost use Rattle.dubp_cindex.specs.Changes.{Makes, IsReady, sets_of};
+ghost use Rattle.dubp_cindex.specs.Orders.{text_cmp, place_cmp};
 ghost use Rattle.dubp_cindex.specs.Rows.{Rows};
 
+use crate::changing::{Change, make, make_found, ready_for, ready_found};
 use crate::row::CertRows;
-use crate::tables::{Received, ReceivedBy, Side};
-use dubp_atoms::{NoMemory, Secret, Steps};
+use crate::tables::{Counted, Received, ReceivedBy};
+use crate::walking::Place;
+use dubp_atoms::{Key, NoMemory, Secret, Steps};
 use dubp_finders::ByHash;
 use dubp_undo::{Both, Found, Leaf, NoSummary, Tables};
 use std::alloc::Global;
 use std::sync::ledger::Ledger as StepBook;
 
-type ReceivedSide = Side<u64, ReceivedBy, Received>;
+type ReceivedSide = Both<CertRows, Leaf<CertRows, Place, (), ReceivedBy>, Counted<u64, Received>>;
 
 /// Who certifies each key, and how many do.
 #[derive(Drop)]
@@ -90,4 +94,45 @@ pub fn no_received(alloc: Global, secret: Secret) -> ReceivedTables
     let counted = Found::over(ByHash::new(alloc, secret), NoSummary, alloc);
     let tables = Both::new(pairs, counted);
     ReceivedTables { tables }
+}
+
+/// Makes both keys ready where their values change.
+pub fn ready_side(
+    side: &mut ReceivedTables,
+    place: &Place,
+    pair: &Change<()>,
+    key: &Key,
+    value: &Change<u64>,
+) -> Result<(), NoMemory>
+    ensures now { ⟦<ReceivedTables as Tables<CertRows>>⟧.now side.new ≡ ⟦<ReceivedTables as Tables<CertRows>>⟧.now side.old }
+    ensures count { ⟦<ReceivedTables as Tables<CertRows>>⟧.count side.new ≡ ⟦<ReceivedTables as Tables<CertRows>>⟧.count side.old }
+    ensures others { ⟦<ReceivedTables as Tables<CertRows>>⟧.others side.new ≡ ⟦<ReceivedTables as Tables<CertRows>>⟧.others side.old }
+    ensures ready_first { OnOk result (IsReady place_cmp side.new.tables.first.table place.now pair.now) }
+    ensures ready_second { OnOk result (IsReady text_cmp side.new.tables.second.table key.now value.now) }
+{
+    ready_for(&mut side.tables.first, *place, pair)?;
+    ready_found(&mut side.tables.second, *key, value)?;
+    Ok(())
+}
+
+/// Sets both keys where their values change.
+pub fn make_side<L: StepBook>(
+    side: &mut ReceivedTables,
+    place: &Place,
+    pair: &Change<()>,
+    key: &Key,
+    value: &Change<u64>,
+    steps: &mut Steps<L>,
+) -> Result<(), NoMemory>
+    ensures first { OnOk result (Makes place_cmp side.old.tables.first.table.now side.new.tables.first.table.now place.now pair.now) }
+    ensures second { OnOk result (Makes text_cmp side.old.tables.second.table.now side.new.tables.second.table.now key.now value.now) }
+    ensures others { ⟦<ReceivedTables as Tables<CertRows>>⟧.others side.new ≡ ⟦<ReceivedTables as Tables<CertRows>>⟧.others side.old }
+    ensures count { ⟦<ReceivedTables as Tables<CertRows>>⟧.count side.new + steps.old ≤ ⟦<ReceivedTables as Tables<CertRows>>⟧.count side.old + steps.new }
+    ensures steps { OnOk result (steps.new ≡ steps.old + (sets_of pair.now + sets_of value.now)) }
+
+    ensures succeeds { IsReady place_cmp side.old.tables.first.table place.now pair.now → IsReady text_cmp side.old.tables.second.table key.now value.now → IsOk result }
+{
+    make(&mut side.tables.first, *place, pair, steps)?;
+    make_found(&mut side.tables.second, *key, value, steps)?;
+    Ok(())
 }

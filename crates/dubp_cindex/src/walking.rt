@@ -5,10 +5,28 @@ ghost use Rattle.dubp_cindex.specs.Following.{Follows};
 
 use dubp_atoms::Key;
 use dubp_undo::{Definition, Leaf, Walk};
+use std::marker::Model;
 use std::ops::Bound;
 
-/// Two keys, where no second one is before all others.
-pub type Place = (Key, Option<Key>);
+/// A place in a table of pairs: a key and another, where none is before all others.
+///
+/// Contracts see it as the pair of both. A struct for the pair keeps the types of tables in one another few.
+#[derive(Clone, Copy, PartialEq, Eq, PartialOrd, Ord)]
+pub struct Place {
+    pub owner: Key,
+    pub other: Option<Key>,
+}
+
+impl Model for Place {
+    ghost use Rattle.std.specs.Prelude.{Option};
+    ghost use Rattle.dubp_atoms.specs.Same.{Text};
+
+    ghost Value = { Text × Option Text };
+
+    ghost view = { λ p. (p.owner, p.other) };
+
+    ghost inverse = { λ v. record { owner = v.0; other = v.1 } };
+}
 
 /// The next entry of the owner whose other key is above `after`, or its first.
 pub fn next_of<B, V: Copy + Eq, D: Definition<B, Place, V>>(
@@ -18,7 +36,11 @@ pub fn next_of<B, V: Copy + Eq, D: Definition<B, Place, V>>(
 ) -> Option<(Key, V)>
     ensures { Follows table.now.table.now owner.now after.now result }
 {
-    let mut walk = table.walk_from(Bound::Excluded((*owner, *after)));
+    let behind = Place {
+        owner: *owner,
+        other: *after,
+    };
+    let mut walk = table.walk_from(Bound::Excluded(behind));
     next_in(&mut walk, owner)
 }
 
@@ -29,10 +51,9 @@ pub fn next_in<'a, V: Copy>(walk: &mut Walk<'a, Place, V>, owner: &Key) -> Optio
     ensures from { IfSome result (λ e. walk.new.from ≡ Excluded (owner.now, Some e.0)) }
 {
     let (place, value) = walk.next()?;
-    let (found, other) = place;
-    if found != *owner {
+    if place.owner != *owner {
         return None;
     }
-    let other = other?;
+    let other = place.other?;
     Some((other, value))
 }

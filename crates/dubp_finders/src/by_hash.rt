@@ -2,7 +2,7 @@ ghost use Rattle.std.specs.Prelude.{◌≡◌, None};
 ghost use Rattle.indexmap.specs.IndexMap.{get};
 ghost use Rattle.dubp_journal.specs.Finders.{hash_respects};
 
-use dubp_atoms::NoMemory;
+use dubp_costs::NoMemory;
 use dubp_journal::Finder;
 use indexmap::IndexMap;
 use indexmap::map::Entry;

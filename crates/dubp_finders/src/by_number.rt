@@ -3,7 +3,7 @@ ghost use Rattle.std.specs.Ordering.{nat_cmp};
 ghost use Rattle.std.specs.Cmp.{nat_cmp_total};
 ghost use Rattle.dubp_journal.specs.Finders.{number_respects};
 
-use dubp_atoms::NoMemory;
+use dubp_costs::NoMemory;
 use dubp_journal::Finder;
 use std::alloc::Global;
 

@@ -9,7 +9,7 @@ use Rattle.dubp_rules.specs.Table.{code_text}
 use Rattle.dubp_replay.specs.Answers.{forged_answer, none_answer, refused_answer}
 use Rattle.dubp_replay.specs.OfForging.{Forging, IsForged, IsTried}
 use Rattle.dubp_replay.specs.Turns.{IsForgeAnswer, IsForgedAnswer}
-use Rattle.dubp_atoms.specs.declared.no_memory.NoMemory.{NoMemory}
+use Rattle.dubp_atoms.specs.OfCosts.{NoMemory}
 use Rattle.dubp_forge.specs.Forgings.{IsForging}
 use Rattle.dubp_forge.specs.declared.forged.Forged.{Forged}
 use Rattle.dubp_forge.specs.declared.forged.ForgeRefusal.{ForgeRefusal}

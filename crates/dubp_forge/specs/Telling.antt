@@ -5,7 +5,7 @@ use Rattle.std.specs.List.{flat_map}
 use Rattle.dubp_atoms.specs.Same.{Text}
 use Rattle.dubp_rules.specs.declared.rule.Rule.{Rule}
 use Rattle.dubp_rules.specs.Table.{code_text}
-use Rattle.dubp_atoms.specs.declared.no_memory.NoMemory.{NoMemory}
+use Rattle.dubp_atoms.specs.OfCosts.{NoMemory}
 use Rattle.dubp_replay.specs.Answers.{left_line, none_answer, refused_answer}
 use Rattle.dubp_forge.specs.declared.forged.ForgeRefusal.{ForgeRefusal}
 use Rattle.dubp_forge.specs.declared.forged.ForgeRefusal.TheVariants as refusal

@@ -6,7 +6,7 @@ ghost use Rattle.dubp_journal.specs.Finders.{order_respects};
 ghost use Rattle.dubp_journal.specs.Slots.{IsFirstHeld, HasNoneHeld};
 
 use crate::finder::{Finder, OrderedFinder};
-use dubp_atoms::NoMemory;
+use dubp_costs::NoMemory;
 use std::alloc::Global;
 use std::collections::BTreeMap;
 use std::collections::btree_map::{Entry, Range};

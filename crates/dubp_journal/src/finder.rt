@@ -4,7 +4,7 @@ ghost use Rattle.std.specs.Cmp.{IsTotalOrder};
 ghost use Rattle.std.specs.declared.cmp.Ordering.{Ordering};
 ghost use Rattle.dubp_journal.specs.Slots.{IsFirstHeld, HasNoneHeld};
 
-use dubp_atoms::NoMemory;
+use dubp_costs::NoMemory;
 use std::ops::Bound;
 
 /// What finds the slot of a key.

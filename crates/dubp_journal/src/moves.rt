@@ -7,7 +7,7 @@ ghost use Rattle.dubp_journal.specs.Journal.{Follows, undo, redo_of, named, note
 use crate::hints::Hints;
 use crate::slots::Slots;
 use crate::summary::Summary;
-use dubp_atoms::{NoMemory, Steps};
+use dubp_costs::{NoMemory, Steps};
 use std::collections::VecDeque;
 use std::sync::ledger::Ledger as StepBook;
 

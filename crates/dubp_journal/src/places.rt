@@ -6,7 +6,7 @@ use crate::finder::Finder;
 use crate::hints::Hints;
 use crate::slots::Slots;
 use crate::summary::Summary;
-use dubp_atoms::NoMemory;
+use dubp_costs::NoMemory;
 
 /// A slot without a key, where the hints have one.
 fn free_slot<K: Copy>(keys: &[Option<K>], hints: &Hints) -> Option<usize>

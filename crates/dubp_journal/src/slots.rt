@@ -1,7 +1,7 @@
 ghost use Rattle.std.specs.Prelude.{◌≡◌, ◌<◌, ◌∷◌, ◌++◌, [], None, get_or, length, set, OnOk, OnErr};
 
 use crate::summary::Summary;
-use dubp_atoms::NoMemory;
+use dubp_costs::NoMemory;
 use std::alloc::Global;
 use std::marker::Model;
 

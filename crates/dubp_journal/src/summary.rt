@@ -2,7 +2,7 @@ ghost use Rattle.std.specs.Prelude.{◌≡◌, ◌<◌, ◌+◌, ◌∷◌, ◌+
 ghost use Rattle.std.specs.declared.option.Option.TheVariants.{None};
 ghost use Rattle.dubp_journal.specs.Least.{IsLeast, HasNone};
 
-use dubp_atoms::NoMemory;
+use dubp_costs::NoMemory;
 
 /// What a table keeps over the values of all its slots. It does not hold the values: the table shows them at each call.
 ///

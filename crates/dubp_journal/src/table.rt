@@ -10,7 +10,7 @@ use crate::places::{give_up_idle, place};
 use crate::slots::Slots;
 use crate::summary::{NoSummary, Summary, TellsLeast};
 use crate::walk::Walk;
-use dubp_atoms::{NoMemory, Steps};
+use dubp_costs::{NoMemory, Steps};
 use std::alloc::Global;
 use std::collections::VecDeque;
 use std::marker::Model;

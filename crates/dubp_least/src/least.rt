@@ -4,7 +4,7 @@ ghost use Rattle.dubp_least.specs.Matches.{IsPlayedOver};
 ghost use Rattle.dubp_least.specs.Growing.{one_slot_more};
 
 use crate::matches::{play_above, play_all, value_at, winner_at};
-use dubp_atoms::NoMemory;
+use dubp_costs::NoMemory;
 use dubp_journal::{Summary, TellsLeast};
 use std::alloc::Global;
 use std::marker::PhantomData;

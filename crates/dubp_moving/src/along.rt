@@ -2,7 +2,7 @@ ghost use Rattle.std.specs.Prelude.{◌≡◌, ◌∷◌, List};
 ghost use Rattle.dubp_moving.specs.States.{states};
 
 use crate::moving::Tables;
-use dubp_atoms::{NoMemory, Steps};
+use dubp_costs::{NoMemory, Steps};
 use std::marker::PhantomData;
 use std::sync::ledger::Ledger as StepBook;
 

@@ -2,7 +2,7 @@ ghost use Rattle.std.specs.Prelude.{◌≡◌, ◌+◌, length, min};
 ghost use Rattle.dubp_moving.specs.Others.{Others, zip_others};
 
 use crate::moving::Tables;
-use dubp_atoms::{NoMemory, Steps};
+use dubp_costs::{NoMemory, Steps};
 use std::marker::PhantomData;
 use std::sync::ledger::Ledger as StepBook;
 

@@ -1,7 +1,7 @@
 ghost use Rattle.std.specs.Prelude.{◌≡◌, ℕ, ◌+◌, ◌<◌, ◌≤◌, List, [], ◌∷◌, length, OnOk, OnErr, Option};
 ghost use Rattle.dubp_moving.specs.Others.{Others, but_last};
 
-use dubp_atoms::{NoMemory, Steps};
+use dubp_costs::{NoMemory, Steps};
 use std::sync::ledger::Ledger as StepBook;
 
 /// Tables of a chain of blocks `B` that move as one: they keep their states at the last blocks, go back to them, and forth.

@@ -1,6 +1,6 @@
 -- What a query is answered. Protocol: commands and answers.
 use Rattle.std.specs.Prelude.{ℕ, List, Result, Ok, Err}
-use Rattle.dubp_atoms.specs.declared.no_memory.NoMemory.{NoMemory}
+use Rattle.dubp_atoms.specs.OfCosts.{NoMemory}
 use Rattle.dubp_chain.specs.Chains.{Chain}
 use Rattle.dubp_replay.specs.Answers.{IsAnswered}
 use Rattle.dubp_replay.specs.Turns.{AskingTakesMemory}

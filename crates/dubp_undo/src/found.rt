@@ -5,7 +5,7 @@ ghost use Rattle.dubp_journal.specs.MovingTable.{get, Puts, IsLeast, IsLowest, H
 ghost use Rattle.dubp_undo.specs.Definition.{IsAt};
 ghost use Rattle.dubp_undo.specs.Turned.{others_of, count_of};
 
-use dubp_atoms::{NoMemory, Steps};
+use dubp_costs::{NoMemory, Steps};
 use dubp_journal::{Finder, Summary, TellsLeast, UndoTable};
 use dubp_moving::{Definition, Tables};
 use std::alloc::Global;

@@ -1,5 +1,4 @@
-use Rattle.std.proofs.Common.{None, ap, subst}
-use Rattle.std.specs.declared.ops.Bound.TheVariants.{Excluded}
+use Rattle.std.proofs.Common.{ap, subst}
 use Rattle.dubp_cindex.specs.Following.{Follows}
 use Rattle.dubp_cindex.proofs.walking.next_of.Goals as goal
 

@@ -1,4 +1,4 @@
-use Rattle.std.proofs.Common.{◌∙◌, Option, ap, refl, sym}
+use Rattle.std.proofs.Common.{◌∙◌, Option, ap, refl}
 use Rattle.std.specs.FinMap.{empty, entries}
 use Rattle.dubp_atoms.specs.Same.{Text}
 use Rattle.dubp_undo.specs.States.{newest}
