@@ -99,11 +99,7 @@ impl<'a> TwoChains for Judged<'a> {
 }
 
 /// The live certifications of the key on the chain with the block.
-fn certified_of<A: WithBlock>(
-    alloc: Global,
-    after: &A,
-    key: Key,
-) -> Result<Certified, NoMemory>
+fn certified_of<A: WithBlock>(alloc: Global, after: &A, key: Key) -> Result<Certified, NoMemory>
     ensures { IfOk result (λ x. (c : Chain) (b : BlockValue) → A.after after.now c b → IsCertified (b ∷ c) key x) }
 {
     let found = issuers(alloc, after, key)?;
