@@ -34,8 +34,7 @@ pub(crate) fn comers_pass<'a>(
         after,
         next,
     };
-    let holds = dubp_people_distance::comers_pass(alloc, &chains, block)?;
-    Ok(holds)
+    dubp_people_distance::comers_pass(alloc, &chains, block)
 }
 
 /// The registry of a chain, and beside it what a block changes.

@@ -42,8 +42,7 @@ pub fn first_broken_of_people(
         next,
         verdicts,
     };
-    let found = first_broken(&asked)?;
-    Ok(found)
+    first_broken(&asked)
 }
 
 /// The same, where what holds of the chain with the block is not at hand: `head` is the head of that chain.

@@ -1,3 +1,4 @@
+use Rattle.std.proofs.lemmas.Result.{IfOk-weaker}
 use Rattle.dubp_rules.proofs.FirstLaws.{IsFirst_from_FirstOf}
 use Rattle.dubp_validity.specs.Rules.{Holds}
 use Rattle.dubp_people_checks.specs.PeopleRules.{people_rules}
@@ -9,6 +10,7 @@ first_broken-requires c =
     (asks.0, record { at = asks.1.0; asked = asks.1.1; shown = c.in_ok-after.ensures asks.0 asks.1.0 asks.1.1 })
 
 pub returns : goal.returns
-returns c = λ chain at asked.
-    IsFirst_from_FirstOf (Holds c.args.verdicts.now chain c.args.block.now) people_rules c.in_ok-found.found
-    (c.in_ok-found.ensures chain record { at = at; asked = asked; shown = c.in_ok-after.ensures chain at asked })
+returns c =
+    IfOk-weaker c.first_broken.result _ _ (λ found first chain at asked.
+    IsFirst_from_FirstOf (Holds c.args.verdicts.now chain c.args.block.now) people_rules found
+    (first chain record { at = at; asked = asked; shown = c.in_ok-after.ensures chain at asked })) c.first_broken.ensures
