@@ -20,7 +20,7 @@ mod distance;
 mod money;
 mod money_views;
 mod people;
-mod sources;
+mod source_texts;
 
 pub use certifications::certs_text;
 pub use distance::{distance_line, put_distance_line};
@@ -29,4 +29,4 @@ pub use dubp_money::Money;
 pub use money::{balance_line, money_line, put_balance_line, put_money_line};
 pub use money_views::{balance, first_source, sources};
 pub use people::{identity_line, put_identity_line, put_uid_line, uid_line};
-pub use sources::sources_text;
+pub use source_texts::sources_text;

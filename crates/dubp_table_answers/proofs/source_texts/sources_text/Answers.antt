@@ -3,7 +3,7 @@ use Rattle.dubp_chain.specs.Money.{sources_of}
 use Rattle.dubp_replay.specs.Answers.{ended}
 use Rattle.dubp_answers.specs.SourceLines.{view_line}
 use Rattle.dubp_answers.proofs.Views.{lines_shown}
-use Rattle.dubp_table_answers.proofs.sources.sources_text.Goals as goal
+use Rattle.dubp_table_answers.proofs.source_texts.sources_text.Goals as goal
 
 pub returns : goal.returns
 returns c = λ chain at sound.
