@@ -11,6 +11,7 @@
 //! ```
 #![tactic(auto)]
 
+mod answering;
 mod books;
 mod judging;
 mod leaving;
@@ -20,4 +21,4 @@ mod writing;
 pub use books::Books;
 pub use dubp_money_rules::Money;
 pub use dubp_people::People;
-pub use dubp_people_and_money::{Judges, PeopleAndMoney};
+pub use dubp_people_and_money::{Judges, LendsPeopleAndMoney, PeopleAndMoney};

@@ -25,7 +25,7 @@ use dubp_docs::TxHashes;
 use dubp_head::{Heads, difficulty};
 use dubp_params::Params;
 use dubp_people_and_money::{
-    Held, Judgement, Kept, PeopleAndMoney, check_local_read, judge, trial,
+    Held, Judgement, Kept, LendsPeopleAndMoney, PeopleAndMoney, check_local_read, judge, trial,
 };
 use dubp_rules::Rule;
 use dubp_validity::Record;
@@ -170,24 +170,6 @@ impl<T: PeopleAndMoney> Ledger<T> {
         ensures { T.at result.now self.now.chain }
     {
         self.kept.tables()
-    }
-
-    /// The people of the chain, with their states before each block that can be reversed, and those of the blocks that are held. It takes no
-    /// memory.
-    pub fn people(&self) -> &T::People
-        ensures at { T.People.at result.now self.now.chain }
-        ensures states { AreStates (T.People.is (T.People.names result.now)) (T.People.now result.now) (T.People.count result.now) (T.People.others result.now) self.now }
-    {
-        self.kept.tables().people()
-    }
-
-    /// The money of the chain, with its states before each block that can be reversed, and those of the blocks that are held. It takes no
-    /// memory.
-    pub fn money(&self) -> &T::Money
-        ensures at { T.Money.at result.now self.now.chain }
-        ensures states { AreStates (T.Money.is (T.Money.names result.now)) (T.Money.now result.now) (T.Money.count result.now) (T.Money.others result.now) self.now }
-    {
-        self.kept.tables().money()
     }
 
     /// The block of this number, with its head and what it left behind. None exactly where the chain has none. It takes no memory.
@@ -446,6 +428,26 @@ impl<T: PeopleAndMoney> Ledger<T> {
     {
         self.traces.put_back();
         self.kept.restore(held, steps);
+    }
+}
+
+impl<T: LendsPeopleAndMoney> Ledger<T> {
+    /// The people of the chain, with their states before each block that can be reversed, and those of the blocks that are held. It takes no
+    /// memory.
+    pub fn people(&self) -> &T::People
+        ensures at { T.People.at result.now self.now.chain }
+        ensures states { AreStates (T.People.is (T.People.names result.now)) (T.People.now result.now) (T.People.count result.now) (T.People.others result.now) self.now }
+    {
+        self.kept.tables().people()
+    }
+
+    /// The money of the chain, with its states before each block that can be reversed, and those of the blocks that are held. It takes no
+    /// memory.
+    pub fn money(&self) -> &T::Money
+        ensures at { T.Money.at result.now self.now.chain }
+        ensures states { AreStates (T.Money.is (T.Money.names result.now)) (T.Money.now result.now) (T.Money.count result.now) (T.Money.others result.now) self.now }
+    {
+        self.kept.tables().money()
     }
 }
 

@@ -20,7 +20,9 @@ mod refusal;
 mod traces;
 mod written;
 
-pub use dubp_people_and_money::{Held, LeftBehind, PeopleAndMoney, SourceView};
+pub use dubp_people_and_money::{
+    Held, LeftBehind, LendsPeopleAndMoney, PeopleAndMoney, SourceView,
+};
 pub use ledger::Ledger;
 pub use refusal::{SubmitRefusal, TooDeep};
 pub use written::WrittenBlock;

@@ -10,7 +10,6 @@ ghost use Rattle.dubp_facts.specs.Facts.{first_at};
 ghost use Rattle.dubp_validity.specs.Records.{records};
 ghost use Rattle.dubp_validity.specs.Rules.{IsSound};
 ghost use Rattle.dubp_replay.specs.Answers.{IsDistance, balance_answer, certs_answer, identity_answer, money_answer, none_answer, sources_answer, uid_answer};
-ghost use Rattle.dubp_kept.specs.KeptChain.{KeptChain, AreStates};
 ghost use Rattle.dubp_kept.specs.LeftBehind.{left_behind};
 ghost use Rattle.dubp_answers.specs.SourceLines.{view_of};
 
@@ -27,31 +26,15 @@ use std::alloc::Global;
 
 /// Tables of the people and the money of a chain, which a block is judged by and written into, and of which queries are asked.
 ///
-/// What stands on a ledger is proved over any such tables. Where their states are those of a chain, so are those of the people and of the
-/// money, and each answer is that of the chain. What a line is put into is empty.
+/// What stands on a ledger is proved over any such tables. Each answer is that of the chain that they stand for. What a line is put into
+/// is empty.
 pub trait PeopleAndMoney: Judges {
-    /// The tables of the people.
-    type People: Tables<Block>;
-
-    /// The tables of the money.
-    type Money: Tables<Block>;
-
     /// Those of the empty chain. What strangers choose is hashed by the secret. It takes no memory.
     fn empty(alloc: Global, secret: Secret) -> Self
         ensures at { Self.at result [] }
         ensures count { Self.count result ≡ 0 }
         ensures kept { (Self.others result).kept ≡ [] }
         ensures ahead { (Self.others result).ahead ≡ [] };
-
-    /// The people.
-    fn people(&self) -> &Self::People
-        ensures at { (c : Chain) → Self.at self.now c → Self.People.at result.now c }
-        ensures states { (s : KeptChain) → AreStates (Self.is (Self.names self.now)) (Self.now self.now) (Self.count self.now) (Self.others self.now) s → AreStates (Self.People.is (Self.People.names result.now)) (Self.People.now result.now) (Self.People.count result.now) (Self.People.others result.now) s };
-
-    /// The money.
-    fn money(&self) -> &Self::Money
-        ensures at { (c : Chain) → Self.at self.now c → Self.Money.at result.now c }
-        ensures states { (s : KeptChain) → AreStates (Self.is (Self.names self.now)) (Self.now self.now) (Self.count self.now) (Self.others self.now) s → AreStates (Self.Money.is (Self.Money.names result.now)) (Self.Money.now result.now) (Self.Money.count result.now) (Self.Money.others result.now) s };
 
     /// What keys and conditions are hashed by, for sets that live as long as a block.
     fn secret(&self) -> Secret;

@@ -1,7 +1,7 @@
 use Rattle.dubp_people.specs.OfRegistry.registry_tables_block as people
 use Rattle.dubp_money_rules.specs.OfMoney.money_tables_block as money
 use Rattle.dubp_books.proofs.Sides.{sides}
-use Rattle.dubp_books.proofs.lending.BooksPeopleAndMoney.people.Goals as goal
+use Rattle.dubp_books.proofs.lending.BooksLendsPeopleAndMoney.people.Goals as goal
 
 pub returns-clause-states : goal.returns-clause-states
 returns-clause-states c = λ s a.
