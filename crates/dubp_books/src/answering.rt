@@ -40,7 +40,9 @@ impl PeopleAndMoney for Books {
         left: &LeftBehind,
         out: &mut Vec<Record>,
     ) -> Result<(), NoMemory> {
-        put_records(alloc, block, head, self.tables.first.facts(), left, out)
+        let facts = self.tables.first.facts();
+        put_records(alloc, block, head, facts, left, out)?;
+        Ok(())
     }
 
     fn put_money(&self, line: &mut Line) {
