@@ -191,7 +191,8 @@ fn is_copied(alloc: Global, tx: &Tx) -> Result<bool, NoMemory> {
     let same = copied.inputs.as_slice() == tx.inputs.as_slice();
     let timed = match copied.outputs.as_slice() {
         [_, output] => {
-            !holds(&output.cond, &[], &[], 999, 0) && holds(&output.cond, &[], &[], 1000, 0)
+            let cond = output.cond.tree(alloc)?;
+            !holds(&cond, &[], &[], 999, 0) && holds(&cond, &[], &[], 1000, 0)
         }
         _ => false,
     };

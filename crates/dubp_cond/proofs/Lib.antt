@@ -5,6 +5,7 @@ pub mod Items
 pub mod Conditions
 pub mod Sources
 pub mod Unlocks
+pub mod Spellings
 pub mod Outputs
 pub mod Strips
 pub mod Exact

@@ -16,6 +16,7 @@ pub mod Transactions
 pub mod Separated
 pub mod Finding
 pub mod Reading
+pub mod Spelled
 pub mod ReadingLines
 pub mod Gives
 pub mod Asked

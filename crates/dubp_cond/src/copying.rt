@@ -89,7 +89,7 @@ fn copy_output(alloc: Global, output: &Output) -> Result<Output, NoMemory>
     Ok(Output {
         amount: output.amount,
         base: output.base,
-        cond: copy_cond(alloc, &output.cond)?,
+        cond: output.cond.copy(alloc)?,
     })
 }
 

@@ -6,10 +6,8 @@ ghost use Rattle.dubp_cond.specs.ReadingLines.{output_of};
 ghost use Rattle.dubp_cond.specs.declared.output.Output.{Output as OutputValue};
 
 use crate::passing::pass_whole;
-use crate::reading::read_whole;
 use crate::source::read_base;
-use crate::tree::Cond;
-use crate::writing::put_cond;
+use crate::spelled::{SpelledCond, read_spelled};
 use dubp_atoms::{Line, NoMemory, cut, put_bytes, put_number, read_number};
 use std::alloc::Global;
 
@@ -20,7 +18,7 @@ use std::alloc::Global;
 pub struct Output {
     pub amount: u64,
     pub base: u8,
-    pub cond: Cond,
+    pub cond: SpelledCond,
 }
 
 #[tactic(auto, unfolding(crate::specs::ReadingLines::output_of))]
@@ -40,7 +38,7 @@ fn read_parts(alloc: Global, line: &[u8]) -> Result<Option<Output>, NoMemory>
     let Some(base) = read_base(base) else {
         return Ok(None);
     };
-    let Some(cond) = read_whole(alloc, cond)? else {
+    let Some(cond) = read_spelled(alloc, cond)? else {
         return Ok(None);
     };
     Ok(Some(Output { amount, base, cond }))
@@ -89,5 +87,5 @@ pub fn put_output(output: &Output, out: &mut Line)
     put_bytes(out, b":");
     put_number(output.base as u128, out);
     put_bytes(out, b":");
-    put_cond(&output.cond, out);
+    put_bytes(out, output.cond.as_text());
 }

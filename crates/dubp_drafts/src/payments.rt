@@ -11,7 +11,7 @@ use crate::keys::key_of;
 use crate::memory::{only, push, vec_of};
 use crate::signing::sign_and_note;
 use dubp_atoms::{Hash, Items, Key, NoMemory, Sig, Stamp};
-use dubp_cond::{All, Cond, Input, Item, Output, Tx, Unlock, UnlockLine};
+use dubp_cond::{All, Cond, Input, Item, Output, SpelledCond, Tx, Unlock, UnlockLine};
 use dubp_docs::signed_tx;
 use std::alloc::Global;
 
@@ -132,11 +132,8 @@ fn output_to(alloc: Global, amount: u64, base: u8, person: u32) -> Result<Output
 {
     let every = vec_of(alloc, Item::Sig(key_of(person)))?;
     let any = vec_of(alloc, All { every })?;
-    Ok(Output {
-        amount,
-        base,
-        cond: Cond { any },
-    })
+    let cond = SpelledCond::of(alloc, &Cond { any })?;
+    Ok(Output { amount, base, cond })
 }
 
 // What the payee gets of this amount.

@@ -2,7 +2,6 @@ ghost use Rattle.std.specs.Prelude.{◌≡◌, ◌+◌, ◌*◌, ◌≤◌, ◌+
 ghost use Rattle.std.specs.List.{list_any};
 ghost use Rattle.dubp_atoms.specs.Same.{same_text};
 ghost use Rattle.dubp_cond.specs.Conditions.{cond_text};
-ghost use Rattle.dubp_cond.specs.Transactions.{IsTx};
 ghost use Rattle.dubp_validity.specs.declared.record.Record.TheVariants.{Make};
 ghost use Rattle.dubp_validity.specs.Records.{make_record};
 ghost use Rattle.dubp_chain.specs.Money.{signed_by};
@@ -15,9 +14,8 @@ ghost use Rattle.dubp_money.specs.Texts.{Grows};
 ghost use Rattle.dubp_money.specs.Making.{outputs_at, CanFollow, with_made, source_of};
 
 use crate::counting::place_behind;
-use arrayvec::ArrayVec;
-use dubp_atoms::{Hash, Items, Key, Line, NoMemory, Steps};
-use dubp_cond::{Cond, Input, Output, SourceId, Tx, put_cond};
+use dubp_atoms::{Hash, Items, Key, NoMemory, Steps};
+use dubp_cond::{Input, Output, SourceId, SpelledCond, Tx};
 use dubp_sindex::{SIndex, SourceRow, SourceRows};
 use dubp_undo::Tables;
 use dubp_validity::Record;
@@ -51,10 +49,9 @@ fn row_of(source: &NewSource, account: usize) -> SourceRow
 fn make_source<L: StepBook>(
     index: &mut SIndex,
     source: NewSource,
-    cond: &Cond,
+    cond: &SpelledCond,
     steps: &mut Steps<L>,
 ) -> Result<(), NoMemory>
-    requires { length (cond_text cond.now) ≤ 1000 }
     ensures at { OnOk result ((rows : List Entry) → AreRows rows → HasRows index.old rows → IsNewRow rows (entry_of (account_in (accounts index.new)) (source.order, source_of source cond.now)) → HasRows index.new (rows ++ entry_of (account_in (accounts index.new)) (source.order, source_of source cond.now) ∷ [])) }
     ensures has { OnOk result (IsTrue (list_any (same_text (cond_text cond.now)) (accounts index.new))) }
     ensures texts { Grows (accounts index.old) (accounts index.new) }
@@ -63,7 +60,7 @@ fn make_source<L: StepBook>(
     ensures others { ⟦<SIndex as Tables<SourceRows>>⟧.others index.new ≡ ⟦<SIndex as Tables<SourceRows>>⟧.others index.old }
     ensures count { ⟦<SIndex as Tables<SourceRows>>⟧.count index.new + steps.old ≤ ⟦<SIndex as Tables<SourceRows>>⟧.count index.old + steps.new }
 {
-    let account = index.account(cond)?;
+    let account = index.spelled_account(cond)?;
     index.make(source.id, row_of(&source, account), steps)?;
     Ok(())
 }
@@ -100,7 +97,6 @@ pub fn make_outputs<L: StepBook>(
     order: u64,
     steps: &mut Steps<L>,
 ) -> Result<(), NoMemory>
-    requires { IsTx tx.now }
     ensures at { OnOk result ((rows : List Entry) → AreRows rows → CanFollow rows order (outputs_at time hash.now tx.now) → HasRows index.old rows → HasRows index.new (with_made (accounts index.new) rows order (outputs_at time hash.now tx.now))) }
     ensures has { OnOk result (HasTexts (accounts index.new) (outputs_at time hash.now tx.now)) }
     ensures texts { Grows (accounts index.old) (accounts index.new) }
@@ -128,13 +124,10 @@ pub fn make_outputs<L: StepBook>(
 }
 
 // The text of the condition, in memory of its own length.
-fn text_of(alloc: Global, cond: &Cond) -> Result<Items<u8>, NoMemory>
-    requires { length (cond_text cond.now) ≤ 1000 }
+fn text_of(alloc: Global, cond: &SpelledCond) -> Result<Items<u8>, NoMemory>
     ensures { IfOk result (λ text. text ≡ cond_text cond.now) }
 {
-    let mut line: Line = ArrayVec::new();
-    put_cond(cond, &mut line);
-    let text: Vec<u8> = Vec::from_slice(alloc, line.as_slice()).map_err(|_| NoMemory)?;
+    let text: Vec<u8> = Vec::from_slice(alloc, cond.as_text()).map_err(|_| NoMemory)?;
     Ok(Items::from_vec(text))
 }
 
@@ -144,7 +137,6 @@ fn put_make(
     source: SourceId,
     out: &mut Vec<Record>,
 ) -> Result<(), NoMemory>
-    requires { length (cond_text output.now.cond) ≤ 1000 }
     ensures appended { OnOk result (out.new.items ≡ out.old.items ++ Make (record { amount = output.now.amount; base = output.now.base; source = source }) (cond_text output.now.cond) ∷ []) }
     ensures begins { take (length out.old.items) out.new.items ≡ out.old.items }
 {
@@ -160,7 +152,6 @@ fn put_make(
 /// Appends a record for each output of the transaction of this hash.
 #[tactic(auto, using(crate::proofs::Begins::begins_on))]
 pub fn put_makes(alloc: Global, tx: &Tx, hash: &Hash, out: &mut Vec<Record>) -> Result<(), NoMemory>
-    requires { IsTx tx.now }
     ensures appended { OnOk result ((time : ℕ) → out.new.items ≡ out.old.items ++ map make_record (outputs_at time hash.now tx.now)) }
     ensures begins { take (length out.old.items) out.new.items ≡ out.old.items }
 {

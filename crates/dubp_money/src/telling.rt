@@ -2,7 +2,6 @@
 ghost use Rattle.std.specs.Prelude.{◌≡◌, ℕ, ◌++◌, List, map, take, length, OnOk};
 ghost use Rattle.std.specs.List.{flat_map};
 ghost use Rattle.dubp_block.specs.Text.{IsBlock};
-ghost use Rattle.dubp_cond.specs.Transactions.{IsTx};
 ghost use Rattle.dubp_docs.specs.declared.hashing.TxHashes.{TxHashes as TxHashesValue};
 ghost use Rattle.dubp_chain.specs.Money.{hashes_in};
 ghost use Rattle.dubp_validity.specs.declared.record.Record.TheVariants.{Dividend};
@@ -28,7 +27,6 @@ fn put_transaction(
     hash: &Hash,
     out: &mut Vec<Record>,
 ) -> Result<(), NoMemory>
-    requires { IsTx tx.now }
     ensures appended { OnOk result ((time : ℕ) → out.new.items ≡ out.old.items ++ records_at time hash.now tx.now) }
     ensures begins { take (length out.old.items) out.new.items ≡ out.old.items }
 {

@@ -1,7 +1,6 @@
 ghost use Rattle.std.specs.Prelude.{◌≡◌, ◌+◌, ◌*◌, ◌^◌, ◌≤◌, List, map, length, OnOk, IfOk};
 ghost use Rattle.std.specs.List.{flat_map};
 ghost use Rattle.dubp_block.specs.Text.{IsBlock};
-ghost use Rattle.dubp_cond.specs.Transactions.{IsTx};
 ghost use Rattle.dubp_docs.specs.declared.hashing.TxHashes.{TxHashes as TxHashesValue};
 ghost use Rattle.dubp_chain.specs.Money.{hashes_in};
 ghost use Rattle.dubp_sindex.specs.Accounts.{accounts};
@@ -36,7 +35,6 @@ pub fn write_transaction<L: StepBook>(
     order: u64,
     steps: &mut Steps<L>,
 ) -> Result<(), NoMemory>
-    requires { IsTx tx.now }
     ensures at { OnOk result ((rows : List Entry) → AreRows rows → CanFollow (without_inputs tx.now.inputs rows) order (outputs_at time hash.now tx.now) → HasRows index.old rows → HasRows index.new (with_made (accounts index.new) (without_inputs tx.now.inputs rows) order (outputs_at time hash.now tx.now))) }
     ensures has { OnOk result (HasTexts (accounts index.new) (outputs_at time hash.now tx.now)) }
     ensures texts { Grows (accounts index.old) (accounts index.new) }

@@ -11,7 +11,7 @@ ghost use Rattle.dubp_validity.specs.Rules.{IsSound};
 ghost use Rattle.dubp_left.specs.Next.{IsAsked};
 ghost use Rattle.dubp_validity.specs.LocalRules.{InputsAreUnlockedOnce};
 ghost use Rattle.dubp_validity.specs.MoneyRules.{ConditionsAreTrue, IsOpened, spent, unlocks_of};
-ghost use Rattle.dubp_money_rules.specs.Spending.{AreNumbered, AreOpened, AreUnlockedOnce, EachAt, HaveConditions, IsRead, IsSeenOpened, at_hand, made_before, seen_in, seen_output};
+ghost use Rattle.dubp_money_rules.specs.Spending.{AreNumbered, AreOpened, AreUnlockedOnce, EachAt, HaveConditions, IsRead, IsSeenOpened, at_hand, seen_in, seen_output};
 
 use crate::spending::{fitting_row, output_named};
 use dubp_atoms::{Hash, Key, NoMemory};
@@ -82,7 +82,7 @@ fn is_true_at(cond: &Cond, unlocks: &[Unlock], issuers: &[Key], now: u64, writte
 /// For each input that is there, the condition of its source is true: rule `G88`. The numbers are the hashes of the transactions of the
 /// block, in order.
 ///
-/// `NoMemory` where there is none for a condition of the chain.
+/// `NoMemory` where there is none for a condition.
 pub fn conditions_are_true(
     alloc: Global,
     sources: &Sources,
@@ -156,39 +156,31 @@ fn is_opened(
     let issuers = tx.issuers.as_slice();
     match condition_of_source(alloc, sources, input)? {
         Some((made, cond)) => Ok(is_true_at(&cond, unlocks, issuers, time, made)),
-        None => Ok(made_is_opened(numbers, time, block, number, input, unlocks, issuers)),
+        None => {
+            let txs = block.transactions.as_slice();
+            let output = output_named(numbers, txs, number, input.source);
+            let opened = output_is_opened(alloc, output, time, input, unlocks, issuers)?;
+            Ok(opened)
+        }
     }
 }
 
-/// Whether the condition of the output of an earlier transaction of the block that the input spends is true, where there is one.
-fn made_is_opened(
-    numbers: &IndexSet<Hash>,
-    time: u64,
-    block: &Block,
-    number: usize,
-    input: &Input,
-    unlocks: &[Unlock],
-    issuers: &[Key],
-) -> bool
-    ensures { AreNumbered numbers.now.keys block.now → (IsTrue result ↔ IsSeenOpened time unlocks.now issuers.now (seen_in (spent (made_before time block.now number) input.now))) }
-{
-    let output = output_named(numbers, block.transactions.as_slice(), number, input.source);
-    output_is_opened(output, time, input, unlocks, issuers)
-}
-
+/// Whether the condition of the output is true, where there is one that the input can spend.
 fn output_is_opened(
+    alloc: Global,
     output: Option<&Output>,
     time: u64,
     input: &Input,
     unlocks: &[Unlock],
     issuers: &[Key],
-) -> bool
-    ensures { IsTrue result ↔ IsSeenOpened time unlocks.now issuers.now (seen_output time input.now (option_copied output.entry)) }
+) -> Result<bool, NoMemory>
+    ensures { IfOk result (λ opened. IsTrue opened ↔ IsSeenOpened time unlocks.now issuers.now (seen_output time input.now (option_copied output.entry))) }
 {
     match output {
         Some(output) if output.amount == input.amount && output.base == input.base => {
-            is_true_at(&output.cond, unlocks, issuers, time, time)
+            let cond = output.cond.tree(alloc)?;
+            Ok(is_true_at(&cond, unlocks, issuers, time, time))
         }
-        _ => true,
+        _ => Ok(true),
     }
 }

@@ -12,7 +12,7 @@ use crate::origins::Origins;
 use crate::rows::{Balance, NumberedRows, SourceRows, SourceTables};
 use arrayvec::ArrayVec;
 use dubp_atoms::{Key, Line, NoMemory, Secret, Steps};
-use dubp_cond::{Cond, put_cond};
+use dubp_cond::{Cond, SpelledCond, put_cond};
 use dubp_finders::{ByHash, ByNumber};
 use dubp_least::Least;
 use dubp_undo::{Found, NoSummary, Tables, Three};
@@ -178,6 +178,21 @@ impl SIndex {
         put_cond(cond, &mut line);
         self.accounts.add(line.as_slice())
     }
+
+    /// The same for a condition in its spelling, which is not written anew.
+    pub fn spelled_account(&mut self, cond: &SpelledCond) -> Result<usize, NoMemory>
+        ensures number { IfOk result (λ n. number_of (accounts self.new) (cond_text cond.now) ≡ Some n) }
+        ensures accounts { OnOk result (accounts self.new ≡ with_text (accounts self.old) (cond_text cond.now)) }
+        ensures refused { OnErr result (accounts self.new ≡ accounts self.old) }
+        ensures now { ⟦<SIndex as Tables<SourceRows>>⟧.now self.new ≡ ⟦<SIndex as Tables<SourceRows>>⟧.now self.old }
+        ensures count { ⟦<SIndex as Tables<SourceRows>>⟧.count self.new ≡ ⟦<SIndex as Tables<SourceRows>>⟧.count self.old }
+        ensures others { ⟦<SIndex as Tables<SourceRows>>⟧.others self.new ≡ ⟦<SIndex as Tables<SourceRows>>⟧.others self.old }
+        ensures at { (s : States) → ⟦<SIndex as Tables<SourceRows>>⟧.at self.old s → ⟦<SIndex as Tables<SourceRows>>⟧.at self.new s }
+        ensures stays { (n : ⟦<SIndex as Tables<SourceRows>>⟧.Now) (s : States) → ⟦<SIndex as Tables<SourceRows>>⟧.is (⟦<SIndex as Tables<SourceRows>>⟧.names self.old) n s → ⟦<SIndex as Tables<SourceRows>>⟧.is (⟦<SIndex as Tables<SourceRows>>⟧.names self.new) n s }
+    {
+        self.accounts.add(cond.as_text())
+    }
+
     /// The number of the account whose condition this key signs, which gets the next number where it has none. No table changes, and no text is
     /// written where it was asked for before.
     ///

@@ -103,7 +103,6 @@ fn add_outputs_of(
     tx: &Tx,
     hash: &Hash,
 ) -> Result<(), NoMemory>
-    requires { IsTx tx.now }
     ensures account { OnOk result ((time : ℕ) (a : Account) → IsTallyOf a tally.old → IsTallyOf (fold (with_made cond.now number) a (map (output_source time hash.now) (enumerate_from 0 tx.now.outputs))) tally.new) }
     ensures begins { take (length (moves_of tally.old)) (moves_of tally.new) ≡ moves_of tally.old }
 {
@@ -127,7 +126,6 @@ fn add_output(
     output: &Output,
     source: SourceId,
 ) -> Result<(), NoMemory>
-    requires { length (cond_text output.now.cond) ≤ 1000 }
     ensures account { OnOk result ((s : Source) (a : Account) → s.cond ≡ output.now.cond → input_of s ≡ record { amount = output.now.amount; base = output.now.base; source = source } → IsTallyOf a tally.old → IsTallyOf (with_made cond.now number a s) tally.new) }
     ensures begins { take (length (moves_of tally.old)) (moves_of tally.new) ≡ moves_of tally.old }
 {

@@ -11,7 +11,7 @@ use Rattle.dubp_money.proofs.making.make_source.Goals as goal
 pub returns-clause-at : goal.returns-clause-at
 returns-clause-at g c = λ rows are has new.
     let text = cond_text c.args.cond.now in
-    let same : account_in (accounts c.make.new.self) text ≡ c.in_ok-account.account = ap (λ l. account_in l text) c.in_ok-make.ensures.accounts ∙ account_found (accounts c.account.new.self) text c.in_ok-account.account c.in_ok-account.ensures.number in
+    let same : account_in (accounts c.make.new.self) text ≡ c.in_ok-account.account = ap (λ l. account_in l text) c.in_ok-make.ensures.accounts ∙ account_found (accounts c.spelled_account.new.self) text c.in_ok-account.account c.in_ok-account.ensures.number in
     row_made (HasRows c.make.new.self) rows c.args.source c.args.cond.now (accounts c.make.new.self) c.in_ok-account.account c.row_of.result same c.row_of.ensures
     (c.in_ok-make.ensures.at (rows ∷ []) [] (c.in_ok-account.ensures.at (rows ∷ []) has) are) new
 

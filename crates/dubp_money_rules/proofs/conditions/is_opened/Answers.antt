@@ -1,8 +1,9 @@
-use Rattle.std.proofs.Common.{◌↔◌, ◌≡◌, ◌≤◌, IsTrue, Some, None, refl, sym, subst, ◌∙◌, arith}
+use Rattle.std.proofs.Common.{◌↔◌, ◌≡◌, ◌≤◌, IsTrue, Some, None, option_copied, ap, refl, sym, subst, ◌∙◌, arith}
 use Rattle.dubp_chain.specs.Money.{Source, unspent}
 use Rattle.dubp_validity.specs.MoneyRules.{spent}
-use Rattle.dubp_money_rules.specs.Spending.{IsSeenOpened, at_hand, made_before, seen_in}
+use Rattle.dubp_money_rules.specs.Spending.{IsSeenOpened, at_hand, made_before, output_named, seen_in, seen_output}
 use Rattle.dubp_money_rules.proofs.Found.{told_first, told_then}
+use Rattle.dubp_money_rules.proofs.Made.{seen_named}
 use Rattle.dubp_money_rules.proofs.Opened.{opened_seen, found_early}
 use Rattle.dubp_money_rules.proofs.conditions.is_opened.Goals as goal
 
@@ -27,7 +28,12 @@ returns-in-None c = λ ch at read once.
     let input = c.args.input.now in
     let before = made_before t c.args.block.now c.args.number in
     let none : None ≡ seen_in (spent (unspent ch) input) = sym c.in-None.is ∙ c.in_ok-made.ensures ch at read.sound read.conditions in
-    opened_seen t c.args.tx.now c.args.place (at_hand t ch c.args.block.now c.args.number) input c.made_is_opened.result (seen_in (spent before input))
+    let keys = c.args.numbers.now.keys in
+    let output : seen_output t input (option_copied c.output_named-output.result.entry) ≡ seen_in (spent before input) =
+    ap (seen_output t input) (c.output_named-output.ensures ∙ ap (λ txs. output_named keys txs c.args.number input.source) c.as_slice-txs.ensures)
+    ∙ seen_named t c.args.block.now c.args.number input keys read.numbered in
+    opened_seen t c.args.tx.now c.args.place (at_hand t ch c.args.block.now c.args.number) input c.in_ok-opened.opened (seen_in (spent before input))
     (told_then (λ (s : Source). (s.time, s.cond)) input (unspent ch) before (seen_in (spent before input)) none refl)
-    (subst (λ u. IsTrue c.made_is_opened.result ↔ IsSeenOpened t u c.args.tx.now.issuers (seen_in (spent before input))) (c.unlocks_at-unlocks.ensures once)
-    (subst (λ k. IsTrue c.made_is_opened.result ↔ IsSeenOpened t c.unlocks_at-unlocks.result.now k (seen_in (spent before input))) c.as_slice-issuers.ensures (c.made_is_opened.ensures read.numbered)))
+    (subst (λ u. IsTrue c.in_ok-opened.opened ↔ IsSeenOpened t u c.args.tx.now.issuers (seen_in (spent before input))) (c.unlocks_at-unlocks.ensures once)
+    (subst (λ k. IsTrue c.in_ok-opened.opened ↔ IsSeenOpened t c.unlocks_at-unlocks.result.now k (seen_in (spent before input))) c.as_slice-issuers.ensures
+    (subst (λ seen. IsTrue c.in_ok-opened.opened ↔ IsSeenOpened t c.unlocks_at-unlocks.result.now c.as_slice-issuers.result.now seen) output c.in_ok-opened.ensures)))
