@@ -1,8 +1,9 @@
 //! Who may spend a source: conditions, the unlocks that meet them, sources, and whole transactions.
 //!
 //! A condition is some ALLs, each with its items; a group holds a condition in parentheses and stays in the tree, so each
-//! condition has one spelling. Contracts see a `Cond` as a tree of plain data, and every other type as the record of its
-//! fields, so two transactions are equal where their elements are. `read_..` accepts exactly the spelling, and `put_..` writes
+//! condition has one spelling. A `Cond` has the elements, and a `SpelledCond`, as an output has it, the spelling alone. Contracts
+//! see both as a tree of plain data, and every other type as the record of its fields, so two transactions are equal where their
+//! elements are. `read_..` accepts exactly the spelling, and `put_..` writes
 //! it. `holds` is the truth of a condition, by cases on the tree. Protocol: conditions, unlocks, sources, transactions.
 //!
 //! ```text

@@ -1,18 +1,18 @@
 ghost use Rattle.std.specs.Prelude.{◌≡◌, None};
-ghost use Rattle.indexmap.specs.IndexMap.{get};
+ghost use Rattle.std.specs.HashMap.{get};
 ghost use Rattle.dubp_journal.specs.Finders.{hash_respects};
 
 use dubp_costs::NoMemory;
 use dubp_journal::Finder;
-use indexmap::IndexMap;
-use indexmap::map::Entry;
 use std::alloc::Global;
+use std::collections::HashMap;
+use std::collections::hash_map::Entry;
 use std::hash::{BuildHasher, Hash};
 
 /// Slots that are found by a hash of their keys. No answer and no contract depends on what they are hashed by.
 #[derive(Drop)]
 pub struct ByHash<K: Eq + Hash, S: BuildHasher> {
-    slots: IndexMap<K, usize, S>,
+    slots: HashMap<K, usize, S>,
 }
 
 impl<K: Ord + Eq + Hash + Copy, S: BuildHasher + Drop> ByHash<K, S> {
@@ -21,7 +21,7 @@ impl<K: Ord + Eq + Hash + Copy, S: BuildHasher + Drop> ByHash<K, S> {
         ensures { (k : K) → ⟦<ByHash<K, S> as Finder<K>>⟧.slot_of result k ≡ None }
     {
         ByHash {
-            slots: IndexMap::with_hasher(alloc, secret),
+            slots: HashMap::with_hasher(alloc, secret),
         }
     }
 }
@@ -47,7 +47,7 @@ impl<K: Ord + Eq + Hash + Copy, S: BuildHasher + Drop> Finder<K> for ByHash<K, S
     }
 
     fn remove(&mut self, k: K) {
-        let _slot = self.slots.swap_remove(&k);
+        let _slot = self.slots.remove(&k);
     }
 
     ghost total = { K.Ord.total };
