@@ -8,9 +8,9 @@ use dubp_undo::{Definition, Leaf, Walk};
 use std::marker::Model;
 use std::ops::Bound;
 
-/// A place in a table of pairs: a key and another, where none is before all others.
+/// A place in a table of pairs: a key and another, which may be absent. Absent, it is before all others.
 ///
-/// Contracts see it as the pair of both. A struct for the pair keeps the types of tables in one another few.
+/// Contracts see it as the pair of both.
 #[derive(Clone, Copy, PartialEq, Eq, PartialOrd, Ord)]
 pub struct Place {
     pub owner: Key,
