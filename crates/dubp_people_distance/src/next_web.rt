@@ -1,6 +1,6 @@
 ghost use Rattle.std.specs.Prelude.{Bool, ◌∷◌, ◌||◌, ◌<◌, ◌^◌, Option, length, IfOk, IsTrue};
 ghost use Rattle.std.specs.BTreeSet.{contains};
-ghost use Rattle.indexmap.specs.IndexMap.{get};
+ghost use Rattle.std.specs.HashMap.{get};
 ghost use Rattle.dubp_atoms.specs.Same.{Text, same_text};
 ghost use Rattle.dubp_block.specs.declared.block.Block.{Block as BlockValue};
 ghost use Rattle.dubp_chain.specs.Chains.{Chain};
@@ -17,7 +17,7 @@ use crate::two_chains::TwoChains;
 use dubp_atoms::{Key, NoMemory, Secret};
 use dubp_block::Block;
 use dubp_wot::Web;
-use indexmap::{IndexMap, IndexSet};
+use std::collections::{HashMap, HashSet};
 use std::alloc::Global;
 use std::collections::BTreeSet;
 
@@ -28,11 +28,11 @@ pub(crate) struct NextWeb<'a, T: TwoChains> {
     /// Who is a member with the block and not before.
     joined: BTreeSet<Key>,
     /// Who is a member before the block and not with it.
-    left: IndexSet<Key, Secret>,
+    left: HashSet<Key, Secret>,
     /// How many members there are with the block.
     count: u64,
     /// The live certifications with the block, where they may be others than before.
-    changed: IndexMap<Key, Certified, Secret>,
+    changed: HashMap<Key, Certified, Secret>,
 }
 
 impl<'a, T: TwoChains> NextWeb<'a, T> {

@@ -10,13 +10,13 @@ ghost use Rattle.dubp_statement.specs.Tallies.{AreNumbers, IsTallyOf, moves_of, 
 use dubp_atoms::{NoMemory, Secret};
 use dubp_cond::{Input, SourceId};
 use dubp_replay::{Kind, Move};
-use indexmap::IndexSet;
+use std::collections::HashSet;
 use std::alloc::Global;
 
 /// What is known of a condition's account so far: the names of its sources that were made, its moves, and the units behind the last.
 #[derive(Drop)]
 pub struct Tally {
-    names: IndexSet<SourceId, Secret>,
+    names: HashSet<SourceId, Secret>,
     moves: Vec<Move>,
     balance: u128,
 }
@@ -27,7 +27,7 @@ impl Tally {
         ensures { IsTallyOf no_account result }
     {
         Tally {
-            names: IndexSet::with_hasher(alloc, secret),
+            names: HashSet::with_hasher(alloc, secret),
             moves: Vec::new(alloc),
             balance: 0,
         }
@@ -94,7 +94,7 @@ fn push<T: Drop>(list: &mut Vec<T>, value: T) -> Result<(), NoMemory>
 }
 
 // One name more.
-fn insert(names: &mut IndexSet<SourceId, Secret>, source: SourceId) -> Result<(), NoMemory>
+fn insert(names: &mut HashSet<SourceId, Secret>, source: SourceId) -> Result<(), NoMemory>
     ensures { OnOk result ((x : SourceIdValue) → list_any (λ name. same_source name x) names.new.keys ≡ (list_any (λ name. same_source name x) names.old.keys || same_source source x)) }
 {
     match names.insert(source) {
@@ -104,7 +104,7 @@ fn insert(names: &mut IndexSet<SourceId, Secret>, source: SourceId) -> Result<()
 }
 
 // Whether the source has one of the names.
-fn has(names: &IndexSet<SourceId, Secret>, source: &SourceId) -> bool
+fn has(names: &HashSet<SourceId, Secret>, source: &SourceId) -> bool
     ensures { result ≡ list_any (λ name. same_source name source.now) names.now.keys }
 {
     names.contains(source)
