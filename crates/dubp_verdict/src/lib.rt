@@ -13,6 +13,7 @@
 
 mod entry;
 mod laws;
+mod order;
 mod verdicts;
 
 pub use dubp_atoms::{Items, Key, Line, Stamp, Uid, put_bytes, put_number};

@@ -1,28 +1,36 @@
-ghost use Rattle.std.specs.Prelude.{◌≡◌, ◌++◌, ◌↔◌, true, Ok, [], ◌∷◌, IsTrue, OnOk, OnErr};
+ghost use Rattle.std.specs.Prelude.{◌≡◌, ◌↔◌, true, Ok, [], ◌∷◌, IsTrue, OnOk, OnErr};
 ghost use Rattle.std.specs.List.{list_any};
+ghost use Rattle.std.specs.List.Sorted.{IsPermutation};
 ghost use Rattle.dubp_verdict.specs.Verdicts.{HasHash, HasVerdict, same_verdict, verdict_of, with_verdict};
 
 use crate::entry::Entry;
+use crate::order::{Order, note};
 use dubp_atoms::{Hash, Key, NoMemory, Secret, Sig};
-use indexmap::IndexSet;
 use std::alloc::Global;
+use std::collections::HashSet;
 use std::marker::Model;
+use std::snapshot::Snapshot;
 
 /// A set of verdicts.
 ///
 /// Contracts see it as the list of its verdicts, the newest first and each once.
 #[derive(Drop)]
 pub struct Verdicts {
-    entries: IndexSet<Entry, Secret>,
+    entries: HashSet<Entry, Secret>,
+    // The same entries in the order in which they came.
+    order: Snapshot<Order>,
 }
 
 impl Model for Verdicts {
-    ghost use Rattle.std.specs.Prelude.{List, reverse};
+    ghost use Rattle.std.specs.Prelude.{List};
+    ghost use Rattle.std.specs.List.Sorted.{IsPermutation};
     ghost use Rattle.dubp_verdict.specs.Verdicts.{Verdict};
 
     ghost Value = { List Verdict };
 
-    ghost view = { λ v. reverse v.entries.keys };
+    ghost view = { λ v. v.order.value };
+
+    ghost invariant = { λ v. IsPermutation v.order.value v.entries.keys };
 }
 
 impl Verdicts {
@@ -38,7 +46,8 @@ impl Verdicts {
         ensures { result ≡ [] }
     {
         Verdicts {
-            entries: IndexSet::with_hasher(alloc, secret),
+            entries: HashSet::with_hasher(alloc, secret),
+            order: Snapshot::of(&Order::new()),
         }
     }
 
@@ -51,7 +60,7 @@ impl Verdicts {
         ensures refused { OnErr result (self.new ≡ self.old) }
         ensures repeat { HasHash self.old key hash sig → (result ≡ Ok tt) × (self.new ≡ self.old) }
     {
-        insert(&mut self.entries, Entry { key, hash, sig })
+        insert(&mut self.entries, &mut self.order, Entry { key, hash, sig })
     }
 
     /// Whether the signature by the key of the message has a verdict. It takes no memory.
@@ -73,15 +82,22 @@ impl Verdicts {
     }
 }
 
-/// Puts an entry last. One that is there already leaves the whole set, its memory too, as it was.
-fn insert(entries: &mut IndexSet<Entry, Secret>, entry: Entry) -> Result<(), NoMemory>
-    ensures there { IsTrue (list_any (same_verdict entry) entries.old.keys) → (result ≡ Ok tt) × (entries.new ≡ entries.old) }
-    ensures added { ¬ IsTrue (list_any (same_verdict entry) entries.old.keys) → OnOk result (entries.new.keys ≡ entries.old.keys ++ entry ∷ []) }
-    ensures refused { OnErr result (entries.new.keys ≡ entries.old.keys) }
+/// Puts an entry, the newest. One that is there already leaves the whole set, its memory too, as it was.
+fn insert(
+    entries: &mut HashSet<Entry, Secret>,
+    order: &mut Snapshot<Order>,
+    entry: Entry,
+) -> Result<(), NoMemory>
+    requires { IsPermutation order.old.value entries.old.keys }
+    ensures same { IsPermutation order.new.value entries.new.keys }
+    ensures there { IsTrue (list_any (same_verdict entry) entries.old.keys) → (result ≡ Ok tt) × (entries.new ≡ entries.old) × (order.new.value ≡ order.old.value) }
+    ensures added { OnOk result (order.new.value ≡ with_verdict entry order.old.value) }
+    ensures refused { OnErr result (order.new.value ≡ order.old.value) }
 {
     if entries.contains(&entry) {
         return Ok(());
     }
     entries.insert(entry).map_err(|_| NoMemory)?;
+    note(order, entry);
     Ok(())
 }
