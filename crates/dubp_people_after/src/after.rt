@@ -24,8 +24,8 @@ use dubp_block::{Block, CertLine, MemberLine};
 use dubp_moving::Tables;
 use dubp_params::Params;
 use dubp_registry::{BlockTime, Next, Registry};
-use std::collections::HashSet;
 use std::alloc::Global;
+use std::collections::HashSet;
 
 /// The people of a chain with one block more, and what is looked up in them. Only `near` takes memory.
 pub trait WithBlock {

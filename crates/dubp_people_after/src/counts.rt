@@ -10,8 +10,8 @@ ghost use Rattle.dubp_people_after.specs.Near.{is_issuer, is_near_issuer, is_rec
 use crate::after::WithBlock;
 use dubp_atoms::{Key, NoMemory, Secret};
 use dubp_sets::insert;
-use std::collections::HashSet;
 use std::alloc::Global;
+use std::collections::HashSet;
 
 /// How many live certifications the key has received on the chain with the block.
 ///

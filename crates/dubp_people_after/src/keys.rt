@@ -14,8 +14,8 @@ use crate::partners::put_partners;
 use dubp_atoms::{Key, NoMemory, Secret};
 use dubp_block::{Block, CertLine, IdentityLine, MemberLine};
 use dubp_sets::insert;
-use std::collections::{HashMap, HashSet};
 use std::alloc::Global;
+use std::collections::{HashMap, HashSet};
 
 /// The keys that the lines of a block name, its identities by their keys, and its certifications by their pairs and by their ends.
 #[derive(Drop)]

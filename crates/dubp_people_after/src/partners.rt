@@ -7,8 +7,8 @@ ghost use Rattle.dubp_people_after.specs.Partners.{is_partner};
 
 use dubp_atoms::{Key, NoMemory, Secret};
 use dubp_block::CertLine;
-use std::collections::HashMap;
 use std::alloc::Global;
+use std::collections::HashMap;
 
 /// Puts the partners of each key that a line names into an empty map: the keys at the other ends of its lines.
 pub(crate) fn put_partners(

@@ -8,9 +8,8 @@ ghost use Rattle.dubp_iindex.specs.Order.{IsNext};
 ghost use Rattle.dubp_iindex.specs.Rows.{texts};
 
 use dubp_atoms::{Key, NoMemory, Secret};
-use std::collections::HashSet;
 use std::alloc::Global;
-use std::collections::BTreeSet;
+use std::collections::{BTreeSet, HashSet};
 use std::ops::Bound;
 
 /// The live certifications of a key.

@@ -17,8 +17,8 @@ use crate::two_chains::TwoChains;
 use dubp_atoms::{Key, NoMemory, Secret};
 use dubp_block::{Block, CertLine};
 use dubp_expiry::{Behind, Due};
-use std::collections::HashMap;
 use std::alloc::Global;
+use std::collections::HashMap;
 
 /// The live certifications, on the chain with the block, of each key for which the block may change them: of the ends of its lines
 /// of Certifications, and of those of each certification that has its end up to the time of the block.

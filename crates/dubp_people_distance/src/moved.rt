@@ -15,9 +15,8 @@ use crate::two_chains::TwoChains;
 use dubp_atoms::{Key, NoMemory, Secret};
 use dubp_block::{Block, MemberLine};
 use dubp_sets::insert;
-use std::collections::HashSet;
 use std::alloc::Global;
-use std::collections::BTreeSet;
+use std::collections::{BTreeSet, HashSet};
 
 /// The keys that are members with the block and not before.
 pub(crate) fn joined_by<T: TwoChains>(

@@ -17,9 +17,8 @@ use crate::two_chains::TwoChains;
 use dubp_atoms::{Key, NoMemory, Secret};
 use dubp_block::Block;
 use dubp_wot::Web;
-use std::collections::{HashMap, HashSet};
 use std::alloc::Global;
-use std::collections::BTreeSet;
+use std::collections::{BTreeSet, HashMap, HashSet};
 
 /// The members of a chain with a block that stands to be judged, and its live certifications, as a web.
 #[derive(Drop)]

@@ -12,8 +12,8 @@ use dubp_block::{Block, MemberLine};
 use dubp_moving::Tables;
 use dubp_registry::Registry;
 use dubp_sets::{insert, set_of};
-use std::collections::HashSet;
 use std::alloc::Global;
+use std::collections::HashSet;
 
 /// How many members the chain of the registry has with the block on it, whatever rules the block breaks.
 ///

@@ -1,6 +1,6 @@
 ghost use Rattle.std.specs.Prelude.{◌≡◌, ◌&&◌, ◌+◌, ◌-◌, ◌≤◌, length, IfOk, true, nat_le, nat_lt};
 ghost use Rattle.std.specs.Option.{option_map, option_map_or};
-ghost use Rattle.indexmap.specs.IndexMap.{get};
+ghost use Rattle.std.specs.HashMap.{get};
 ghost use Rattle.dubp_atoms.specs.declared.stamp.Stamp.{Stamp as StampValue};
 ghost use Rattle.dubp_atoms.specs.Same.{same_stamp};
 ghost use Rattle.dubp_resolve.specs.Choice.{choice, is_candidate, most_stored};
@@ -9,8 +9,8 @@ ghost use Rattle.dubp_resolve.specs.Known.{AreOffers, IsFound, IsNumbered, heigh
 use crate::standing::find_heights;
 use crate::view::{Offered, View};
 use dubp_atoms::{NoMemory, Secret, Stamp};
-use indexmap::IndexMap;
 use std::alloc::Global;
+use std::collections::HashMap;
 
 /// The stored block to switch to: the candidate of greatest number, the first of those that were offered among equal ones. None exactly
 /// where there is no candidate.
@@ -28,7 +28,7 @@ pub fn choose(alloc: Global, secret: Secret, view: &View) -> Result<Option<Stamp
     }
 }
 
-fn best(view: &View, heights: &IndexMap<Stamp, Option<u64>, Secret>) -> Option<Offered>
+fn best(view: &View, heights: &HashMap<Stamp, Option<u64>, Secret>) -> Option<Offered>
     requires offers { AreOffers view.now.offers.items }
     requires heights { (s : StampValue) → get same_stamp heights.now s ≡ height_at (seen view.now) s }
     ensures { result ≡ choice (seen view.now) }
@@ -51,11 +51,7 @@ fn is_greater(block: &Offered, best: &Option<Offered>) -> bool
     }
 }
 
-fn is_candidate(
-    view: &View,
-    heights: &IndexMap<Stamp, Option<u64>, Secret>,
-    block: &Offered,
-) -> bool
+fn is_candidate(view: &View, heights: &HashMap<Stamp, Option<u64>, Secret>, block: &Offered) -> bool
     requires offers { AreOffers view.now.offers.items }
     requires found { IsFound view.now.offers.items block.now }
     requires numbered { IsNumbered block.now }

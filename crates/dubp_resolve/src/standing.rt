@@ -1,8 +1,8 @@
 ghost use Rattle.std.specs.Prelude.{◌≡◌, ◌+◌, ◌<◌, ◌^◌, ℕ, cond, Option, Some, None, IfOk, OnOk, is_some, true};
 ghost use Rattle.std.specs.List.Sorted.{IsPermutation, IsNonDecreasingBy};
 ghost use Rattle.std.specs.Option.{MatchOption};
-ghost use Rattle.indexmap.specs.IndexSet.{contains};
-ghost use Rattle.indexmap.specs.IndexMap.{get};
+ghost use Rattle.std.specs.HashSet.{contains};
+ghost use Rattle.std.specs.HashMap.{get};
 ghost use Rattle.dubp_atoms.specs.declared.stamp.Stamp.{Stamp as StampValue};
 ghost use Rattle.dubp_atoms.specs.Same.{same_stamp};
 ghost use Rattle.dubp_resolve.specs.Choice.{is_among, path_of};
@@ -11,8 +11,8 @@ ghost use Rattle.dubp_resolve.specs.Known.{AreOffers, IsFound, IsNumbered, heigh
 use crate::gathering::gather;
 use crate::view::{Offered, View};
 use dubp_atoms::{NoMemory, Secret, Stamp};
-use indexmap::{IndexMap, IndexSet};
 use std::alloc::Global;
+use std::collections::{HashMap, HashSet};
 
 /// For each stored block, how many blocks the chain has up to where its path ends. None where the path is detached, or a failure is on it.
 ///
@@ -21,14 +21,14 @@ pub(crate) fn find_heights(
     alloc: Global,
     secret: Secret,
     view: &View,
-) -> Result<IndexMap<Stamp, Option<u64>, Secret>, NoMemory>
+) -> Result<HashMap<Stamp, Option<u64>, Secret>, NoMemory>
     requires { AreOffers view.now.offers.items }
     ensures { IfOk result (λ heights. (s : StampValue) → get same_stamp heights s ≡ height_at (seen view.now) s) }
 {
     let failed = gather(alloc, secret, &view.failed)?;
     let recent = gather(alloc, secret, &view.recent)?;
     let blocks = sorted(alloc, &view.offers)?;
-    let mut heights = IndexMap::with_hasher(alloc, secret);
+    let mut heights = HashMap::with_hasher(alloc, secret);
     for block in &blocks {
         let height = height(view, &failed, &recent, &heights, block);
         note(&mut heights, block.stamp, height)?;
@@ -39,9 +39,9 @@ pub(crate) fn find_heights(
 /// How many blocks the chain has up to where the block's path ends, by what is known of the block before.
 fn height(
     view: &View,
-    failed: &IndexSet<Stamp, Secret>,
-    recent: &IndexSet<Stamp, Secret>,
-    heights: &IndexMap<Stamp, Option<u64>, Secret>,
+    failed: &HashSet<Stamp, Secret>,
+    recent: &HashSet<Stamp, Secret>,
+    heights: &HashMap<Stamp, Option<u64>, Secret>,
     block: &Offered,
 ) -> Option<u64>
     requires failed { (s : StampValue) → contains same_stamp failed.now s ≡ is_among view.now.failed.items s }
@@ -64,7 +64,7 @@ fn height(
 }
 
 /// So many, where the stamp is among the recent ones, else None.
-fn height_on(recent: &IndexSet<Stamp, Secret>, stamp: Stamp, height: u64) -> Option<u64>
+fn height_on(recent: &HashSet<Stamp, Secret>, stamp: Stamp, height: u64) -> Option<u64>
     ensures { result ≡ cond (contains same_stamp recent.now stamp) (Some height) None }
 {
     if recent.contains(&stamp) {
@@ -75,7 +75,7 @@ fn height_on(recent: &IndexSet<Stamp, Secret>, stamp: Stamp, height: u64) -> Opt
 }
 
 fn note(
-    heights: &mut IndexMap<Stamp, Option<u64>, Secret>,
+    heights: &mut HashMap<Stamp, Option<u64>, Secret>,
     stamp: Stamp,
     height: Option<u64>,
 ) -> Result<(), NoMemory>

@@ -14,8 +14,8 @@ ghost use Rattle.std.specs.List.{list_all, list_any};
 ghost use Rattle.std.specs.HashSet.{contains};
 
 use dubp_atoms::NoMemory;
-use std::collections::HashSet;
 use std::alloc::Global;
+use std::collections::HashSet;
 use std::hash::{BuildHasher, Hash};
 
 /// Puts the value into the set, and tells whether it was new.

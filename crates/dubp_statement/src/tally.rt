@@ -10,8 +10,8 @@ ghost use Rattle.dubp_statement.specs.Tallies.{AreNumbers, IsTallyOf, moves_of, 
 use dubp_atoms::{NoMemory, Secret};
 use dubp_cond::{Input, SourceId};
 use dubp_replay::{Kind, Move};
-use std::collections::HashSet;
 use std::alloc::Global;
+use std::collections::HashSet;
 
 /// What is known of a condition's account so far: the names of its sources that were made, its moves, and the units behind the last.
 #[derive(Drop)]

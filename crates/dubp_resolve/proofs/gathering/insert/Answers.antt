@@ -1,5 +1,5 @@
 use Rattle.std.proofs.Common.{ap, cond, ◌∙◌, true}
-use Rattle.indexmap.specs.IndexSet.{contains}
+use Rattle.std.specs.HashSet.{contains}
 use Rattle.dubp_atoms.specs.Same.{same_stamp}
 use Rattle.dubp_resolve.proofs.Stamps.{or_cond, stamps}
 use Rattle.dubp_resolve.proofs.gathering.insert.Goals as goal

@@ -1,6 +1,6 @@
 use Rattle.std.proofs.Common.{◌≡◌, arith, length, ap, sym, ◌∙◌, cond, Some, subst}
 use Rattle.std.specs.Map.{lookup}
-use Rattle.indexmap.specs.IndexMap.{get}
+use Rattle.std.specs.HashMap.{get}
 use Rattle.std.proofs.lemmas.List.Sorted.{All-permutation}
 use Rattle.dubp_atoms.specs.Same.{same_stamp}
 use Rattle.dubp_resolve.specs.Known.{seen, IsFound, IsNumbered}

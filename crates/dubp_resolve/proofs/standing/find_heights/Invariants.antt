@@ -1,4 +1,4 @@
-use Rattle.indexmap.specs.IndexMap.{get}
+use Rattle.std.specs.HashMap.{get}
 use Rattle.dubp_atoms.specs.Same.{same_stamp}
 use Rattle.dubp_resolve.specs.Known.{seen}
 use Rattle.dubp_resolve.proofs.Sorted.{AreInOrder, AreKnown}

@@ -1,5 +1,5 @@
 use Rattle.std.proofs.Common.{ap, sym, ◌∙◌, cond, Some, None}
-use Rattle.indexmap.specs.IndexMap.{get}
+use Rattle.std.specs.HashMap.{get}
 use Rattle.dubp_atoms.specs.Same.{same_stamp}
 use Rattle.dubp_resolve.specs.Known.{seen}
 use Rattle.dubp_resolve.proofs.Paths.{height_failed, height_first, height_known, height_unknown}

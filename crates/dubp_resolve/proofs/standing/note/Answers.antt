@@ -1,5 +1,5 @@
 use Rattle.std.proofs.Common.{ap, ◌∙◌, cond, Some}
-use Rattle.indexmap.specs.IndexMap.{get}
+use Rattle.std.specs.HashMap.{get}
 use Rattle.dubp_atoms.specs.Same.{same_stamp}
 use Rattle.dubp_resolve.proofs.Stamps.{stamps}
 use Rattle.dubp_resolve.proofs.standing.note.Goals as goal
