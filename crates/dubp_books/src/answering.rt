@@ -4,6 +4,7 @@ use dubp_block::Block;
 use dubp_chain::Head;
 use dubp_cond::CondText;
 use dubp_kept::LeftBehind;
+use dubp_people_after::RulesOnPeople;
 use dubp_people_and_money::{First, PeopleAndMoney, SourceView};
 use dubp_people_views::kicked;
 use dubp_rows::put_records;
@@ -14,8 +15,8 @@ use dubp_table_answers::{
 use dubp_validity::Record;
 use std::alloc::Global;
 
-impl PeopleAndMoney for Books {
-    fn empty(alloc: Global, secret: Secret) -> Books {
+impl<R: RulesOnPeople> PeopleAndMoney for Books<R> {
+    fn empty(alloc: Global, secret: Secret) -> Books<R> {
         Books::with_secret(alloc, secret)
     }
 

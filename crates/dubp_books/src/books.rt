@@ -1,5 +1,4 @@
 ghost use Rattle.std.specs.Prelude.{◌≡◌, List, []};
-ghost use Rattle.dubp_chain.specs.Chains.{Chain};
 
 use dubp_atoms::{NoMemory, Secret, Steps};
 use dubp_block::Block;
@@ -7,17 +6,19 @@ use dubp_money_rules::Money;
 use dubp_moving::{Both, Tables};
 use dubp_people::People;
 use std::alloc::Global;
+use std::marker::PhantomData;
 use std::sync::ledger::Ledger as StepBook;
 
 pub(crate) type PeopleAndMoney = Both<Block, People, Money>;
 
-/// The people and the money of a chain.
+/// The people and the money of a chain, where `R` are the rules on people that a block is judged by.
 #[derive(Drop)]
-pub struct Books {
+pub struct Books<R> {
     pub(crate) tables: PeopleAndMoney,
+    rules: PhantomData<R>,
 }
 
-impl Tables<Block> for Books {
+impl<R> Tables<Block> for Books<R> {
     ghost Now = { ⟦<PeopleAndMoney as Tables<Block>>⟧.Now };
 
     ghost Names = { ⟦<PeopleAndMoney as Tables<Block>>⟧.Names };
@@ -81,43 +82,30 @@ impl Tables<Block> for Books {
     ghost at_is = { λ t c is. is };
 }
 
-impl Books {
+impl<R> Books<R> {
     /// Those of the empty chain. It takes no memory.
-    pub fn new(alloc: Global) -> Books
-        ensures at { ⟦<Books as Tables<Block>>⟧.at result [] }
-        ensures count { ⟦<Books as Tables<Block>>⟧.count result ≡ 0 }
-        ensures kept { (⟦<Books as Tables<Block>>⟧.others result).kept ≡ [] }
-        ensures ahead { (⟦<Books as Tables<Block>>⟧.others result).ahead ≡ [] }
+    pub fn new(alloc: Global) -> Books<R>
+        ensures at { ⟦<Books<R> as Tables<Block>>⟧.at result [] }
+        ensures count { ⟦<Books<R> as Tables<Block>>⟧.count result ≡ 0 }
+        ensures kept { (⟦<Books<R> as Tables<Block>>⟧.others result).kept ≡ [] }
+        ensures ahead { (⟦<Books<R> as Tables<Block>>⟧.others result).ahead ≡ [] }
     {
         Books::with_secret(alloc, Secret::known())
     }
 
     /// Those of the empty chain. What strangers choose is hashed by the secret. It takes no memory.
-    pub fn with_secret(alloc: Global, secret: Secret) -> Books
-        ensures at { ⟦<Books as Tables<Block>>⟧.at result [] }
-        ensures count { ⟦<Books as Tables<Block>>⟧.count result ≡ 0 }
-        ensures kept { (⟦<Books as Tables<Block>>⟧.others result).kept ≡ [] }
-        ensures ahead { (⟦<Books as Tables<Block>>⟧.others result).ahead ≡ [] }
+    pub fn with_secret(alloc: Global, secret: Secret) -> Books<R>
+        ensures at { ⟦<Books<R> as Tables<Block>>⟧.at result [] }
+        ensures count { ⟦<Books<R> as Tables<Block>>⟧.count result ≡ 0 }
+        ensures kept { (⟦<Books<R> as Tables<Block>>⟧.others result).kept ≡ [] }
+        ensures ahead { (⟦<Books<R> as Tables<Block>>⟧.others result).ahead ≡ [] }
     {
         Books {
             tables: Both::new(
                 People::with_secret(alloc, secret),
                 Money::with_secret(alloc, secret),
             ),
+            rules: PhantomData,
         }
-    }
-
-    /// The people.
-    pub fn people(&self) -> &People
-        ensures { (c : Chain) → ⟦<Books as Tables<Block>>⟧.at self.now c → ⟦<People as Tables<Block>>⟧.at result.now c }
-    {
-        &self.tables.first
-    }
-
-    /// The money.
-    pub fn money(&self) -> &Money
-        ensures { (c : Chain) → ⟦<Books as Tables<Block>>⟧.at self.now c → ⟦<Money as Tables<Block>>⟧.at result.now c }
-    {
-        &self.tables.second
     }
 }

@@ -1,9 +1,10 @@
 use crate::books::Books;
 use dubp_money_rules::Money;
 use dubp_people::People;
+use dubp_people_after::RulesOnPeople;
 use dubp_people_and_money::LendsPeopleAndMoney;
 
-impl LendsPeopleAndMoney for Books {
+impl<R: RulesOnPeople> LendsPeopleAndMoney for Books<R> {
     type People = People;
 
     type Money = Money;

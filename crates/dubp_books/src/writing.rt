@@ -16,7 +16,7 @@ use dubp_people_views::member_keys;
 use std::alloc::Global;
 use std::sync::ledger::Ledger as StepBook;
 
-impl Written for Books {
+impl<R> Written for Books<R> {
     fn write<L: StepBook>(
         &mut self,
         alloc: Global,

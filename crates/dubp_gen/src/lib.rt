@@ -6,7 +6,7 @@
 //! same in words.
 //!
 //! ```text
-//! let made = make_chain::<Books, _>(alloc, 200, 7, &mut steps)?;
+//! let made = make_chain::<Books<PeopleRules>, _>(alloc, 200, 7, &mut steps)?;
 //! let last = made.blocks.last();
 //! ```
 #![tactic(auto)]

@@ -7,7 +7,7 @@
 //! hash of a block stands in its head. Protocol: chains; rules; the generator.
 //!
 //! ```text
-//! let mut ledger: Ledger<Books> = Ledger::new(alloc);
+//! let mut ledger: Ledger<Books<PeopleRules>> = Ledger::new(alloc);
 //! let stamp = ledger.submit(block, &verdicts, &mut steps)?;
 //! let head = ledger.head();
 //! ledger.revert(1, &mut steps)?;

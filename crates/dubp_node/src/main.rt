@@ -5,6 +5,7 @@
 #![tactic(auto)]
 
 use dubp_books::Books;
+use dubp_people_checks::PeopleRules;
 use dubp_session::{NO_ROOM, Node, ReadSource, Secret, USAGE, WriteSink, run};
 use std::alloc::{AllocError, Global};
 use std::env;
@@ -31,7 +32,7 @@ fn status(rt: &HostRuntime) -> u8 {
     };
     let mut source = ReadSource::new(rt.stdin());
     let mut sink = WriteSink::new(rt.stdout());
-    let mut node = Node::<Books>::with_secret(rt.alloc(), secret(rt));
+    let mut node = Node::<Books<PeopleRules>>::with_secret(rt.alloc(), secret(rt));
     let status = run(
         rt.alloc(),
         words.as_slice(),

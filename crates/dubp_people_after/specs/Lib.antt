@@ -4,6 +4,7 @@ pub mod Lines
 pub mod Names
 pub mod Near
 pub mod Partners
+pub mod PeopleRules
 pub mod OfRegistry
 pub mod OfLeft
 pub mod OfValidity

@@ -1,3 +1,3 @@
-pub mod PeopleRules
+pub mod RuleParts
 pub mod Asking
 pub mod OfLeft

@@ -3,8 +3,9 @@ ghost use Rattle.dubp_rules.specs.First.{FirstOf};
 ghost use Rattle.dubp_chain.specs.Chains.{Chain};
 ghost use Rattle.dubp_validity.specs.Rules.{Holds};
 ghost use Rattle.dubp_validity.specs.PeopleRules.{IdentitiesAreFew, MembershipsHaveIdentities};
+ghost use Rattle.dubp_people_after.specs.PeopleRules.{people_rules};
 ghost use Rattle.dubp_people_checks.specs.Asking.{IsAskedOf};
-ghost use Rattle.dubp_people_checks.specs.PeopleRules.{people_rules, identity_rules, membership_rules, certification_rules, comer_rules};
+ghost use Rattle.dubp_people_checks.specs.RuleParts.{identity_rules, membership_rules, certification_rules, comer_rules};
 
 use crate::asked::Asked;
 use dubp_atoms::NoMemory;

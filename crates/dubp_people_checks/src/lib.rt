@@ -3,7 +3,8 @@
 //! The rules stand in `dubp_people_rules`, `dubp_people_after` and `dubp_people_distance`; here they are read in the order of the table.
 //! `Asked` has one function for each of them, of a block that stands to be judged on the chain of a registry, and `Judged` shows the
 //! rule on distance that chain and the same with the block. `first_broken_of_people` takes the parameters and the time of the chain
-//! with the block, `people_rules` its head. The chapter on rules in `docs/protocol` has the order.
+//! with the block, `people_rules` its head; `PeopleRules` is the type of these rules that the books of a chain are told. The chapter on
+//! rules in `docs/protocol` has the order.
 //!
 //! ```text
 //! match first_broken_of_people(alloc, &registry, &block, &next, &verdicts)? {
@@ -19,4 +20,4 @@ mod judged;
 mod people;
 
 pub use dubp_people_after::{Next, next_of};
-pub use people::{first_broken_of_people, people_rules};
+pub use people::{PeopleRules, first_broken_of_people, people_rules};

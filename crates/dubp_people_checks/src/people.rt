@@ -3,9 +3,9 @@ ghost use Rattle.dubp_rules.specs.First.{IsFirst};
 ghost use Rattle.dubp_chain.specs.Chains.{Chain};
 ghost use Rattle.dubp_chain.specs.Heads.{head_of};
 ghost use Rattle.dubp_validity.specs.Rules.{Holds};
+ghost use Rattle.dubp_people_after.specs.PeopleRules.{people_rules};
 ghost use Rattle.dubp_people_checks.specs.OfLeft.{IsAsked};
 ghost use Rattle.dubp_people_checks.specs.OfLeft.{Next as NextValue};
-ghost use Rattle.dubp_people_checks.specs.PeopleRules.{people_rules};
 
 use crate::asked::Asked;
 use crate::first::first_broken;
@@ -14,7 +14,7 @@ use dubp_atoms::NoMemory;
 use dubp_block::Block;
 use dubp_chain::Head;
 use dubp_moving::Tables;
-use dubp_people_after::{After, Registry};
+use dubp_people_after::{After, Registry, RulesOnPeople};
 use dubp_rules::Rule;
 use dubp_verdict::Verdicts;
 use std::alloc::Global;
@@ -59,4 +59,19 @@ pub fn people_rules(
     let next = next_of(people.facts(), block, head);
     let found = first_broken_of_people(alloc, people, block, &next, verdicts)?;
     Ok(found)
+}
+
+/// The rules on people that there are, as a type to be named.
+pub struct PeopleRules;
+
+impl RulesOnPeople for PeopleRules {
+    fn people_rules(
+        alloc: Global,
+        people: &Registry,
+        head: &Head,
+        block: &Block,
+        verdicts: &Verdicts,
+    ) -> Result<Option<Rule>, NoMemory> {
+        people_rules(alloc, people, head, block, verdicts)
+    }
 }

@@ -5,7 +5,7 @@
 //! commands and answers, and the generator, of `docs/protocol`.
 //!
 //! ```text
-//! let mut node = Node::<Books>::new(alloc);
+//! let mut node = Node::<Books<PeopleRules>>::new(alloc);
 //! let status = run(alloc, &["run"], &mut source, &mut sink, &mut node);
 //! ```
 #![tactic(auto)]

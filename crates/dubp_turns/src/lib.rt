@@ -6,7 +6,7 @@
 //! stands in `branches`.
 //!
 //! ```text
-//! let mut node = Node::<Books>::new(alloc);
+//! let mut node = Node::<Books<PeopleRules>>::new(alloc);
 //! let answer = node.act(&command, frame, &mut steps);
 //! node.tell(&Asked::Head, &mut line);
 //! ```

@@ -3,7 +3,7 @@ use Rattle.dubp_rules.specs.First.{FirstOf}
 use Rattle.dubp_rules.specs.declared.rule.Rule.{Rule}
 use Rattle.dubp_rules.proofs.FirstLaws.{FirstOf_append_found, FirstOf_append_none}
 use Rattle.dubp_validity.specs.Rules.{Holds}
-use Rattle.dubp_people_checks.specs.PeopleRules.{identity_rules, membership_rules, certification_rules, comer_rules}
+use Rattle.dubp_people_checks.specs.RuleParts.{identity_rules, membership_rules, certification_rules, comer_rules}
 use Rattle.dubp_people_checks.proofs.first.first_broken.Goals as goal
 
 pub returns-in-Some-first_of_memberships : goal.returns-in-Some-first_of_memberships

@@ -1,7 +1,7 @@
 use Rattle.std.proofs.lemmas.Result.{IfOk-weaker}
 use Rattle.dubp_rules.proofs.FirstLaws.{IsFirst_from_FirstOf}
 use Rattle.dubp_validity.specs.Rules.{Holds}
-use Rattle.dubp_people_checks.specs.PeopleRules.{people_rules}
+use Rattle.dubp_people_after.specs.PeopleRules.{people_rules}
 use Rattle.dubp_people_checks.proofs.people.first_broken_of_people.Goals as goal
 
 pub first_broken-requires : goal.first_broken-requires

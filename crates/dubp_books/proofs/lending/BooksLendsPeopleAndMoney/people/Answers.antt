@@ -4,7 +4,7 @@ use Rattle.dubp_books.proofs.Sides.{sides}
 use Rattle.dubp_books.proofs.lending.BooksLendsPeopleAndMoney.people.Goals as goal
 
 pub returns-clause-states : goal.returns-clause-states
-returns-clause-states c = λ s a.
+returns-clause-states g c = λ s a.
     let t = c.args.self.now.tables in
     let p = t.first in
     let m = t.second in
