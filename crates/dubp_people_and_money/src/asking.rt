@@ -1,4 +1,4 @@
-ghost use Rattle.std.specs.Prelude.{◌≡◌, ◌∷◌, ◌++◌, ◌≤◌, [], IfOk, MatchOption, OnErr, OnOk, length, option_map, slice_get};
+ghost use Rattle.std.specs.Prelude.{◌≡◌, ◌∷◌, ◌++◌, ◌≤◌, [], IfOk, MatchOption, OnErr, OnOk, length, option_map, slice_get, take};
 ghost use Rattle.std.specs.List.{AllByRecursion};
 ghost use Rattle.dubp_block.specs.Text.{IsBlock};
 ghost use Rattle.dubp_chain.specs.Chains.{Chain};
@@ -59,8 +59,9 @@ pub trait PeopleAndMoney: Judges {
         out: &mut Vec<Record>,
     ) -> Result<(), NoMemory>
         requires { IsBlock block.now }
-        ensures { OnOk result ((d c : Chain) → Self.at self.now (d ++ block.now ∷ c) → IsSound (d ++ block.now ∷ c) → AllByRecursion IsBlock (d ++ block.now ∷ c)
-            → head_of (block.now ∷ c) ≡ Some head.now → left.now ≡ left_behind c block.now → out.new.items ≡ out.old.items ++ records c block.now) };
+        ensures appended { OnOk result ((d c : Chain) → Self.at self.now (d ++ block.now ∷ c) → IsSound (d ++ block.now ∷ c) → AllByRecursion IsBlock (d ++ block.now ∷ c)
+            → head_of (block.now ∷ c) ≡ Some head.now → left.now ≡ left_behind c block.now → out.new.items ≡ out.old.items ++ records c block.now) }
+        ensures begins { take (length out.old.items) out.new.items ≡ out.old.items };
 
     /// Puts the answer to MONEY into an empty line. It takes no memory.
     fn put_money(&self, line: &mut Line)

@@ -17,5 +17,5 @@ returns g c =
     let written = c.in-Some.written in
     let w = c.in-Some.ensures in
     let b = written.block.now in
-    let put = c.in_ok-put_records.ensures w.above w.below (subst (λ x. g.T.Tables.at c.tables.result.now x) w.is c.tables.ensures) (subst IsSound w.is c.laws.ensures.sound) (subst (AllByRecursion IsBlock) w.is c.laws.ensures.blocks) w.head w.left in
+    let put = c.in_ok-put_records.ensures.appended w.above w.below (subst (λ x. g.T.Tables.at c.tables.result.now x) w.is c.tables.ensures) (subst IsSound w.is c.laws.ensures.sound) (subst (AllByRecursion IsBlock) w.is c.laws.ensures.blocks) w.head w.left in
     ap Some (put ∙ ap (λ l. l ++ records w.below b) c.new-rows.ensures.items) ∙ sym (rows_written chain c.args.number b written.head.now written.left.now w)
