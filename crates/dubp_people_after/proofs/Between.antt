@@ -4,7 +4,7 @@ use Rattle.std.specs.Option.{option_map_or}
 use Rattle.std.specs.Global.{Vec}
 use Rattle.std.specs.List.{list_any}
 use Rattle.std.proofs.lemmas.List.Folds.{list_any-append}
-use Rattle.std.specs.HashMap.{HashMap, get}
+use Rattle.indexmap.specs.IndexMap.{IndexMap, get}
 use Rattle.dubp_atoms.specs.Same.{Text, same_text}
 use Rattle.dubp_registry.proofs.OfLists.{same_text_is}
 use Rattle.dubp_people_after.specs.Partners.{is_partner}
@@ -24,7 +24,7 @@ or_none false = refl
 abbrev is_among : Text → Option (Vec Text) → Bool
 is_among y o = option_map_or (λ (v : Vec Text). list_any (same_text y) v.items) o false
 
-module _ {S : Type 0} (map new : HashMap Text (Vec Text) S) (key partner : Text) (partners : Vec Text)
+module _ {S : Type 0} (map new : IndexMap Text (Vec Text) S) (key partner : Text) (partners : Vec Text)
     (put : (x : Text) → get same_text new x ≡ cond (same_text key x) (Some partners) (get same_text map x)) where
   -- under the key stand these, whatever stood there
   put_under : (x y : Text) → is_partner new x y ≡ cond (same_text x key) (list_any (same_text y) partners.items) (is_partner map x y)

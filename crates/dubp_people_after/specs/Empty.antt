@@ -1,6 +1,6 @@
 -- The keys of a block of which no line was looked at. Protocol: people, certifications.
 use Rattle.std.specs.Prelude.{◌≡◌, []}
-use Rattle.std.specs.HashMap.{IsEmpty}
+use Rattle.indexmap.specs.IndexMap.{IsEmpty}
 use Rattle.dubp_people_after.specs.declared.keys.Keys.{Keys}
 
 -- nothing is in any of them

@@ -1,7 +1,7 @@
 ghost use Rattle.std.specs.Prelude.{◌+◌, nat_lt, ◌≡◌, ◌∷◌, IfOk, OnOk, Some, option_map};
 ghost use Rattle.std.specs.List.{list_any};
-ghost use Rattle.std.specs.HashMap.{get};
-ghost use Rattle.std.specs.HashSet.{contains};
+ghost use Rattle.indexmap.specs.IndexMap.{get};
+ghost use Rattle.indexmap.specs.IndexSet.{contains};
 ghost use Rattle.dubp_atoms.specs.Same.{same_text, empty_stamp};
 ghost use Rattle.dubp_block.specs.declared.block.Block.{Block as BlockValue};
 ghost use Rattle.dubp_chain.specs.Chains.{Chain, params};
@@ -24,8 +24,8 @@ use dubp_block::{Block, CertLine, MemberLine};
 use dubp_moving::Tables;
 use dubp_params::Params;
 use dubp_registry::{BlockTime, Next, Registry};
+use indexmap::IndexSet;
 use std::alloc::Global;
-use std::collections::HashSet;
 
 /// The people of a chain with one block more, and what is looked up in them. Only `near` takes memory.
 pub trait WithBlock {
@@ -68,7 +68,7 @@ pub trait WithBlock {
     ///
     /// It looks at the live certifications of the key and at those lines of the block that name it, however many more the block has.
     /// `NoMemory` where there is no memory for the set.
-    fn near(&self, alloc: Global, key: Key) -> Result<HashSet<Key, Secret>, NoMemory>
+    fn near(&self, alloc: Global, key: Key) -> Result<IndexSet<Key, Secret>, NoMemory>
         ensures issuers { IfOk result (λ near. (c : Chain) (b : BlockValue) → after self.now c b → HasIssuers c b key (contains same_text near)) }
         ensures receivers { IfOk result (λ near. (c : Chain) (b : BlockValue) → after self.now c b → HasReceivers c b key (contains same_text near)) };
 
@@ -156,8 +156,8 @@ impl<'a> WithBlock for After<'a> {
         self.next.params
     }
 
-    fn near(&self, alloc: Global, key: Key) -> Result<HashSet<Key, Secret>, NoMemory> {
-        let mut near = HashSet::with_hasher(alloc, self.registry.secret());
+    fn near(&self, alloc: Global, key: Key) -> Result<IndexSet<Key, Secret>, NoMemory> {
+        let mut near = IndexSet::with_hasher(alloc, self.registry.secret());
         self.put_near(alloc, key, &mut near)?;
         Ok(near)
     }
@@ -193,7 +193,7 @@ impl<'a> After<'a> {
         &self,
         alloc: Global,
         key: Key,
-        near: &mut HashSet<Key, Secret>,
+        near: &mut IndexSet<Key, Secret>,
     ) -> Result<(), NoMemory>
         ensures issuers { OnOk result ((c : Chain) (b : BlockValue) → ⟦<After<'a> as WithBlock>⟧.after self.now c b → HasIssuers c b key (contains same_text near.new)) }
         ensures receivers { OnOk result ((c : Chain) (b : BlockValue) → ⟦<After<'a> as WithBlock>⟧.after self.now c b → HasReceivers c b key (contains same_text near.new)) }

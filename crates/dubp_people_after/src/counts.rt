@@ -1,6 +1,6 @@
 ghost use Rattle.std.specs.Prelude.{◌≡◌, ◌∷◌, ◌||◌, IfOk, OnOk, count_by};
 ghost use Rattle.std.specs.List.{IsDistinct, list_any};
-ghost use Rattle.std.specs.HashSet.{contains};
+ghost use Rattle.indexmap.specs.IndexSet.{contains};
 ghost use Rattle.dubp_atoms.specs.Same.{Text, same_text};
 ghost use Rattle.dubp_block.specs.declared.block.Block.{Block as BlockValue};
 ghost use Rattle.dubp_chain.specs.Chains.{Chain};
@@ -10,8 +10,8 @@ ghost use Rattle.dubp_people_after.specs.Near.{is_issuer, is_near_issuer, is_rec
 use crate::after::WithBlock;
 use dubp_atoms::{Key, NoMemory, Secret};
 use dubp_sets::insert;
+use indexmap::IndexSet;
 use std::alloc::Global;
-use std::collections::HashSet;
 
 /// How many live certifications the key has received on the chain with the block.
 ///
@@ -40,11 +40,11 @@ pub fn issuers<A: WithBlock>(
     alloc: Global,
     after: &A,
     key: Key,
-) -> Result<HashSet<Key, Secret>, NoMemory>
+) -> Result<IndexSet<Key, Secret>, NoMemory>
     ensures { IfOk result (λ found. (c : Chain) (b : BlockValue) → A.after after.now c b → (a : Text) → contains same_text found a ≡ live (b ∷ c) a key) }
 {
     let near = after.near(alloc, key)?;
-    let mut found = HashSet::with_hasher(alloc, after.secret());
+    let mut found = IndexSet::with_hasher(alloc, after.secret());
     put_issuers(after, &near, &key, &mut found)?;
     Ok(found)
 }
@@ -52,9 +52,9 @@ pub fn issuers<A: WithBlock>(
 /// Puts those of the keys into the set from which this key has a live certification.
 fn put_issuers<A: WithBlock>(
     after: &A,
-    near: &HashSet<Key, Secret>,
+    near: &IndexSet<Key, Secret>,
     key: &Key,
-    found: &mut HashSet<Key, Secret>,
+    found: &mut IndexSet<Key, Secret>,
 ) -> Result<(), NoMemory>
     ensures { OnOk result ((c : Chain) (b : BlockValue) → A.after after.now c b → (a : Text) → contains same_text found.new a ≡ (contains same_text found.old a || list_any (is_near_issuer c b key.now a) near.now.keys)) }
 {
@@ -68,7 +68,7 @@ fn put_issuers<A: WithBlock>(
 }
 
 /// From how many of the keys this key has a live certification.
-fn count_issuers<A: WithBlock>(after: &A, near: &HashSet<Key, Secret>, key: &Key) -> u64
+fn count_issuers<A: WithBlock>(after: &A, near: &IndexSet<Key, Secret>, key: &Key) -> u64
     ensures once { IsDistinct same_text near.now.keys }
     ensures count { (c : Chain) (b : BlockValue) → A.after after.now c b → result ≡ count_by (is_issuer c b key.now) near.now.keys }
 {
@@ -82,7 +82,7 @@ fn count_issuers<A: WithBlock>(after: &A, near: &HashSet<Key, Secret>, key: &Key
 }
 
 /// To how many of the keys this key has a live certification.
-fn count_receivers<A: WithBlock>(after: &A, near: &HashSet<Key, Secret>, key: &Key) -> u64
+fn count_receivers<A: WithBlock>(after: &A, near: &IndexSet<Key, Secret>, key: &Key) -> u64
     ensures once { IsDistinct same_text near.now.keys }
     ensures count { (c : Chain) (b : BlockValue) → A.after after.now c b → result ≡ count_by (is_receiver c b key.now) near.now.keys }
 {

@@ -1,7 +1,7 @@
 ghost use Rattle.std.specs.Prelude.{◌≡◌, ◌||◌, IfOk, OnOk, Some, cond};
 ghost use Rattle.std.specs.List.{list_any};
-ghost use Rattle.std.specs.HashMap.{IsEmpty, get};
-ghost use Rattle.std.specs.HashSet.{contains};
+ghost use Rattle.indexmap.specs.IndexMap.{IsEmpty, get};
+ghost use Rattle.indexmap.specs.IndexSet.{contains};
 ghost use Rattle.dubp_atoms.specs.Same.{Text, same_text};
 ghost use Rattle.dubp_chain.specs.Words.{last_of};
 ghost use Rattle.dubp_chain.specs.Members.{is_of};
@@ -14,23 +14,23 @@ use crate::partners::put_partners;
 use dubp_atoms::{Key, NoMemory, Secret};
 use dubp_block::{Block, CertLine, IdentityLine, MemberLine};
 use dubp_sets::insert;
+use indexmap::{IndexMap, IndexSet};
 use std::alloc::Global;
-use std::collections::{HashMap, HashSet};
 
 /// The keys that the lines of a block name, its identities by their keys, and its certifications by their pairs and by their ends.
 #[derive(Drop)]
 pub(crate) struct Keys {
     /// Of Joiners.
-    pub(crate) joining: HashSet<Key, Secret>,
+    pub(crate) joining: IndexSet<Key, Secret>,
     /// Of Joiners and Actives.
-    pub(crate) coming: HashSet<Key, Secret>,
+    pub(crate) coming: IndexSet<Key, Secret>,
     /// Of Leavers.
-    pub(crate) leaving: HashSet<Key, Secret>,
-    pub(crate) excluded: HashSet<Key, Secret>,
-    pub(crate) identities: HashMap<Key, IdentityLine, Secret>,
-    pub(crate) certifications: HashMap<(Key, Key), CertLine, Secret>,
+    pub(crate) leaving: IndexSet<Key, Secret>,
+    pub(crate) excluded: IndexSet<Key, Secret>,
+    pub(crate) identities: IndexMap<Key, IdentityLine, Secret>,
+    pub(crate) certifications: IndexMap<(Key, Key), CertLine, Secret>,
     /// Of each key that Certifications name, the keys at the other ends of its lines.
-    pub(crate) partners: HashMap<Key, Vec<Key>, Secret>,
+    pub(crate) partners: IndexMap<Key, Vec<Key>, Secret>,
 }
 
 impl Keys {
@@ -39,13 +39,13 @@ impl Keys {
         ensures { AreEmpty result }
     {
         Keys {
-            joining: HashSet::with_hasher(alloc, secret),
-            coming: HashSet::with_hasher(alloc, secret),
-            leaving: HashSet::with_hasher(alloc, secret),
-            excluded: HashSet::with_hasher(alloc, secret),
-            identities: HashMap::with_hasher(alloc, secret),
-            certifications: HashMap::with_hasher(alloc, secret),
-            partners: HashMap::with_hasher(alloc, secret),
+            joining: IndexSet::with_hasher(alloc, secret),
+            coming: IndexSet::with_hasher(alloc, secret),
+            leaving: IndexSet::with_hasher(alloc, secret),
+            excluded: IndexSet::with_hasher(alloc, secret),
+            identities: IndexMap::with_hasher(alloc, secret),
+            certifications: IndexMap::with_hasher(alloc, secret),
+            partners: IndexMap::with_hasher(alloc, secret),
         }
     }
 
@@ -106,7 +106,7 @@ fn put_block(alloc: Global, keys: &mut Keys, block: &Block) -> Result<(), NoMemo
 }
 
 /// Puts the keys of the lines into the set.
-fn put_keys(set: &mut HashSet<Key, Secret>, lines: &[MemberLine]) -> Result<(), NoMemory>
+fn put_keys(set: &mut IndexSet<Key, Secret>, lines: &[MemberLine]) -> Result<(), NoMemory>
     ensures { OnOk result ((k : Text) → contains same_text set.new k ≡ (contains same_text set.old k || list_any (is_of k) lines.now)) }
 {
     for line in lines {
@@ -116,7 +116,7 @@ fn put_keys(set: &mut HashSet<Key, Secret>, lines: &[MemberLine]) -> Result<(), 
 }
 
 /// Puts the keys into the set.
-pub(crate) fn put_all(set: &mut HashSet<Key, Secret>, keys: &[Key]) -> Result<(), NoMemory>
+pub(crate) fn put_all(set: &mut IndexSet<Key, Secret>, keys: &[Key]) -> Result<(), NoMemory>
     ensures { OnOk result ((k : Text) → contains same_text set.new k ≡ (contains same_text set.old k || list_any (same_text k) keys.now)) }
 {
     for key in keys {
@@ -127,7 +127,7 @@ pub(crate) fn put_all(set: &mut HashSet<Key, Secret>, keys: &[Key]) -> Result<()
 
 /// Puts the lines into an empty map, by their keys. Where a key stands twice its last line counts.
 fn put_identities(
-    map: &mut HashMap<Key, IdentityLine, Secret>,
+    map: &mut IndexMap<Key, IdentityLine, Secret>,
     lines: &[IdentityLine],
 ) -> Result<(), NoMemory>
     requires { IsEmpty map.old }
@@ -141,7 +141,7 @@ fn put_identities(
 
 /// Puts the line under its key, in the place of one that is there.
 fn insert_line(
-    map: &mut HashMap<Key, IdentityLine, Secret>,
+    map: &mut IndexMap<Key, IdentityLine, Secret>,
     line: IdentityLine,
 ) -> Result<(), NoMemory>
     ensures { OnOk result ((k : Text) → get same_text map.new k ≡ cond (same_text line.key k) (Some line) (get same_text map.old k)) }
@@ -152,7 +152,7 @@ fn insert_line(
 
 /// Puts the lines into an empty map, by their pairs. Where a pair stands twice its last line counts.
 fn put_certifications(
-    map: &mut HashMap<(Key, Key), CertLine, Secret>,
+    map: &mut IndexMap<(Key, Key), CertLine, Secret>,
     lines: &[CertLine],
 ) -> Result<(), NoMemory>
     requires { IsEmpty map.old }
@@ -166,7 +166,7 @@ fn put_certifications(
 
 /// Puts the line under its pair, in the place of one that is there.
 fn insert_certification(
-    map: &mut HashMap<(Key, Key), CertLine, Secret>,
+    map: &mut IndexMap<(Key, Key), CertLine, Secret>,
     line: CertLine,
 ) -> Result<(), NoMemory>
     ensures { OnOk result ((p : Text × Text) → get same_pair map.new p ≡ cond (same_pair (line.from, line.to) p) (Some line) (get same_pair map.old p)) }

@@ -1,19 +1,19 @@
 ghost use Rattle.std.specs.Prelude.{◌≡◌, ◌||◌, ◌&&◌, ◌++◌, ◌∷◌, [], OnOk, cond};
 ghost use Rattle.std.specs.List.{list_any};
-ghost use Rattle.std.specs.HashMap.{IsEmpty};
+ghost use Rattle.indexmap.specs.IndexMap.{IsEmpty};
 ghost use Rattle.dubp_atoms.specs.Same.{Text, same_text};
 ghost use Rattle.dubp_people_after.specs.Keys.{is_between};
 ghost use Rattle.dubp_people_after.specs.Partners.{is_partner};
 
 use dubp_atoms::{Key, NoMemory, Secret};
 use dubp_block::CertLine;
+use indexmap::IndexMap;
 use std::alloc::Global;
-use std::collections::HashMap;
 
 /// Puts the partners of each key that a line names into an empty map: the keys at the other ends of its lines.
 pub(crate) fn put_partners(
     alloc: Global,
-    map: &mut HashMap<Key, Vec<Key>, Secret>,
+    map: &mut IndexMap<Key, Vec<Key>, Secret>,
     lines: &[CertLine],
 ) -> Result<(), NoMemory>
     requires { IsEmpty map.old }
@@ -28,7 +28,7 @@ pub(crate) fn put_partners(
 /// Puts each end of the line under the other.
 fn insert_ends(
     alloc: Global,
-    map: &mut HashMap<Key, Vec<Key>, Secret>,
+    map: &mut IndexMap<Key, Vec<Key>, Secret>,
     line: &CertLine,
 ) -> Result<(), NoMemory>
     ensures { OnOk result ((x y : Text) → is_partner map.new x y ≡ (is_partner map.old x y || is_between x y line.now)) }
@@ -41,7 +41,7 @@ fn insert_ends(
 /// Puts the partner behind those that the map has under the key.
 fn insert_partner(
     alloc: Global,
-    map: &mut HashMap<Key, Vec<Key>, Secret>,
+    map: &mut IndexMap<Key, Vec<Key>, Secret>,
     key: Key,
     partner: Key,
 ) -> Result<(), NoMemory>
@@ -56,7 +56,7 @@ fn insert_partner(
 /// Puts the partner under the key, in the place of those that are there.
 fn insert_first(
     alloc: Global,
-    map: &mut HashMap<Key, Vec<Key>, Secret>,
+    map: &mut IndexMap<Key, Vec<Key>, Secret>,
     key: Key,
     partner: Key,
 ) -> Result<(), NoMemory>

@@ -2,14 +2,15 @@ ghost use Rattle.std.specs.Prelude.{◌≡◌, true, false, cond, IfNone, IfOk, 
 ghost use Rattle.std.specs.Ordering.{is_eq};
 ghost use Rattle.std.specs.BTreeMap.Range.{IsFromStart, IsLeBy};
 ghost use Rattle.std.specs.BTreeSet.{IsOrdered, contains};
-ghost use Rattle.std.specs.HashSet as hashed;
+ghost use Rattle.indexmap.specs.IndexSet as hashed;
 ghost use Rattle.dubp_atoms.specs.Same.{Text, same_text};
 ghost use Rattle.dubp_iindex.specs.Order.{IsNext};
 ghost use Rattle.dubp_iindex.specs.Rows.{texts};
 
 use dubp_atoms::{Key, NoMemory, Secret};
+use indexmap::IndexSet;
 use std::alloc::Global;
-use std::collections::{BTreeSet, HashSet};
+use std::collections::BTreeSet;
 use std::ops::Bound;
 
 /// The live certifications of a key.
@@ -33,7 +34,7 @@ pub struct Counts {
 }
 
 /// The keys, in order. `NoMemory` where there is none for the set.
-pub fn in_order(alloc: Global, keys: &HashSet<Key, Secret>) -> Result<BTreeSet<Key>, NoMemory>
+pub fn in_order(alloc: Global, keys: &IndexSet<Key, Secret>) -> Result<BTreeSet<Key>, NoMemory>
     ensures { IfOk result (λ set. (k : Text) → contains texts set k ≡ hashed.contains same_text keys.now k) }
 {
     let mut set = BTreeSet::new(alloc);

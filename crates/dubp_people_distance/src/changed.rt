@@ -1,6 +1,6 @@
 ghost use Rattle.std.specs.Prelude.{◌≡◌, ◌∷◌, ◌||◌, ◌<◌, ◌≤◌, true, cond, is_some, Some, IfOk, IsTrue, OnOk, ℕ};
 ghost use Rattle.std.specs.List.{list_any};
-ghost use Rattle.std.specs.HashMap.{get};
+ghost use Rattle.indexmap.specs.IndexMap.{get};
 ghost use Rattle.dubp_atoms.specs.Same.{Text, same_text};
 ghost use Rattle.dubp_block.specs.declared.block.Block.{Block as BlockValue};
 ghost use Rattle.dubp_chain.specs.Chains.{Chain};
@@ -17,8 +17,8 @@ use crate::two_chains::TwoChains;
 use dubp_atoms::{Key, NoMemory, Secret};
 use dubp_block::{Block, CertLine};
 use dubp_expiry::{Behind, Due};
+use indexmap::IndexMap;
 use std::alloc::Global;
-use std::collections::HashMap;
 
 /// The live certifications, on the chain with the block, of each key for which the block may change them: of the ends of its lines
 /// of Certifications, and of those of each certification that has its end up to the time of the block.
@@ -26,11 +26,11 @@ pub(crate) fn changed_by<T: TwoChains>(
     alloc: Global,
     chains: &T,
     block: &Block,
-) -> Result<HashMap<Key, Certified, Secret>, NoMemory>
+) -> Result<IndexMap<Key, Certified, Secret>, NoMemory>
     ensures certified { IfOk result (λ known. (c : Chain) → T.stand chains.now c block.now → AreCertified (block.now ∷ c) (get same_text known)) }
     ensures kept { IfOk result (λ known. (c : Chain) → T.stand chains.now c block.now → OthersAreKept c block.now (get same_text known)) }
 {
-    let mut known = HashMap::with_hasher(alloc, chains.secret());
+    let mut known = IndexMap::with_hasher(alloc, chains.secret());
     put_lines(alloc, chains, block.certifications.as_slice(), &mut known)?;
     put_dues(alloc, chains, &mut known)?;
     Ok(known)
@@ -41,7 +41,7 @@ fn put_lines<T: TwoChains>(
     alloc: Global,
     chains: &T,
     lines: &[CertLine],
-    known: &mut HashMap<Key, Certified, Secret>,
+    known: &mut IndexMap<Key, Certified, Secret>,
 ) -> Result<(), NoMemory>
     ensures certified { OnOk result ((c : Chain) (b : BlockValue) → T.stand chains.now c b → AreCertified (b ∷ c) (get same_text known.old) → AreCertified (b ∷ c) (get same_text known.new)) }
     ensures has { OnOk result ((k : Text) → is_some (get same_text known.new k) ≡ (is_some (get same_text known.old k) || list_any (is_end_of_line k) lines.now)) }
@@ -56,7 +56,7 @@ fn put_lines<T: TwoChains>(
 fn put_dues<T: TwoChains>(
     alloc: Global,
     chains: &T,
-    known: &mut HashMap<Key, Certified, Secret>,
+    known: &mut IndexMap<Key, Certified, Secret>,
 ) -> Result<(), NoMemory>
     ensures certified { OnOk result ((c : Chain) (b : BlockValue) → T.stand chains.now c b → AreCertified (b ∷ c) (get same_text known.old) → AreCertified (b ∷ c) (get same_text known.new)) }
     ensures stays { OnOk result ((k : Text) → IsTrue (is_some (get same_text known.old k)) → IsTrue (is_some (get same_text known.new k))) }
@@ -81,7 +81,7 @@ fn put_due<T: TwoChains>(
     alloc: Global,
     chains: &T,
     due: &Due,
-    known: &mut HashMap<Key, Certified, Secret>,
+    known: &mut IndexMap<Key, Certified, Secret>,
 ) -> Result<(), NoMemory>
     ensures certified { OnOk result ((c : Chain) (b : BlockValue) → T.stand chains.now c b → AreCertified (b ∷ c) (get same_text known.old) → AreCertified (b ∷ c) (get same_text known.new)) }
     ensures has { OnOk result ((k : Text) → is_some (get same_text known.new k) ≡ (is_some (get same_text known.old k) || is_end_of_due k due.now)) }
@@ -102,7 +102,7 @@ fn put_both<T: TwoChains>(
     chains: &T,
     from: Key,
     to: Key,
-    known: &mut HashMap<Key, Certified, Secret>,
+    known: &mut IndexMap<Key, Certified, Secret>,
 ) -> Result<(), NoMemory>
     ensures certified { OnOk result ((c : Chain) (b : BlockValue) → T.stand chains.now c b → AreCertified (b ∷ c) (get same_text known.old) → AreCertified (b ∷ c) (get same_text known.new)) }
     ensures has { OnOk result ((k : Text) → is_some (get same_text known.new k) ≡ (is_some (get same_text known.old k) || is_end from to k)) }
@@ -117,7 +117,7 @@ fn put_key<T: TwoChains>(
     alloc: Global,
     chains: &T,
     key: Key,
-    known: &mut HashMap<Key, Certified, Secret>,
+    known: &mut IndexMap<Key, Certified, Secret>,
 ) -> Result<(), NoMemory>
     ensures certified { OnOk result ((c : Chain) (b : BlockValue) → T.stand chains.now c b → AreCertified (b ∷ c) (get same_text known.old) → AreCertified (b ∷ c) (get same_text known.new)) }
     ensures has { OnOk result ((k : Text) → is_some (get same_text known.new k) ≡ cond (same_text key k) true (is_some (get same_text known.old k))) }
@@ -134,7 +134,7 @@ fn put_key<T: TwoChains>(
 fn put_found(
     key: Key,
     found: Certified,
-    known: &mut HashMap<Key, Certified, Secret>,
+    known: &mut IndexMap<Key, Certified, Secret>,
 ) -> Result<(), NoMemory>
     ensures { OnOk result ((k : Text) → get same_text known.new k ≡ cond (same_text key k) (Some found) (get same_text known.old k)) }
 {

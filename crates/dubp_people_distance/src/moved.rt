@@ -1,7 +1,7 @@
 ghost use Rattle.std.specs.Prelude.{◌≡◌, ◌∷◌, ◌&&◌, ◌||◌, ◌<◌, ◌^◌, IfOk, IsTrue, OnOk, length};
 ghost use Rattle.std.specs.List.{list_any};
 ghost use Rattle.std.specs.BTreeSet.{contains};
-ghost use Rattle.std.specs.HashSet as hashed;
+ghost use Rattle.indexmap.specs.IndexSet as hashed;
 ghost use Rattle.dubp_atoms.specs.Same.{Text, same_text};
 ghost use Rattle.dubp_block.specs.declared.block.Block.{Block as BlockValue};
 ghost use Rattle.dubp_chain.specs.Chains.{Chain};
@@ -15,8 +15,9 @@ use crate::two_chains::TwoChains;
 use dubp_atoms::{Key, NoMemory, Secret};
 use dubp_block::{Block, MemberLine};
 use dubp_sets::insert;
+use indexmap::IndexSet;
 use std::alloc::Global;
-use std::collections::{BTreeSet, HashSet};
+use std::collections::BTreeSet;
 
 /// The keys that are members with the block and not before.
 pub(crate) fn joined_by<T: TwoChains>(
@@ -65,10 +66,10 @@ pub(crate) fn left_by<T: TwoChains>(
     alloc: Global,
     chains: &T,
     block: &Block,
-) -> Result<HashSet<Key, Secret>, NoMemory>
+) -> Result<IndexSet<Key, Secret>, NoMemory>
     ensures { IfOk result (λ set. (c : Chain) → T.stand chains.now c block.now → SaysWhoLeaves c block.now (hashed.contains same_text set)) }
 {
-    let mut set = HashSet::with_hasher(alloc, chains.secret());
+    let mut set = IndexSet::with_hasher(alloc, chains.secret());
     put_left(chains, block.excluded.as_slice(), &mut set)?;
     Ok(set)
 }
@@ -77,7 +78,7 @@ pub(crate) fn left_by<T: TwoChains>(
 fn put_left<T: TwoChains>(
     chains: &T,
     keys: &[Key],
-    set: &mut HashSet<Key, Secret>,
+    set: &mut IndexSet<Key, Secret>,
 ) -> Result<(), NoMemory>
     ensures { OnOk result ((c : Chain) (b : BlockValue) → T.stand chains.now c b → (k : Text) → hashed.contains same_text set.new k ≡ (hashed.contains same_text set.old k || list_any (is_leaving c b k) keys.now)) }
 {
@@ -90,7 +91,7 @@ fn put_left<T: TwoChains>(
 fn put_leaving<T: TwoChains>(
     chains: &T,
     key: &Key,
-    set: &mut HashSet<Key, Secret>,
+    set: &mut IndexSet<Key, Secret>,
 ) -> Result<(), NoMemory>
     ensures { OnOk result ((c : Chain) (b : BlockValue) → T.stand chains.now c b → (k : Text) → hashed.contains same_text set.new k ≡ (hashed.contains same_text set.old k || is_leaving c b k key.now)) }
 {
@@ -110,7 +111,7 @@ fn has_left<T: TwoChains>(chains: &T, key: &Key) -> bool
 pub(crate) fn count_with<T: TwoChains>(
     chains: &T,
     joined: &BTreeSet<Key>,
-    left: &HashSet<Key, Secret>,
+    left: &IndexSet<Key, Secret>,
 ) -> u64
     requires few { (c : Chain) × (b : BlockValue) × (T.stand chains.now c b × (SaysWhoJoins c b (contains texts joined.now) × (SaysWhoLeaves c b (hashed.contains same_text left.now) × (length (members (b ∷ c)) < 2 ^ 21)))) }
     ensures { (c : Chain) (b : BlockValue) → T.stand chains.now c b → SaysWhoJoins c b (contains texts joined.now) → SaysWhoLeaves c b (hashed.contains same_text left.now) → result ≡ length (members (b ∷ c)) }
@@ -124,7 +125,7 @@ pub(crate) fn count_with<T: TwoChains>(
 /// The least key above `after`, or the least of all, that is a member before the block and with it. None exactly where there is none.
 pub(crate) fn next_staying<T: TwoChains>(
     chains: &T,
-    left: &HashSet<Key, Secret>,
+    left: &IndexSet<Key, Secret>,
     after: Option<Key>,
 ) -> Option<Key>
     ensures { (c : Chain) (b : BlockValue) → T.stand chains.now c b → SaysWhoLeaves c b (hashed.contains same_text left.now) → IsNext (λ k. IsTrue (stays c b k)) after result }

@@ -1,6 +1,6 @@
 ghost use Rattle.std.specs.Prelude.{Bool, ◌∷◌, ◌||◌, ◌<◌, ◌^◌, Option, length, IfOk, IsTrue};
 ghost use Rattle.std.specs.BTreeSet.{contains};
-ghost use Rattle.std.specs.HashMap.{get};
+ghost use Rattle.indexmap.specs.IndexMap.{get};
 ghost use Rattle.dubp_atoms.specs.Same.{Text, same_text};
 ghost use Rattle.dubp_block.specs.declared.block.Block.{Block as BlockValue};
 ghost use Rattle.dubp_chain.specs.Chains.{Chain};
@@ -17,8 +17,9 @@ use crate::two_chains::TwoChains;
 use dubp_atoms::{Key, NoMemory, Secret};
 use dubp_block::Block;
 use dubp_wot::Web;
+use indexmap::{IndexMap, IndexSet};
 use std::alloc::Global;
-use std::collections::{BTreeSet, HashMap, HashSet};
+use std::collections::BTreeSet;
 
 /// The members of a chain with a block that stands to be judged, and its live certifications, as a web.
 #[derive(Drop)]
@@ -27,11 +28,11 @@ pub(crate) struct NextWeb<'a, T: TwoChains> {
     /// Who is a member with the block and not before.
     joined: BTreeSet<Key>,
     /// Who is a member before the block and not with it.
-    left: HashSet<Key, Secret>,
+    left: IndexSet<Key, Secret>,
     /// How many members there are with the block.
     count: u64,
     /// The live certifications with the block, where they may be others than before.
-    changed: HashMap<Key, Certified, Secret>,
+    changed: IndexMap<Key, Certified, Secret>,
 }
 
 impl<'a, T: TwoChains> NextWeb<'a, T> {

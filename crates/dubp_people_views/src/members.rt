@@ -1,6 +1,6 @@
 ghost use Rattle.std.specs.Prelude.{◌≡◌, ◌∷◌, ◌&&◌, ◌<◌, ◌^◌, IfOk, count_by, length};
 ghost use Rattle.std.specs.List.{IsDistinct, list_any};
-ghost use Rattle.std.specs.HashSet.{contains};
+ghost use Rattle.indexmap.specs.IndexSet.{contains};
 ghost use Rattle.dubp_atoms.specs.Same.{Text, same_text};
 ghost use Rattle.dubp_chain.specs.Chains.{Chain};
 ghost use Rattle.dubp_chain.specs.Members.{is_of, members};
@@ -12,8 +12,8 @@ use dubp_block::{Block, MemberLine};
 use dubp_moving::Tables;
 use dubp_registry::Registry;
 use dubp_sets::{insert, set_of};
+use indexmap::IndexSet;
 use std::alloc::Global;
-use std::collections::HashSet;
 
 /// How many members the chain of the registry has with the block on it, whatever rules the block breaks.
 ///
@@ -33,10 +33,10 @@ fn joined_keys(
     alloc: Global,
     secret: Secret,
     lines: &[MemberLine],
-) -> Result<HashSet<Key, Secret>, NoMemory>
+) -> Result<IndexSet<Key, Secret>, NoMemory>
     ensures { IfOk result (λ set. (k : Text) → contains same_text set k ≡ list_any (is_of k) lines.now) }
 {
-    let mut set = HashSet::with_hasher(alloc, secret);
+    let mut set = IndexSet::with_hasher(alloc, secret);
     for line in lines {
         insert(&mut set, line.key)?;
     }
@@ -44,7 +44,7 @@ fn joined_keys(
 }
 
 /// How many of the keys are members of the chain.
-fn count_gone(registry: &Registry, keys: &HashSet<Key, Secret>) -> u64
+fn count_gone(registry: &Registry, keys: &IndexSet<Key, Secret>) -> u64
     ensures once { IsDistinct same_text keys.now.keys }
     ensures count { (c : Chain) → ⟦<Registry as Tables<Block>>⟧.at registry.now c → IsSound c → result ≡ count_by (is_old_member c) keys.now.keys }
 {
@@ -60,8 +60,8 @@ fn count_gone(registry: &Registry, keys: &HashSet<Key, Secret>) -> u64
 /// How many of the keys are neither members of the chain nor excluded.
 fn count_come(
     registry: &Registry,
-    keys: &HashSet<Key, Secret>,
-    excluded: &HashSet<Key, Secret>,
+    keys: &IndexSet<Key, Secret>,
+    excluded: &IndexSet<Key, Secret>,
 ) -> u64
     ensures once { IsDistinct same_text keys.now.keys }
     ensures small { result < 2 ^ 63 }
@@ -77,7 +77,7 @@ fn count_come(
 }
 
 /// Whether the key is neither a member of the chain nor excluded.
-fn is_new(registry: &Registry, excluded: &HashSet<Key, Secret>, key: Key) -> bool
+fn is_new(registry: &Registry, excluded: &IndexSet<Key, Secret>, key: Key) -> bool
     ensures { (c : Chain) → ⟦<Registry as Tables<Block>>⟧.at registry.now c → IsSound c → result ≡ is_new_member c (contains same_text excluded.now) key }
 {
     !excluded.contains(&key) && !registry.is_member(key)

@@ -1,6 +1,6 @@
 use Rattle.std.proofs.Common.{◌∙◌, true, false, ap, refl}
 use Rattle.std.specs.List.{list_any}
-use Rattle.std.specs.HashSet.{HashSet}
+use Rattle.indexmap.specs.IndexSet.{IndexSet}
 use Rattle.dubp_atoms.specs.Same.{Text, same_text}
 use Rattle.dubp_atoms.specs.declared.secret.Secret.{Secret}
 use Rattle.dubp_people_after.proofs.Counting.{one_put, one_passed, issuer_told}
@@ -16,9 +16,9 @@ loop-i-preserved g c = λ chain b shown a.
     let told = issuer_told chain b key x c.is_live.result (c.is_live.ensures chain b shown) in
     elim c.if-is_live.branch [
       | then-is_live+in_ok-insert w ↦
-          ap (λ (s : HashSet Text Secret). list_any (same_text a) s.keys) w.found-is
+          ap (λ (s : IndexSet Text Secret). list_any (same_text a) s.keys) w.found-is
           ∙ one_put chain b key keys c.loop-i.i x c.index-from.ensures a _ _ so_far _ (told true w.if-is_live.true) (w.in_ok-insert.ensures.has a)
       | else-is_live w ↦
-          ap (λ (s : HashSet Text Secret). list_any (same_text a) s.keys) w.found-is
+          ap (λ (s : IndexSet Text Secret). list_any (same_text a) s.keys) w.found-is
           ∙ one_passed chain b key keys c.loop-i.i x c.index-from.ensures a _ _ so_far _ (told false w.if-is_live.false) refl
     ]

@@ -1,4 +1,4 @@
-use Rattle.std.specs.HashMap.{get}
+use Rattle.indexmap.specs.IndexMap.{get}
 use Rattle.dubp_people_after.specs.Keys.{same_pair}
 use Rattle.dubp_people_after.proofs.Lists.{one_pair_more}
 use Rattle.dubp_people_after.proofs.keys.put_certifications.Goals as goal

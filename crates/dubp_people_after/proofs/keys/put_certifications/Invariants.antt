@@ -1,5 +1,5 @@
 use Rattle.std.proofs.Common.{◌≡◌, take}
-use Rattle.std.specs.HashMap.{get}
+use Rattle.indexmap.specs.IndexMap.{get}
 use Rattle.dubp_atoms.specs.Same.{Text}
 use Rattle.dubp_chain.specs.Words.{last_of}
 use Rattle.dubp_registry.specs.OfSteps.{of_pair}

@@ -1,4 +1,4 @@
-use Rattle.std.specs.HashMap.{get}
+use Rattle.indexmap.specs.IndexMap.{get}
 use Rattle.dubp_atoms.specs.Same.{same_text}
 use Rattle.dubp_people_after.proofs.Lists.{one_line_more}
 use Rattle.dubp_people_after.proofs.keys.put_identities.Goals as goal

@@ -1,5 +1,5 @@
 use Rattle.std.proofs.Common.{◌∙◌, ◌≡◌, ◌++◌, ◌∷◌, [], ap, rules, cond, Some}
-use Rattle.std.specs.HashMap.{get}
+use Rattle.indexmap.specs.IndexMap.{get}
 use Rattle.dubp_atoms.specs.Same.{Text, same_text}
 use Rattle.dubp_people_after.proofs.Between.{one_partner}
 use Rattle.dubp_people_after.proofs.partners.insert_first.Goals as goal

@@ -2,7 +2,7 @@ use Rattle.std.proofs.Common.{◌∙◌, inr, ap, sym}
 use Rattle.std.specs.List.{list_any}
 use Rattle.std.specs.Map.{lookup}
 use Rattle.std.proofs.lemmas.Option.{none-some}
-use Rattle.std.specs.HashMap.{get}
+use Rattle.indexmap.specs.IndexMap.{get}
 use Rattle.dubp_atoms.specs.Same.{same_text}
 use Rattle.dubp_lists.proofs.Elements.{or_true}
 use Rattle.dubp_people_distance.specs.Ends.{is_end_of_line}

@@ -1,5 +1,5 @@
 use Rattle.std.proofs.Common.{◌∙◌, inl}
-use Rattle.std.specs.HashMap.{get}
+use Rattle.indexmap.specs.IndexMap.{get}
 use Rattle.dubp_atoms.specs.Same.{same_text}
 use Rattle.dubp_lists.proofs.Elements.{or_true}
 use Rattle.dubp_left.specs.OfSteps.{now_of}

@@ -1,5 +1,5 @@
 use Rattle.std.proofs.Common.{◌∙◌, ◌∷◌, sym}
-use Rattle.std.specs.HashMap.{get}
+use Rattle.indexmap.specs.IndexMap.{get}
 use Rattle.dubp_atoms.specs.Same.{same_text}
 use Rattle.dubp_people_distance.proofs.Known.{certified_more, has_already, has_more}
 use Rattle.dubp_people_distance.proofs.changed.put_key.Goals as goal

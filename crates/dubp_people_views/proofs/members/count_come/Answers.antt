@@ -1,5 +1,5 @@
 use Rattle.std.proofs.Common.{◌≤◌, ◌+◌, ◌∙◌, ℕ, sym, subst, arith}
-use Rattle.std.specs.HashSet.{contains}
+use Rattle.indexmap.specs.IndexSet.{contains}
 use Rattle.dubp_atoms.specs.Same.{same_text}
 use Rattle.dubp_lists.proofs.Passing.{one_passes, one_fails}
 use Rattle.dubp_people_views.specs.Counting.{is_new_member}

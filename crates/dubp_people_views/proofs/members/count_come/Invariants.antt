@@ -1,6 +1,6 @@
 use Rattle.std.proofs.Common.{◌≡◌, ◌≤◌, take, count_by}
 use Rattle.dubp_registry.specs.contracts.registry.RegistryTablesBlock.TheImpl as registry
-use Rattle.std.specs.HashSet.{contains}
+use Rattle.indexmap.specs.IndexSet.{contains}
 use Rattle.dubp_atoms.specs.Same.{same_text}
 use Rattle.dubp_chain.specs.Chains.{Chain}
 use Rattle.dubp_registry.specs.OfValidity.{IsSound}

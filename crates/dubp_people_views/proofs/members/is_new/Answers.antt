@@ -1,5 +1,5 @@
 use Rattle.std.proofs.Common.{not, ap, ◌∙◌}
-use Rattle.std.specs.HashSet.{contains}
+use Rattle.indexmap.specs.IndexSet.{contains}
 use Rattle.dubp_atoms.specs.Same.{same_text}
 use Rattle.dubp_people_views.proofs.Counting.{new_told, out_told}
 use Rattle.dubp_people_views.proofs.members.is_new.Goals as goal

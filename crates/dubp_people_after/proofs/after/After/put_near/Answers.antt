@@ -1,5 +1,5 @@
 use Rattle.std.proofs.Common.{◌∙◌}
-use Rattle.std.specs.HashSet.{contains}
+use Rattle.indexmap.specs.IndexSet.{contains}
 use Rattle.dubp_atoms.specs.Same.{same_text}
 use Rattle.dubp_moving.specs.States.{states}
 use Rattle.dubp_registry.specs.OfLeft.{certifications_left}
