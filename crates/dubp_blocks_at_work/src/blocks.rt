@@ -1,6 +1,9 @@
 ghost use Rattle.std.specs.Prelude.{◌≡◌, length, IfOk};
 ghost use Rattle.dubp_block.specs.Text.{IsBlock};
 
+use crate::heads::states_its_head;
+use crate::money::keeps_the_rules_on_money;
+use crate::rules::lacks_its_verdict;
 use dubp_atoms::{Hash, Items, Key, NoMemory, Sig, Stamp, Uid};
 use dubp_block::{
     Block, MemberLine, block_hash, copy_block, inner_hash, put_block, read_block, size, stamp_of,
@@ -10,7 +13,7 @@ use std::mem::forget;
 use std::test::Fail;
 
 // A block of number 0, whose hashes were computed by another program.
-pub const FIRST_BLOCK: &[u8] = b"Version: 10\n\
+const FIRST_BLOCK: &[u8] = b"Version: 10\n\
 Type: Block\n\
 Currency: test_currency\n\
 Number: 0\n\
@@ -58,16 +61,6 @@ fn is_kept_whole(alloc: Global, block: &Block) -> Result<bool, NoMemory>
     Ok(hashed && written && same)
 }
 
-#[test]
-fn reads_hashes_and_writes_the_first_block(rt: HostRuntime) -> Result<(), Fail> {
-    let block = read_block(rt.alloc(), FIRST_BLOCK)?;
-    let first = is_first(&block);
-    let kept = is_kept_whole(rt.alloc(), &block);
-    forget(block);
-    assert!(rt; first && kept == Ok(true));
-    Ok(())
-}
-
 const KEY: &[u8] = b"1111111111111111111111111111111111111111111";
 
 const SIG: &[u8] =
@@ -111,10 +104,17 @@ fn size_when_filled(alloc: Global, block: &mut Block) -> Option<u64> {
 }
 
 #[test]
-fn the_size_counts_each_section_but_excluded(rt: HostRuntime) -> Result<(), Fail> {
+fn a_first_block_is_read_written_and_checked(rt: HostRuntime) -> Result<(), Fail> {
     let mut block = read_block(rt.alloc(), FIRST_BLOCK)?;
+    let first = is_first(&block);
+    let kept = is_kept_whole(rt.alloc(), &block);
+    let signed = lacks_its_verdict(rt.alloc(), &block);
+    let stated = states_its_head(rt.alloc(), &block);
+    let paid = keeps_the_rules_on_money(rt.alloc(), &block);
     let lines = size_when_filled(rt.alloc(), &mut block);
     forget(block);
+    assert!(rt; first && kept == Ok(true));
+    assert!(rt; signed && stated && paid);
     assert!(rt; lines == Some(2));
     Ok(())
 }

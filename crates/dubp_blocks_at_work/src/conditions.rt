@@ -1,10 +1,7 @@
 ghost use Rattle.std.specs.Prelude.{◌≤◌};
 
-use dubp_atoms::{Key, Line};
-use dubp_cond::{
-    holds, is_cond, put_input, put_output, put_unlock, read_cond, read_input, read_output,
-    read_unlock,
-};
+use dubp_atoms::Key;
+use dubp_cond::{holds, is_cond, read_cond, read_unlock};
 use std::alloc::Global;
 use std::mem::forget;
 
@@ -57,100 +54,5 @@ fn conditions_hold_at_their_time(rt: HostRuntime) {
     assert!(rt; is_cond(TIMED));
     for (cond, unlocks, issuer, now, written, is) in &TIMES {
         assert!(rt; holds_at(rt.alloc(), cond, unlocks, issuer, *now, *written) == Some(*is));
-    }
-}
-
-// Whether the input that the text is, if it is one, is written as the text.
-fn input_is_kept(text: &[u8]) -> bool {
-    let mut line = Line::new();
-    if let Some(input) = read_input(text) {
-        put_input(&input, &mut line);
-    }
-    line.as_slice() == text
-}
-
-const INPUTS: [(&[u8], bool); 5] = [
-    (
-        b"100:0:D:1111111111111111111111111111111111111111111:5",
-        true,
-    ),
-    (
-        b"9007199254740991:15:T:BA7816BF8F01CFEA414140DE5DAE2223B00361A396177A9CB410FF61F20015AD:0",
-        true,
-    ),
-    (
-        b"100:16:D:1111111111111111111111111111111111111111111:5",
-        false,
-    ),
-    (
-        b"100:0:T:1111111111111111111111111111111111111111111:5",
-        false,
-    ),
-    (
-        b"100:0:D:1111111111111111111111111111111111111111111",
-        false,
-    ),
-];
-
-#[test]
-fn inputs_are_read_and_written(rt: HostRuntime) {
-    for (text, is) in &INPUTS {
-        assert!(rt; input_is_kept(text) == *is);
-    }
-}
-
-// Whether the unlocks that the text is, if it is some, are written as the text.
-fn unlocks_are_kept(alloc: Global, text: &[u8]) -> bool {
-    let mut line = Line::new();
-    if let Ok(Some(unlock)) = read_unlock(alloc, text) {
-        put_unlock(&unlock, &mut line);
-    }
-    line.as_slice() == text
-}
-
-const UNLOCKS: [(&[u8], bool); 8] = [
-    (b"7:SIG(0) XHX(abc) SIG(12)", true),
-    (
-        b"0:SIG(0) SIG(0) SIG(0) SIG(0) SIG(0) SIG(0) SIG(0) SIG(0)",
-        true,
-    ),
-    (
-        b"0:SIG(0) SIG(0) SIG(0) SIG(0) SIG(0) SIG(0) SIG(0) SIG(0) SIG(0)",
-        false,
-    ),
-    (b"0:", false),
-    (b"0:SIG(0) ", false),
-    (b"0:SIG(0)  SIG(1)", false),
-    (b"0:XHX()", false),
-    (b"0:XHX(a(b)", false),
-];
-
-#[test]
-fn unlocks_are_read_and_written(rt: HostRuntime) {
-    for (text, is) in &UNLOCKS {
-        assert!(rt; unlocks_are_kept(rt.alloc(), text) == *is);
-    }
-}
-
-// Whether the output that the text is, if it is one, is written as the text.
-fn output_is_kept(alloc: Global, text: &[u8]) -> bool {
-    let mut line = Line::new();
-    if let Ok(Some(output)) = read_output(alloc, text) {
-        put_output(&output, &mut line);
-    }
-    line.as_slice() == text
-}
-
-const OUTPUTS: [(&[u8], bool); 4] = [
-    (b"1000:0:CSV(1)", true),
-    (b"0:15:(CSV(1) && CLTV(2)) || CSV(3)", true),
-    (b"1000:0:", false),
-    (b"1000:CSV(1)", false),
-];
-
-#[test]
-fn outputs_are_read_and_written(rt: HostRuntime) {
-    for (text, is) in &OUTPUTS {
-        assert!(rt; output_is_kept(rt.alloc(), text) == *is);
     }
 }

@@ -7,7 +7,7 @@ use dubp_docs::{
     Doc, TxDoc, certification_hash, identity_hash, membership_hash, put_doc, read_doc,
     revocation_hash, signed_text, signed_tx, tx_hash, tx_hashes,
 };
-use std::alloc::{AllocError, Global};
+use std::alloc::Global;
 use std::mem::forget;
 use std::test::Fail;
 
@@ -210,39 +210,4 @@ fn a_transaction_is_named_by_its_whole_text_and_copied(rt: HostRuntime) -> Resul
     forget(doc);
     assert!(rt; named == Ok(true) && copied == Ok(true));
     Ok(())
-}
-
-const SIGNATURE_LINE: &[u8] =
-    b"AAAAAAAAAAAAAAAAAAAAAAAAAAAAAAAAAAAAAAAAAAAAAAAAAAAAAAAAAAAAAAAAAAAAAAAAAAAAAAAAAAAAAA==\n";
-
-// Texts in two parts that are no documents.
-const OTHERS: [(&[u8], &[u8]); 6] = [
-    (b"", b""),
-    (IDENTITY, b"\n"),
-    (IDENTITY, b"x"),
-    (IDENTITY, SIGNATURE_LINE),
-    (TRANSACTION, SIGNATURE_LINE),
-    (b" ", IDENTITY),
-];
-
-fn joined(alloc: Global, front: &[u8], back: &[u8]) -> Result<Vec<u8>, AllocError> {
-    let mut text = Vec::from_slice(alloc, front)?;
-    text.extend_from_slice(back)?;
-    Ok(text)
-}
-
-fn is_no_document(alloc: Global, front: &[u8], back: &[u8]) -> bool {
-    let Ok(text) = joined(alloc, front, back) else {
-        return false;
-    };
-    let none = matches!(read_doc(alloc, &text), Ok(None));
-    forget(text);
-    none
-}
-
-#[test]
-fn other_texts_are_no_documents(rt: HostRuntime) {
-    for (front, back) in &OTHERS {
-        assert!(rt; is_no_document(rt.alloc(), front, back));
-    }
 }

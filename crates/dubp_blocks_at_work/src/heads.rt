@@ -2,14 +2,12 @@ ghost use Rattle.std.specs.Prelude.{◌≡◌, ◌^◌, ◌<◌, [], IsTrue, ℕ
 ghost use Rattle.dubp_block.specs.Text.{IsBlock, size_of};
 ghost use Rattle.dubp_head.specs.Following.{MayFollow};
 
-use crate::blocks::FIRST_BLOCK;
-use dubp_block::{Block, read_block};
+use dubp_block::Block;
 use dubp_head::{Heads, augment, head_rules};
 use dubp_params::in_range;
 use dubp_rules::Rule;
 use std::alloc::Global;
 use std::mem::forget;
-use std::test::Fail;
 
 // Whether no section but Excluded has a line.
 fn has_no_lines(block: &Block) -> bool
@@ -49,15 +47,13 @@ fn broken_with(alloc: Global, heads: &Heads, block: &Block, members: u64) -> Opt
     None
 }
 
-#[test]
-fn a_first_block_states_its_head(rt: HostRuntime) -> Result<(), Fail> {
-    let block = read_block(rt.alloc(), FIRST_BLOCK)?;
-    let heads = Heads::new(rt.alloc());
-    let stated = broken_with(rt.alloc(), &heads, &block, 0);
-    let not_stated = broken_with(rt.alloc(), &heads, &block, 1);
+// Whether the block states the head of a chain without members, and of no other.
+pub fn states_its_head(alloc: Global, block: &Block) -> bool
+    requires { IsBlock block.now }
+{
+    let heads = Heads::new(alloc);
+    let stated = broken_with(alloc, &heads, block, 0);
+    let not_stated = broken_with(alloc, &heads, block, 1);
     forget(heads);
-    forget(block);
-    assert!(rt; stated == Some(None));
-    assert!(rt; not_stated == Some(Some(Rule::G60)));
-    Ok(())
+    stated == Some(None) && not_stated == Some(Some(Rule::G60))
 }

@@ -1,16 +1,14 @@
 ghost use Rattle.std.specs.Prelude.{◌≡◌, ◌<◌};
 ghost use Rattle.dubp_block.specs.Text.{IsBlock};
 
-use crate::blocks::FIRST_BLOCK;
 use dubp_atoms::{Hash, Steps};
-use dubp_block::{Block, read_block};
+use dubp_block::Block;
 use dubp_chain::Head;
 use dubp_money_rules::{Money, money_rules};
 use std::alloc::Global;
 use std::marker::Brand;
 use std::mem::forget;
 use std::sync::ledger::{Blank, Ledger as StepBook};
-use std::test::Fail;
 
 // The head of the first block, whose hash was computed by another program.
 fn first_head(block: &Block) -> Option<Head> {
@@ -66,7 +64,7 @@ fn is_written<L: StepBook>(
     empty && written && records.is_empty() && has_no_money(money)
 }
 
-// Whether the block keeps each rule on money, and is written.
+// Whether the block, whose head this is, keeps each rule on money, and is written.
 fn is_kept<L: StepBook>(alloc: Global, blank: Blank, block: &Block, head: &Head) -> bool
     requires name { blank.name ≡ L.name }
     requires parts { blank.parts ≡ L.parts }
@@ -81,14 +79,12 @@ fn is_kept<L: StepBook>(alloc: Global, blank: Blank, block: &Block, head: &Head)
     keeps && written
 }
 
-#[test]
-fn a_first_block_keeps_the_rules_on_money_and_is_written(rt: HostRuntime) -> Result<(), Fail> {
-    let block = read_block(rt.alloc(), FIRST_BLOCK)?;
-    let good = match first_head(&block) {
-        Some(head) => is_kept::<Brand>(rt.alloc(), Blank::new(1), &block, &head),
+// Whether the block keeps each rule on money, and is written.
+pub fn keeps_the_rules_on_money(alloc: Global, block: &Block) -> bool
+    requires { IsBlock block.now }
+{
+    match first_head(block) {
+        Some(head) => is_kept::<Brand>(alloc, Blank::new(1), block, &head),
         None => false,
-    };
-    forget(block);
-    assert!(rt; good);
-    Ok(())
+    }
 }

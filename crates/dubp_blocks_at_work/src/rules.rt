@@ -1,24 +1,18 @@
 ghost use Rattle.dubp_block.specs.Text.{IsBlock};
 
-use crate::blocks::FIRST_BLOCK;
 use dubp_atoms::{Hash, NoMemory};
-use dubp_block::{Block, read_block};
+use dubp_block::Block;
 use dubp_local::{check_local, check_unsigned};
 use dubp_rules::Rule;
 use dubp_verdict::Verdicts;
 use std::alloc::Global;
 use std::mem::forget;
-use std::test::Fail;
 
 const SIGNED_LINES: &[u8] =
     b"InnerHash: 9880AB695793A40B4291DC5A5FB6FB082B901AFAD5E758E3B1B90168CFFB80B0\nNonce: 0\n";
 
 // Whether the block breaks one rule without its verdict, and none unsigned or with its verdict.
-fn lacks_its_verdict(
-    alloc: Global,
-    block: &Block,
-    verdicts: &mut Verdicts,
-) -> Result<bool, NoMemory>
+fn breaks_one_rule(alloc: Global, block: &Block, verdicts: &mut Verdicts) -> Result<bool, NoMemory>
     requires { IsBlock block.now }
 {
     let lacking = check_local(alloc, block, verdicts, None)? == Some(Rule::L05);
@@ -28,14 +22,12 @@ fn lacks_its_verdict(
     Ok(lacking && unsigned && signed)
 }
 
-#[test]
-fn a_first_block_lacks_its_verdict_alone(rt: HostRuntime) -> Result<(), Fail> {
-    let alloc = rt.alloc();
-    let block = read_block(alloc, FIRST_BLOCK)?;
+// Whether the block lacks its verdict alone.
+pub fn lacks_its_verdict(alloc: Global, block: &Block) -> bool
+    requires { IsBlock block.now }
+{
     let mut verdicts = Verdicts::new(alloc);
-    let good = lacks_its_verdict(alloc, &block, &mut verdicts);
+    let good = breaks_one_rule(alloc, block, &mut verdicts);
     forget(verdicts);
-    forget(block);
-    assert!(rt; good == Ok(true));
-    Ok(())
+    good == Ok(true)
 }

@@ -8,11 +8,11 @@ use std::test::Fail;
 
 const ROOM: usize = 24;
 
-/// The next number of a linear congruential generator.
+/// The next number of a generator by shifts.
 fn next(number: u64) -> u64 {
-    number
-        .wrapping_mul(6364136223846793005)
-        .wrapping_add(1442695040888963407)
+    let first = number ^ (number << 13);
+    let second = first ^ (first >> 7);
+    second ^ (second << 17)
 }
 
 /// Puts a time to both.

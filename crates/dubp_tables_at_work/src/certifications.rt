@@ -10,6 +10,12 @@ use std::sync::ledger::{Blank, Ledger as StepBook};
 
 // Three people, in the order of their keys.
 #[derive(Clone, Copy)]
+enum Person {
+    Anna,
+    Bert,
+    Cleo,
+}
+
 struct People {
     anna: Key,
     bert: Key,
@@ -49,51 +55,156 @@ fn three_people() -> Option<People> {
     })
 }
 
-fn back<L: StepBook>(index: &mut CIndex, steps: &mut Steps<L>) {
-    if index.depth() > 0 {
-        index.back(steps);
+fn key_of(people: &People, person: Person) -> Key {
+    match person {
+        Person::Anna => people.anna,
+        Person::Bert => people.bert,
+        Person::Cleo => people.cleo,
     }
 }
 
-// Anna and Cleo certify Bert, and Cleo certifies Anna.
-fn certify<L: StepBook>(
+fn some_key(people: &People, person: Option<Person>) -> Option<Key> {
+    match person {
+        Some(person) => Some(key_of(people, person)),
+        None => None,
+    }
+}
+
+// A question, and its answer.
+#[derive(Clone, Copy)]
+enum Answer {
+    Row(Person, Person, Option<CertRow>),
+    // Who has certified the first behind the second.
+    Next(Person, Option<Person>, Option<Person>),
+    Received(Person, u64),
+    Issuer(Person, Option<IssuerRow>),
+}
+
+fn is_told(index: &CIndex, people: &People, answer: Answer) -> bool {
+    match answer {
+        Answer::Row(from, to, row) => index.row(key_of(people, from), key_of(people, to)) == row,
+        Answer::Next(to, after, next) => {
+            index.next_received(key_of(people, to), some_key(people, after))
+                == some_key(people, next)
+        }
+        Answer::Received(to, count) => index.received(key_of(people, to)) == count,
+        Answer::Issuer(from, row) => index.issuer(key_of(people, from)) == row,
+    }
+}
+
+#[derive(Clone, Copy)]
+enum Call {
+    Mark,
+    Put(Person, Person, CertRow),
+    Back,
+}
+
+fn make<L: StepBook>(
     index: &mut CIndex,
     people: &People,
+    call: Call,
     steps: &mut Steps<L>,
 ) -> Result<(), NoMemory> {
-    index.put_row(people.cleo, people.bert, CLEO_TO_BERT, steps)?;
-    index.put_row(people.anna, people.bert, ANNA_TO_BERT, steps)?;
-    index.put_row(people.cleo, people.anna, CLEO_TO_ANNA, steps)?;
+    match call {
+        Call::Mark => return index.mark(),
+        Call::Put(from, to, row) => {
+            return index.put_row(key_of(people, from), key_of(people, to), row, steps);
+        }
+        Call::Back => {
+            if index.depth() > 0 {
+                index.back(steps);
+            }
+        }
+    }
     Ok(())
 }
 
-fn issued(stock: u64, written: u64) -> Option<IssuerRow> {
-    Some(IssuerRow { stock, written })
-}
+const ONE_OF_ANNA: Option<IssuerRow> = Some(IssuerRow {
+    stock: 1,
+    written: 1,
+});
 
-// What is found by pairs, where Cleo's certification of Bert is this.
-fn pairs_are_found(index: &CIndex, people: &People, cleo_to_bert: CertRow) -> bool {
-    index.row(people.anna, people.bert) == Some(ANNA_TO_BERT)
-        && index.row(people.cleo, people.bert) == Some(cleo_to_bert)
-        && index.row(people.bert, people.anna).is_none()
-}
+const TWO_OF_CLEO: Option<IssuerRow> = Some(IssuerRow {
+    stock: 2,
+    written: 3,
+});
 
-// What Bert has received while all certifications live.
-fn issuers_are_walked(index: &CIndex, people: &People) -> bool {
-    index.next_received(people.bert, None) == Some(people.anna)
-        && index.next_received(people.bert, Some(people.anna)) == Some(people.cleo)
-        && index
-            .next_received(people.bert, Some(people.cleo))
-            .is_none()
-}
+const ONE_OF_CLEO: Option<IssuerRow> = Some(IssuerRow {
+    stock: 1,
+    written: 3,
+});
 
-// What is counted, where Bert has received so many and Cleo has issued so many.
-fn sides_are_counted(index: &CIndex, people: &People, received: u64, stock: u64) -> bool {
-    let to = index.received(people.bert) == received && index.received(people.cleo) == 0;
-    let from = index.issuer(people.anna) == issued(1, 1)
-        && index.issuer(people.cleo) == issued(stock, 3)
-        && index.issuer(people.bert).is_none();
-    to && from
+// What is told while all certifications live.
+static ALL_LIVE: [Answer; 11] = [
+    Answer::Row(Person::Anna, Person::Bert, Some(ANNA_TO_BERT)),
+    Answer::Row(Person::Cleo, Person::Bert, Some(CLEO_TO_BERT)),
+    Answer::Row(Person::Bert, Person::Anna, None),
+    Answer::Next(Person::Bert, None, Some(Person::Anna)),
+    Answer::Next(Person::Bert, Some(Person::Anna), Some(Person::Cleo)),
+    Answer::Next(Person::Bert, Some(Person::Cleo), None),
+    Answer::Received(Person::Bert, 2),
+    Answer::Received(Person::Cleo, 0),
+    Answer::Issuer(Person::Anna, ONE_OF_ANNA),
+    Answer::Issuer(Person::Cleo, TWO_OF_CLEO),
+    Answer::Issuer(Person::Bert, None),
+];
+
+// What is told behind the end of Cleo's certification of Bert.
+static ONE_HAS_ENDED: [Answer; 9] = [
+    Answer::Row(Person::Anna, Person::Bert, Some(ANNA_TO_BERT)),
+    Answer::Row(Person::Cleo, Person::Bert, Some(ENDED)),
+    Answer::Row(Person::Bert, Person::Anna, None),
+    Answer::Next(Person::Bert, Some(Person::Anna), None),
+    Answer::Received(Person::Bert, 1),
+    Answer::Received(Person::Cleo, 0),
+    Answer::Issuer(Person::Anna, ONE_OF_ANNA),
+    Answer::Issuer(Person::Cleo, ONE_OF_CLEO),
+    Answer::Issuer(Person::Bert, None),
+];
+
+static NOTHING: [Answer; 4] = [
+    Answer::Row(Person::Anna, Person::Bert, None),
+    Answer::Received(Person::Bert, 0),
+    Answer::Issuer(Person::Cleo, None),
+    Answer::Next(Person::Bert, None, None),
+];
+
+// A call, and what is told behind it.
+type Row = (Call, &'static [Answer]);
+
+// Anna and Cleo certify Bert, and Cleo certifies Anna.
+static WRITTEN: [Row; 4] = [
+    (Call::Mark, &NOTHING),
+    (Call::Put(Person::Cleo, Person::Bert, CLEO_TO_BERT), &[]),
+    (Call::Put(Person::Anna, Person::Bert, ANNA_TO_BERT), &[]),
+    (
+        Call::Put(Person::Cleo, Person::Anna, CLEO_TO_ANNA),
+        &ALL_LIVE,
+    ),
+];
+
+// One ends, and the index goes back over the end and the beginning.
+static ENDED_AND_BACK: [Row; 4] = [
+    (Call::Mark, &ALL_LIVE),
+    (Call::Put(Person::Cleo, Person::Bert, ENDED), &ONE_HAS_ENDED),
+    (Call::Back, &ALL_LIVE),
+    (Call::Back, &NOTHING),
+];
+
+fn goes_through<L: StepBook>(
+    index: &mut CIndex,
+    people: &People,
+    rows: &[Row],
+    steps: &mut Steps<L>,
+) -> Result<bool, NoMemory> {
+    let mut good = true;
+    for (call, answers) in rows {
+        make(index, people, *call, steps)?;
+        for answer in *answers {
+            good = good && is_told(index, people, *answer);
+        }
+    }
+    Ok(good)
 }
 
 // The certifications of Anna are those that she has received, and then those that she has issued.
@@ -106,46 +217,15 @@ fn rows_are_listed(index: &CIndex, alloc: Global, people: &People) -> Result<boo
     Ok(found.as_slice() == wanted.as_slice())
 }
 
-// What is told while all certifications live.
-fn all_live(index: &CIndex, people: &People) -> bool {
-    pairs_are_found(index, people, CLEO_TO_BERT)
-        && issuers_are_walked(index, people)
-        && sides_are_counted(index, people, 2, 2)
-}
-
-// What is told behind the end of Cleo's certification of Bert.
-fn one_has_ended(index: &CIndex, people: &People) -> bool {
-    pairs_are_found(index, people, ENDED)
-        && index
-            .next_received(people.bert, Some(people.anna))
-            .is_none()
-        && sides_are_counted(index, people, 1, 1)
-}
-
-fn is_empty(index: &CIndex, people: &People) -> bool {
-    index.row(people.anna, people.bert).is_none()
-        && index.received(people.bert) == 0
-        && index.issuer(people.cleo).is_none()
-        && index.next_received(people.bert, None).is_none()
-}
-
-// Three certifications are written, one ends, and the index goes back over both.
-fn goes_through<L: StepBook>(
+fn passes<L: StepBook>(
     index: &mut CIndex,
     alloc: Global,
     people: &People,
     steps: &mut Steps<L>,
 ) -> Result<bool, NoMemory> {
-    index.mark()?;
-    certify(index, people, steps)?;
-    let written = all_live(index, people) && rows_are_listed(index, alloc, people)?;
-    index.mark()?;
-    index.put_row(people.cleo, people.bert, ENDED, steps)?;
-    let ended = one_has_ended(index, people);
-    back(index, steps);
-    let lives_again = all_live(index, people);
-    back(index, steps);
-    Ok(written && ended && lives_again && is_empty(index, people))
+    let written = goes_through(index, people, &WRITTEN, steps)?;
+    let listed = rows_are_listed(index, alloc, people)?;
+    Ok(written && listed && goes_through(index, people, &ENDED_AND_BACK, steps)?)
 }
 
 fn counts_steps<L: StepBook>(alloc: Global, blank: Blank, people: &People) -> Result<bool, NoMemory>
@@ -155,7 +235,7 @@ fn counts_steps<L: StepBook>(alloc: Global, blank: Blank, people: &People) -> Re
 {
     let mut steps = Steps::<L>::open(blank);
     let mut index = CIndex::new(alloc);
-    let good = goes_through(&mut index, alloc, people, &mut steps);
+    let good = passes(&mut index, alloc, people, &mut steps);
     forget(index);
     good
 }

@@ -67,18 +67,10 @@ fn is_passed<F: Finder<usize>>(finder: F, alloc: Global) -> bool
 }
 
 #[test]
-fn slots_are_found_by_order(rt: HostRuntime) {
-    let finder: ByOrder<usize> = ByOrder::new(rt.alloc());
-    assert!(rt; is_passed(finder, rt.alloc()));
-}
-
-#[test]
-fn slots_are_found_by_number(rt: HostRuntime) {
+fn slots_are_found_by_order_number_and_hash(rt: HostRuntime) {
+    let by_order: ByOrder<usize> = ByOrder::new(rt.alloc());
+    assert!(rt; is_passed(by_order, rt.alloc()));
     assert!(rt; is_passed(ByNumber::new(rt.alloc()), rt.alloc()));
-}
-
-#[test]
-fn slots_are_found_by_hash(rt: HostRuntime) {
-    let finder: ByHash<usize, Secret> = ByHash::new(rt.alloc(), Secret::known());
-    assert!(rt; is_passed(finder, rt.alloc()));
+    let by_hash: ByHash<usize, Secret> = ByHash::new(rt.alloc(), Secret::known());
+    assert!(rt; is_passed(by_hash, rt.alloc()));
 }

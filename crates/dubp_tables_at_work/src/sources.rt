@@ -27,8 +27,13 @@ const OF_OUTPUT: SourceRow = SourceRow {
     order: 1,
 };
 
-// A dividend and an output.
 #[derive(Clone, Copy)]
+enum Source {
+    Dividend,
+    Output,
+}
+
+// A dividend and an output.
 struct Made {
     dividend: SourceId,
     output: SourceId,
@@ -47,32 +52,111 @@ fn two_sources() -> Option<Made> {
     })
 }
 
-fn back<L: StepBook>(index: &mut SIndex, steps: &mut Steps<L>) {
-    if index.depth() > 0 {
-        index.back(steps);
+fn id_of(made: &Made, source: Source) -> SourceId {
+    match source {
+        Source::Dividend => made.dividend,
+        Source::Output => made.output,
     }
 }
 
-fn make_both<L: StepBook>(
+// A question, and its answer.
+#[derive(Clone, Copy)]
+enum Answer {
+    Unspent(Source, Option<SourceRow>),
+    Balance(usize, u128),
+    Lowest(Option<(u128, usize)>),
+}
+
+fn is_told(index: &SIndex, made: &Made, answer: Answer) -> bool {
+    match answer {
+        Answer::Unspent(source, row) => index.unspent(id_of(made, source)) == row,
+        Answer::Balance(account, units) => index.balance(account) == units,
+        Answer::Lowest(lowest) => index.lowest() == lowest,
+    }
+}
+
+#[derive(Clone, Copy)]
+enum Call {
+    Mark,
+    Make(Source, SourceRow),
+    Spend(Source),
+    Back,
+}
+
+fn make<L: StepBook>(
     index: &mut SIndex,
     made: &Made,
+    call: Call,
     steps: &mut Steps<L>,
 ) -> Result<(), NoMemory> {
-    index.make(made.dividend, OF_DIVIDEND, steps)?;
-    index.make(made.output, OF_OUTPUT, steps)?;
+    match call {
+        Call::Mark => return index.mark(),
+        Call::Make(source, row) => return index.make(id_of(made, source), row, steps),
+        Call::Spend(source) => return index.spend(id_of(made, source), steps),
+        Call::Back => {
+            if index.depth() > 0 {
+                index.back(steps);
+            }
+        }
+    }
     Ok(())
 }
 
-fn are_unspent(index: &SIndex, made: &Made) -> bool {
-    index.unspent(made.dividend) == Some(OF_DIVIDEND)
-        && index.unspent(made.output) == Some(OF_OUTPUT)
-}
+// Both sources, the balances of their accounts, and the lowest of these.
+static BOTH: [Answer; 6] = [
+    Answer::Unspent(Source::Dividend, Some(OF_DIVIDEND)),
+    Answer::Unspent(Source::Output, Some(OF_OUTPUT)),
+    Answer::Balance(0, 100),
+    Answer::Balance(1, 40),
+    Answer::Balance(2, 0),
+    Answer::Lowest(Some((40, 1))),
+];
 
-// The balances of the accounts 0 and 1, and the walk over both from the lowest.
-fn balances_are_walked(index: &SIndex) -> bool {
-    let each = index.balance(0) == 100 && index.balance(1) == 40 && index.balance(2) == 0;
-    let lowest = index.lowest() == Some((40, 1));
-    each && lowest
+// The output is spent, so the other account has the lowest balance.
+static ONE_IS_SPENT: [Answer; 4] = [
+    Answer::Unspent(Source::Output, None),
+    Answer::Unspent(Source::Dividend, Some(OF_DIVIDEND)),
+    Answer::Balance(1, 0),
+    Answer::Lowest(Some((100, 0))),
+];
+
+static NOTHING: [Answer; 3] = [
+    Answer::Unspent(Source::Dividend, None),
+    Answer::Balance(0, 0),
+    Answer::Lowest(None),
+];
+
+// A call, and what is told behind it.
+type Row = (Call, &'static [Answer]);
+
+static BOTH_ARE_MADE: [Row; 3] = [
+    (Call::Mark, &NOTHING),
+    (Call::Make(Source::Dividend, OF_DIVIDEND), &[]),
+    (Call::Make(Source::Output, OF_OUTPUT), &BOTH),
+];
+
+// One is spent, and the index goes back over this and over both.
+static SPENT_AND_BACK: [Row; 4] = [
+    (Call::Mark, &BOTH),
+    (Call::Spend(Source::Output), &ONE_IS_SPENT),
+    (Call::Back, &BOTH),
+    (Call::Back, &NOTHING),
+];
+
+fn goes_through<L: StepBook>(
+    index: &mut SIndex,
+    made: &Made,
+    rows: &[Row],
+    steps: &mut Steps<L>,
+) -> Result<bool, NoMemory> {
+    let mut good = true;
+    for (call, answers) in rows {
+        make(index, made, *call, steps)?;
+        for answer in *answers {
+            good = good && is_told(index, made, *answer);
+        }
+    }
+    Ok(good)
 }
 
 fn sources_are_listed(index: &SIndex, alloc: Global, made: &Made) -> Result<bool, NoMemory> {
@@ -80,36 +164,15 @@ fn sources_are_listed(index: &SIndex, alloc: Global, made: &Made) -> Result<bool
     Ok(found.as_slice() == [(made.dividend, OF_DIVIDEND)].as_slice())
 }
 
-// The output is spent, so the other account has the lowest balance.
-fn output_is_spent(index: &SIndex, made: &Made) -> bool {
-    index.unspent(made.output).is_none()
-        && index.unspent(made.dividend) == Some(OF_DIVIDEND)
-        && index.balance(1) == 0
-        && index.lowest() == Some((100, 0))
-}
-
-fn is_empty(index: &SIndex, made: &Made) -> bool {
-    index.unspent(made.dividend).is_none() && index.balance(0) == 0 && index.lowest().is_none()
-}
-
-// Two sources are made, one is spent, and the index goes back over both.
-fn goes_through<L: StepBook>(
+fn passes<L: StepBook>(
     index: &mut SIndex,
     alloc: Global,
     made: &Made,
     steps: &mut Steps<L>,
 ) -> Result<bool, NoMemory> {
-    index.mark()?;
-    make_both(index, made, steps)?;
+    let there = goes_through(index, made, &BOTH_ARE_MADE, steps)?;
     let listed = sources_are_listed(index, alloc, made)?;
-    let there = are_unspent(index, made) && balances_are_walked(index);
-    index.mark()?;
-    index.spend(made.output, steps)?;
-    let spent = output_is_spent(index, made);
-    back(index, steps);
-    let there_again = are_unspent(index, made) && balances_are_walked(index);
-    back(index, steps);
-    Ok(listed && there && spent && there_again && is_empty(index, made))
+    Ok(there && listed && goes_through(index, made, &SPENT_AND_BACK, steps)?)
 }
 
 fn counts_steps<L: StepBook>(alloc: Global, blank: Blank, made: &Made) -> Result<bool, NoMemory>
@@ -119,7 +182,7 @@ fn counts_steps<L: StepBook>(alloc: Global, blank: Blank, made: &Made) -> Result
 {
     let mut steps = Steps::<L>::open(blank);
     let mut index = SIndex::new(alloc);
-    let good = goes_through(&mut index, alloc, made, &mut steps);
+    let good = passes(&mut index, alloc, made, &mut steps);
     forget(index);
     good
 }

@@ -296,37 +296,19 @@ fn is_passed(alloc: Global, trial: Trial) -> bool {
     good == Ok(true)
 }
 
-#[test]
-fn a_held_write_comes_again(rt: HostRuntime) {
-    assert!(rt; is_passed(rt.alloc(), Trial::Rows(&HELD_WRITE)));
-}
+static TRIALS: [Trial; 7] = [
+    Trial::Rows(&HELD_WRITE),
+    Trial::Rows(&WALK),
+    Trial::Rows(&BOTH_ENDS),
+    Trial::Rows(&PLACE_USED_AGAIN),
+    Trial::Rows(&REFUSALS),
+    Trial::FarBack,
+    Trial::ManyKeys,
+];
 
 #[test]
-fn a_key_without_a_value_is_stepped_over(rt: HostRuntime) {
-    assert!(rt; is_passed(rt.alloc(), Trial::Rows(&WALK)));
-}
-
-#[test]
-fn both_ends_are_forgotten(rt: HostRuntime) {
-    assert!(rt; is_passed(rt.alloc(), Trial::Rows(&BOTH_ENDS)));
-}
-
-#[test]
-fn a_place_is_used_again(rt: HostRuntime) {
-    assert!(rt; is_passed(rt.alloc(), Trial::Rows(&PLACE_USED_AGAIN)));
-}
-
-#[test]
-fn twenty_thousand_marks_go_back(rt: HostRuntime) {
-    assert!(rt; is_passed(rt.alloc(), Trial::FarBack));
-}
-
-#[test]
-fn more_than_a_million_keys_are_set(rt: HostRuntime) {
-    assert!(rt; is_passed(rt.alloc(), Trial::ManyKeys));
-}
-
-#[test]
-fn a_refused_call_changes_nothing(rt: HostRuntime) {
-    assert!(rt; is_passed(rt.alloc(), Trial::Rows(&REFUSALS)));
+fn a_new_table_passes_each_trial(rt: HostRuntime) {
+    for trial in &TRIALS {
+        assert!(rt; is_passed(rt.alloc(), *trial));
+    }
 }

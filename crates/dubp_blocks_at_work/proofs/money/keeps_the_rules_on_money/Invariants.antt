@@ -1,4 +1,4 @@
-use Rattle.dubp_blocks_at_work.proofs.money.a_first_block_keeps_the_rules_on_money_and_is_written.Given as goal
+use Rattle.dubp_blocks_at_work.proofs.money.keeps_the_rules_on_money.Given as goal
 
 -- the steps are those of the blank
 abbrev pub ghosts-is_kept : goal.ghosts-is_kept
