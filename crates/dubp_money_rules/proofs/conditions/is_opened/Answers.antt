@@ -22,18 +22,18 @@ returns-in-Some c = λ ch at read once.
     (subst (λ u. IsTrue c.is_true_at.result ↔ IsSeenOpened t u c.args.tx.now.issuers (Some (made, c.in-Some.cond))) (c.unlocks_at-unlocks.ensures once)
     (subst (λ k. IsTrue c.is_true_at.result ↔ IsSeenOpened t c.unlocks_at-unlocks.result.now k (Some (made, c.in-Some.cond))) c.as_slice-issuers.ensures (c.is_true_at.ensures in_time)))
 
-pub returns-in-None : goal.returns-in-None
-returns-in-None c = λ ch at read once.
+pub returns-in_ok-opened-in-None : goal.returns-in_ok-opened-in-None
+returns-in_ok-opened-in-None c = λ ch at read once.
     let t = c.args.time in
     let input = c.args.input.now in
     let before = made_before t c.args.block.now c.args.number in
     let none : None ≡ seen_in (spent (unspent ch) input) = sym c.in-None.is ∙ c.in_ok-made.ensures ch at read.sound read.conditions in
     let keys = c.args.numbers.now.keys in
-    let output : seen_output t input (option_copied c.output_named-output.result.entry) ≡ seen_in (spent before input) =
+    let output : seen_output t input (option_copied c.output_named-output.result) ≡ seen_in (spent before input) =
     ap (seen_output t input) (c.output_named-output.ensures ∙ ap (λ txs. output_named keys txs c.args.number input.source) c.as_slice-txs.ensures)
     ∙ seen_named t c.args.block.now c.args.number input keys read.numbered in
-    opened_seen t c.args.tx.now c.args.place (at_hand t ch c.args.block.now c.args.number) input c.in_ok-opened.opened (seen_in (spent before input))
+    opened_seen t c.args.tx.now c.args.place (at_hand t ch c.args.block.now c.args.number) input c.in_ok-opened-in-None.opened (seen_in (spent before input))
     (told_then (λ (s : Source). (s.time, s.cond)) input (unspent ch) before (seen_in (spent before input)) none refl)
-    (subst (λ u. IsTrue c.in_ok-opened.opened ↔ IsSeenOpened t u c.args.tx.now.issuers (seen_in (spent before input))) (c.unlocks_at-unlocks.ensures once)
-    (subst (λ k. IsTrue c.in_ok-opened.opened ↔ IsSeenOpened t c.unlocks_at-unlocks.result.now k (seen_in (spent before input))) c.as_slice-issuers.ensures
-    (subst (λ seen. IsTrue c.in_ok-opened.opened ↔ IsSeenOpened t c.unlocks_at-unlocks.result.now c.as_slice-issuers.result.now seen) output c.in_ok-opened.ensures)))
+    (subst (λ u. IsTrue c.in_ok-opened-in-None.opened ↔ IsSeenOpened t u c.args.tx.now.issuers (seen_in (spent before input))) (c.unlocks_at-unlocks.ensures once)
+    (subst (λ k. IsTrue c.in_ok-opened-in-None.opened ↔ IsSeenOpened t c.unlocks_at-unlocks.result.now k (seen_in (spent before input))) c.as_slice-issuers.ensures
+    (subst (λ seen. IsTrue c.in_ok-opened-in-None.opened ↔ IsSeenOpened t c.unlocks_at-unlocks.result.now c.as_slice-issuers.result.now seen) output c.in_ok-opened-in-None.ensures)))
