@@ -126,21 +126,39 @@ static NOTHING: [Answer; 3] = [
     Answer::Lowest(None),
 ];
 
+// What is told behind a call.
+#[derive(Clone, Copy)]
+enum Told {
+    Nothing,
+    Both,
+    OneIsSpent,
+    Unasked,
+}
+
+fn answers_of(told: Told) -> &'static [Answer] {
+    match told {
+        Told::Nothing => &NOTHING,
+        Told::Both => &BOTH,
+        Told::OneIsSpent => &ONE_IS_SPENT,
+        Told::Unasked => &[],
+    }
+}
+
 // A call, and what is told behind it.
-type Row = (Call, &'static [Answer]);
+type Row = (Call, Told);
 
 static BOTH_ARE_MADE: [Row; 3] = [
-    (Call::Mark, &NOTHING),
-    (Call::Make(Source::Dividend, OF_DIVIDEND), &[]),
-    (Call::Make(Source::Output, OF_OUTPUT), &BOTH),
+    (Call::Mark, Told::Nothing),
+    (Call::Make(Source::Dividend, OF_DIVIDEND), Told::Unasked),
+    (Call::Make(Source::Output, OF_OUTPUT), Told::Both),
 ];
 
 // One is spent, and the index goes back over this and over both.
 static SPENT_AND_BACK: [Row; 4] = [
-    (Call::Mark, &BOTH),
-    (Call::Spend(Source::Output), &ONE_IS_SPENT),
-    (Call::Back, &BOTH),
-    (Call::Back, &NOTHING),
+    (Call::Mark, Told::Both),
+    (Call::Spend(Source::Output), Told::OneIsSpent),
+    (Call::Back, Told::Both),
+    (Call::Back, Told::Nothing),
 ];
 
 fn goes_through<L: StepBook>(
@@ -150,9 +168,9 @@ fn goes_through<L: StepBook>(
     steps: &mut Steps<L>,
 ) -> Result<bool, NoMemory> {
     let mut good = true;
-    for (call, answers) in rows {
+    for (call, told) in rows {
         make(index, made, *call, steps)?;
-        for answer in *answers {
+        for answer in answers_of(*told) {
             good = good && is_told(index, made, *answer);
         }
     }

@@ -296,19 +296,18 @@ fn is_passed(alloc: Global, trial: Trial) -> bool {
     good == Ok(true)
 }
 
-static TRIALS: [Trial; 7] = [
-    Trial::Rows(&HELD_WRITE),
-    Trial::Rows(&WALK),
-    Trial::Rows(&BOTH_ENDS),
-    Trial::Rows(&PLACE_USED_AGAIN),
-    Trial::Rows(&REFUSALS),
-    Trial::FarBack,
-    Trial::ManyKeys,
-];
-
 #[test]
 fn a_new_table_passes_each_trial(rt: HostRuntime) {
-    for trial in &TRIALS {
-        assert!(rt; is_passed(rt.alloc(), *trial));
+    let trials = [
+        Trial::Rows(&HELD_WRITE),
+        Trial::Rows(&WALK),
+        Trial::Rows(&BOTH_ENDS),
+        Trial::Rows(&PLACE_USED_AGAIN),
+        Trial::Rows(&REFUSALS),
+        Trial::FarBack,
+        Trial::ManyKeys,
+    ];
+    for trial in trials {
+        assert!(rt; is_passed(rt.alloc(), trial));
     }
 }
