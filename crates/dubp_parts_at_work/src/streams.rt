@@ -1,8 +1,12 @@
+ghost use Rattle.std.specs.Prelude.{◌≡◌, ◌<◌, ℕ, List, ◌++◌, length, ◌⊎◌, IsTrue, IfOk, OnOk, OnErr};
+ghost use Rattle.std.specs.Io.KnownBytes.{Appends, Consumes, IsAtEnd};
+ghost use Rattle.dubp_outside.specs.Causes.{Rose};
+
 use dubp_outside::{
     Failed, MemSink, MemSource, NoMemory, PlainSink, PlainSource, ReadSource, Sink, Source,
     WriteSink, write_whole,
 };
-use std::alloc::Global;
+use std::alloc::{AllocError, Global};
 use std::io;
 use std::io::{ErrorKind, PipeReader, PipeWriter, Read, Write};
 use std::mem::forget;
@@ -11,10 +15,27 @@ use std::test::Fail;
 const TEXT: &[u8] = b"one line\nand another\n";
 
 /// Writes what the source has left to the sink, piece by piece, and tells whether the source came to its end.
-fn copy_all<S: Source, K: Sink>(source: &mut S, sink: &mut K) -> Result<bool, Failed> {
-    let mut piece = [0; 8];
+fn copy_all<S: Source, K: Sink>(
+    source: &mut S,
+    sink: &mut K,
+    piece: &mut [u8],
+) -> Result<bool, Failed>
+    requires { 0 < length piece.old }
+    ensures copied { OnOk result ((bytes : List ℕ)
+        × Consumes (S.left source.old) (S.left source.new) bytes
+        × Appends (K.held sink.old) (K.held sink.new) bytes) }
+    ensures end { IfOk result (λ ended. IsTrue ended → IsAtEnd (S.left source.new)) }
+    ensures calm { OnOk result ((S.faults source.new ≡ S.faults source.old)
+        × (K.faults sink.new ≡ K.faults sink.old)) }
+
+    ensures part { OnErr result ((front : List ℕ) × (back : List ℕ)
+        × Consumes (S.left source.old) (S.left source.new) (front ++ back)
+        × Appends (K.held sink.old) (K.held sink.new) front) }
+    ensures cause { OnErr result (Rose (S.faults source.old) (S.faults source.new)
+        ⊎ Rose (K.faults sink.old) (K.faults sink.new)) }
+{
     for _ in 0..u64::MAX {
-        let count = source.read(&mut piece)?;
+        let count = source.read(piece)?;
         if count == 0 {
             return Ok(true);
         }
@@ -41,16 +62,17 @@ fn answer(succeeds: bool, count: usize) -> Result<usize, Failed> {
     if succeeds { Ok(count) } else { Err(Failed) }
 }
 
-/// A stream whose third and fifth calls are interrupted. Each other read fills the buffer with the call's number, and each other
-/// write takes as many bytes as the stream takes at most.
-#[derive(Drop)]
-struct Interrupted {
-    calls: u8,
-    most: usize,
-    taken: usize,
+fn zeros(alloc: Global, count: usize) -> Result<Vec<u8>, AllocError> {
+    vec![in alloc; 0; count]
 }
 
-impl Read for Interrupted {
+/// A reader whose third and fifth calls are interrupted. Each other call fills the buffer with the call's number.
+#[derive(Drop)]
+struct InterruptedReader {
+    calls: u8,
+}
+
+impl Read for InterruptedReader {
     fn read(&mut self, buf: &mut [u8]) -> io::Result<usize> {
         self.calls = self.calls.wrapping_add(1);
         if self.calls == 3 || self.calls == 5 {
@@ -61,15 +83,21 @@ impl Read for Interrupted {
     }
 }
 
-impl Write for Interrupted {
+/// A writer whose third and fifth calls are interrupted. Each other call takes the whole piece.
+#[derive(Drop)]
+struct InterruptedWriter {
+    calls: u8,
+    taken: usize,
+}
+
+impl Write for InterruptedWriter {
     fn write(&mut self, buf: &[u8]) -> io::Result<usize> {
         self.calls = self.calls.wrapping_add(1);
         if self.calls == 3 || self.calls == 5 {
             return Err(io::Error::from(ErrorKind::Interrupted));
         }
-        let count = buf.len().min(self.most);
-        self.taken = self.taken.wrapping_add(count);
-        Ok(count)
+        self.taken = self.taken.wrapping_add(buf.len());
+        Ok(buf.len())
     }
 
     fn flush(&mut self) -> io::Result<()> {
@@ -77,18 +105,23 @@ impl Write for Interrupted {
     }
 }
 
-/// Such a stream before its first call.
-fn stream_that_takes(most: usize) -> Interrupted {
-    Interrupted {
-        calls: 0,
-        most,
-        taken: 0,
+/// A writer that takes no byte.
+#[derive(Drop)]
+struct FullWriter;
+
+impl Write for FullWriter {
+    fn write(&mut self, _buf: &[u8]) -> io::Result<usize> {
+        Ok(0)
+    }
+
+    fn flush(&mut self) -> io::Result<()> {
+        Ok(())
     }
 }
 
 /// Whether the text is copied, and nothing behind it.
 fn is_copied(source: &mut PlainSource, sink: &mut PlainSink) -> bool {
-    let copied = copy_all(source, sink) == Ok(true);
+    let copied = copy_all(source, sink, &mut [0; 8]) == Ok(true);
     let whole = sink.held() == TEXT && source.left().is_empty();
     let full = sink.write(b"x") == Err(Failed) && sink.write(b"") == Ok(0);
     copied && whole && full && sink.held() == TEXT && sink.faults() == 1
@@ -156,7 +189,7 @@ fn told(
     sink: &mut MemSink,
     held: &[u8],
 ) -> (Result<bool, Failed>, bool, (u64, u64)) {
-    let copied = copy_all(source, sink);
+    let copied = copy_all(source, sink, &mut [0; 8]);
     let is_held = sink.held() == held;
     (copied, is_held, (source.faults(), sink.faults()))
 }
@@ -169,15 +202,9 @@ fn sink_of(alloc: Global, row: &Row) -> Result<MemSink, NoMemory> {
 }
 
 /// A source of the text, in pieces of five bytes, of which these reads fail.
-fn source_of(alloc: Global, fails: &[u64]) -> Result<MemSource, NoMemory> {
-    let Ok(text) = TEXT.to_vec(alloc) else {
-        return Err(NoMemory);
-    };
-    let Ok(fails) = fails.to_vec(alloc) else {
-        forget(text);
-        return Err(NoMemory);
-    };
-    Ok(MemSource::new(text, 5, fails))
+fn source_of(alloc: Global, fails: &[u64]) -> Result<MemSource, AllocError> {
+    let fails = fails.to_vec(alloc)?;
+    Ok(MemSource::new(TEXT.to_vec(alloc)?, 5, fails))
 }
 
 /// Whether a copy into a sink of the row comes to what the row says.
@@ -188,21 +215,15 @@ fn copies_to(alloc: Global, source: &mut MemSource, row: &Row) -> Result<bool, N
     Ok(told == (row.copied, true, row.faults))
 }
 
-/// Whether a copy comes to what the row says.
-fn is_so(alloc: Global, row: &Row) -> Result<bool, NoMemory> {
-    let Ok(mut source) = source_of(alloc, row.read_fails) else {
-        return Err(NoMemory);
-    };
-    let good = copies_to(alloc, &mut source, row);
-    forget(source);
-    good
-}
-
 #[test]
-fn copies_with_failing_calls(rt: HostRuntime) {
+fn copies_with_failing_calls(rt: HostRuntime) -> Result<(), Fail> {
     for row in &ROWS {
-        assert!(rt; is_so(rt.alloc(), row) == Ok(true));
+        let mut source = source_of(rt.alloc(), row.read_fails)?;
+        let good = copies_to(rt.alloc(), &mut source, row);
+        forget(source);
+        assert!(rt; good == Ok(true));
     }
+    Ok(())
 }
 
 /// What three copies answer, of which the first two reads fail, and how many bytes are held behind each.
@@ -217,7 +238,7 @@ fn goes_on(alloc: Global, source: &mut MemSource) -> Result<bool, NoMemory> {
     let mut sink = PlainSink::new(alloc, 64)?;
     let mut good = true;
     for (copied, held) in &AFTER_FAULTS {
-        let found = copy_all(source, &mut sink);
+        let found = copy_all(source, &mut sink, &mut [0; 8]);
         good = good && found == *copied && sink.held().len() == *held;
     }
     good = good && sink.held() == TEXT;
@@ -225,53 +246,50 @@ fn goes_on(alloc: Global, source: &mut MemSource) -> Result<bool, NoMemory> {
     Ok(good)
 }
 
-/// Whether a source of which the first two reads fail goes on.
-fn goes_on_in_memory(alloc: Global) -> Result<bool, NoMemory> {
-    let Ok(mut source) = source_of(alloc, &[1, 2]) else {
-        return Err(NoMemory);
-    };
-    let good = goes_on(alloc, &mut source);
+#[test]
+fn goes_on_after_a_failed_read(rt: HostRuntime) -> Result<(), Fail> {
+    let mut source = source_of(rt.alloc(), &[1, 2])?;
+    let good = goes_on(rt.alloc(), &mut source);
     forget(source);
+    assert!(rt; good == Ok(true));
+    Ok(())
+}
+
+/// Whether all is copied, and neither stream fails.
+fn is_calm<R: Read, W: Write>(source: &mut ReadSource<R>, sink: &mut WriteSink<W>) -> bool {
+    let copied = copy_all(source, sink, &mut [0; 8]) == Ok(true);
+    copied && source.faults() == 0 && sink.faults() == 0
+}
+
+/// Whether the text is written into the pipe.
+fn is_written(writer: PipeWriter) -> bool {
+    let mut sink = WriteSink::new(writer);
+    let good = is_calm(&mut ReadSource::new(TEXT), &mut sink);
+    drop(sink);
     good
 }
 
-#[test]
-fn goes_on_after_a_failed_read(rt: HostRuntime) {
-    assert!(rt; goes_on_in_memory(rt.alloc()) == Ok(true));
-}
-
-/// Whether the text is written into the pipe, and neither stream fails.
-fn is_written(writer: PipeWriter) -> bool {
-    let mut source = ReadSource::new(TEXT);
-    let mut sink = WriteSink::new(writer);
-    let copied = copy_all(&mut source, &mut sink) == Ok(true);
-    let calm = source.faults() == 0 && sink.faults() == 0;
-    drop(sink);
-    copied && calm
-}
-
-/// Whether the text, and nothing else, is read out of the pipe, and neither stream fails.
-fn is_read(reader: PipeReader, sink: &mut PlainSink) -> bool {
+/// Whether the text, and nothing else, is read out of the pipe.
+fn is_read(reader: PipeReader, taken: &mut Vec<u8>) -> bool {
     let mut source = ReadSource::new(reader);
-    let copied = copy_all(&mut source, sink) == Ok(true);
-    let calm = source.faults() == 0 && sink.faults() == 0;
+    let good = is_calm(&mut source, &mut WriteSink::new(&mut *taken));
     drop(source);
-    copied && calm && sink.held() == TEXT
+    good && taken.as_slice() == TEXT
 }
 
 #[test]
 fn copies_over_streams(rt: HostRuntime) -> Result<(), Fail> {
     let (reader, writer) = io::pipe(&rt)?;
     let written = is_written(writer);
-    let mut sink = PlainSink::new(rt.alloc(), 64)?;
-    let read = is_read(reader, &mut sink);
-    forget(sink);
+    let mut taken = Vec::new(rt.alloc());
+    let read = is_read(reader, &mut taken);
+    forget(taken);
     assert!(rt; written && read);
     Ok(())
 }
 
 /// Whether each read answers and fills the buffer as it should.
-fn reads_go_on(source: &mut ReadSource<Interrupted>, buffer: &mut [u8]) -> bool {
+fn reads_go_on(source: &mut ReadSource<InterruptedReader>, buffer: &mut [u8]) -> bool {
     let mut good = true;
     for (succeeds, faults, filled) in &CALLS {
         let expected = answer(*succeeds, buffer.len().min(65_536));
@@ -284,8 +302,21 @@ fn reads_go_on(source: &mut ReadSource<Interrupted>, buffer: &mut [u8]) -> bool 
     good
 }
 
+#[test]
+fn reads_go_on_after_a_fault(rt: HostRuntime) -> Result<(), Fail> {
+    for size in &SIZES {
+        let mut buffer = zeros(rt.alloc(), *size)?;
+        let mut source = ReadSource::new(InterruptedReader { calls: 0 });
+        let good = reads_go_on(&mut source, &mut buffer);
+        forget(source);
+        forget(buffer);
+        assert!(rt; good);
+    }
+    Ok(())
+}
+
 /// Whether each write answers as it should.
-fn writes_go_on(sink: &mut WriteSink<&mut Interrupted>, piece: &[u8]) -> bool {
+fn writes_go_on(sink: &mut WriteSink<&mut InterruptedWriter>, piece: &[u8]) -> bool {
     let mut good = true;
     for (succeeds, faults, _) in &CALLS {
         let found = sink.write(piece);
@@ -294,37 +325,29 @@ fn writes_go_on(sink: &mut WriteSink<&mut Interrupted>, piece: &[u8]) -> bool {
     good
 }
 
-/// Whether the piece is taken by each write that is not interrupted.
-fn is_taken(piece: &[u8]) -> bool {
-    let mut writer = stream_that_takes(usize::MAX);
-    let good = writes_go_on(&mut WriteSink::new(&mut writer), piece);
-    good && writer.taken / 4 == piece.len()
-}
-
-/// Whether reads into the buffer and writes of it go on behind a fault.
-fn go_on(buffer: &mut [u8]) -> bool {
-    reads_go_on(&mut ReadSource::new(stream_that_takes(0)), buffer) && is_taken(buffer)
+/// Whether a piece of that size is taken by each write that is not interrupted.
+fn is_taken(alloc: Global, size: usize) -> Result<bool, AllocError> {
+    let piece = zeros(alloc, size)?;
+    let mut writer = InterruptedWriter { calls: 0, taken: 0 };
+    let good = writes_go_on(&mut WriteSink::new(&mut writer), &piece);
+    forget(piece);
+    Ok(good && writer.taken / 4 == size)
 }
 
 #[test]
-fn streams_go_on_after_a_fault(rt: HostRuntime) -> Result<(), Fail> {
-    let mut buffer = vec![in rt.alloc(); 0; 1 << 20]?;
-    let mut good = true;
+fn writes_go_on_after_a_fault(rt: HostRuntime) {
     for size in &SIZES {
-        good = good && go_on(&mut buffer[..*size]);
+        assert!(rt; is_taken(rt.alloc(), *size) == Ok(true));
     }
-    forget(buffer);
-    assert!(rt; good);
-    Ok(())
 }
 
-/// Whether a stream that takes no byte is written none without a fault, and fails at a text.
-fn fails_at_a_text(sink: &mut WriteSink<Interrupted>) -> bool {
+/// Whether a full writer takes no byte without a fault, and fails at a text.
+fn fails_at_a_text(sink: &mut WriteSink<FullWriter>) -> bool {
     let none = sink.write(b"") == Ok(0) && sink.faults() == 0;
     none && write_whole(sink, TEXT) == Err(Failed) && sink.faults() == 1
 }
 
 #[test]
-fn a_full_stream_fails(rt: HostRuntime) {
-    assert!(rt; fails_at_a_text(&mut WriteSink::new(stream_that_takes(0))));
+fn full_writer_fails(rt: HostRuntime) {
+    assert!(rt; fails_at_a_text(&mut WriteSink::new(FullWriter)));
 }

@@ -8,11 +8,11 @@ use std::test::Fail;
 
 const ROOM: usize = 24;
 
-/// The next number of a generator by shifts.
+/// The next number of a linear congruential generator.
 fn next(number: u64) -> u64 {
-    let first = number ^ (number << 13);
-    let second = first ^ (first >> 7);
-    second ^ (second << 17)
+    number
+        .wrapping_mul(6364136223846793005)
+        .wrapping_add(1442695040888963407)
 }
 
 /// Puts a time to both.

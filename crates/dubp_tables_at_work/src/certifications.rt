@@ -16,6 +16,7 @@ enum Person {
     Cleo,
 }
 
+#[derive(Clone, Copy)]
 struct People {
     anna: Key,
     bert: Key,

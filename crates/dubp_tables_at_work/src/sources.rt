@@ -34,6 +34,7 @@ enum Source {
 }
 
 // A dividend and an output.
+#[derive(Clone, Copy)]
 struct Made {
     dividend: SourceId,
     output: SourceId,
