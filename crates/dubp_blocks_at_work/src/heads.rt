@@ -47,8 +47,8 @@ fn broken_with(alloc: Global, heads: &Heads, block: &Block, members: u64) -> Opt
     None
 }
 
-// Whether the block states the head of a chain without members, and of no other.
-pub fn states_its_head(alloc: Global, block: &Block) -> bool
+/// Whether the block states the head of a chain without members, and of no other.
+pub(crate) fn states_its_head(alloc: Global, block: &Block) -> bool
     requires { IsBlock block.now }
 {
     let heads = Heads::new(alloc);

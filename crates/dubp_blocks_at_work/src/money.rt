@@ -79,8 +79,8 @@ fn is_kept<L: StepBook>(alloc: Global, blank: Blank, block: &Block, head: &Head)
     keeps && written
 }
 
-// Whether the block keeps each rule on money, and is written.
-pub fn keeps_the_rules_on_money(alloc: Global, block: &Block) -> bool
+/// Whether the block keeps each rule on money, and is written.
+pub(crate) fn keeps_the_rules_on_money(alloc: Global, block: &Block) -> bool
     requires { IsBlock block.now }
 {
     match first_head(block) {

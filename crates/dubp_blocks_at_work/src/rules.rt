@@ -22,8 +22,8 @@ fn breaks_one_rule(alloc: Global, block: &Block, verdicts: &mut Verdicts) -> Res
     Ok(lacking && unsigned && signed)
 }
 
-// Whether the block lacks its verdict alone.
-pub fn lacks_its_verdict(alloc: Global, block: &Block) -> bool
+/// Whether the block lacks its verdict alone.
+pub(crate) fn lacks_its_verdict(alloc: Global, block: &Block) -> bool
     requires { IsBlock block.now }
 {
     let mut verdicts = Verdicts::new(alloc);
