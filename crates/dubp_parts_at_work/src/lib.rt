@@ -1,4 +1,4 @@
-//! Tests of numbers and names, of the table of rules, of parameters, of median times, of difficulties, of dividends, of walks over
+//! Tests of numbers and hashes, of the table of rules, of parameters, of median times, of difficulties, of dividends, of walks over
 //! certifications and of sources and sinks, and nothing else.
 //!
 //! Each call is made with values whose answers are known from outside. The tests stand above the crates that they try: a crate with
@@ -7,8 +7,6 @@
 
 #[cfg(test)]
 mod difficulties;
-#[cfg(test)]
-mod dividends;
 #[cfg(test)]
 mod numbers;
 #[cfg(test)]

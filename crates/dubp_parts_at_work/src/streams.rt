@@ -1,7 +1,3 @@
-ghost use Rattle.std.specs.Prelude.{◌≡◌, ◌<◌, ℕ, List, ◌++◌, length, ◌⊎◌, IsTrue, IfOk, OnOk, OnErr};
-ghost use Rattle.std.specs.Io.KnownBytes.{Appends, Consumes, IsAtEnd};
-ghost use Rattle.dubp_outside.specs.Causes.{Rose};
-
 use dubp_outside::{
     Failed, MemSink, MemSource, NoMemory, PlainSink, PlainSource, ReadSource, Sink, Source,
     WriteSink, write_whole,
@@ -15,27 +11,10 @@ use std::test::Fail;
 const TEXT: &[u8] = b"one line\nand another\n";
 
 /// Writes what the source has left to the sink, piece by piece, and tells whether the source came to its end.
-fn copy_all<S: Source, K: Sink>(
-    source: &mut S,
-    sink: &mut K,
-    piece: &mut [u8],
-) -> Result<bool, Failed>
-    requires { 0 < length piece.old }
-    ensures copied { OnOk result ((bytes : List ℕ)
-        × Consumes (S.left source.old) (S.left source.new) bytes
-        × Appends (K.held sink.old) (K.held sink.new) bytes) }
-    ensures end { IfOk result (λ ended. IsTrue ended → IsAtEnd (S.left source.new)) }
-    ensures calm { OnOk result ((S.faults source.new ≡ S.faults source.old)
-        × (K.faults sink.new ≡ K.faults sink.old)) }
-
-    ensures part { OnErr result ((front : List ℕ) × (back : List ℕ)
-        × Consumes (S.left source.old) (S.left source.new) (front ++ back)
-        × Appends (K.held sink.old) (K.held sink.new) front) }
-    ensures cause { OnErr result (Rose (S.faults source.old) (S.faults source.new)
-        ⊎ Rose (K.faults sink.old) (K.faults sink.new)) }
-{
+fn copy_all<S: Source, K: Sink>(source: &mut S, sink: &mut K) -> Result<bool, Failed> {
+    let mut piece = [0; 8];
     for _ in 0..u64::MAX {
-        let count = source.read(piece)?;
+        let count = source.read(&mut piece)?;
         if count == 0 {
             return Ok(true);
         }
@@ -45,7 +24,9 @@ fn copy_all<S: Source, K: Sink>(
 }
 
 /// The sizes of the pieces that are read and written, from one byte to a megabyte.
-const SIZES: [usize; 4] = [1, 8, 65_537, 1 << 20];
+const SIZES: [usize; 4] = [1, 8, 65_537, LARGEST];
+
+const LARGEST: usize = 1 << 20;
 
 /// Of each call of the reader and of the writer below: whether it succeeds, the count of faults behind it, and the number of
 /// the last call that succeeded.
@@ -62,17 +43,16 @@ fn answer(succeeds: bool, count: usize) -> Result<usize, Failed> {
     if succeeds { Ok(count) } else { Err(Failed) }
 }
 
-fn zeros(alloc: Global, count: usize) -> Result<Vec<u8>, AllocError> {
-    vec![in alloc; 0; count]
-}
-
-/// A reader whose third and fifth calls are interrupted. Each other call fills the buffer with the call's number.
+/// A stream whose third and fifth calls are interrupted. Each other read fills the buffer with the call's number, and each other
+/// write takes as many bytes as the stream takes at most.
 #[derive(Drop)]
-struct InterruptedReader {
+struct Interrupted {
     calls: u8,
+    most: usize,
+    taken: usize,
 }
 
-impl Read for InterruptedReader {
+impl Read for Interrupted {
     fn read(&mut self, buf: &mut [u8]) -> io::Result<usize> {
         self.calls = self.calls.wrapping_add(1);
         if self.calls == 3 || self.calls == 5 {
@@ -83,21 +63,15 @@ impl Read for InterruptedReader {
     }
 }
 
-/// A writer whose third and fifth calls are interrupted. Each other call takes the whole piece.
-#[derive(Drop)]
-struct InterruptedWriter {
-    calls: u8,
-    taken: usize,
-}
-
-impl Write for InterruptedWriter {
+impl Write for Interrupted {
     fn write(&mut self, buf: &[u8]) -> io::Result<usize> {
         self.calls = self.calls.wrapping_add(1);
         if self.calls == 3 || self.calls == 5 {
             return Err(io::Error::from(ErrorKind::Interrupted));
         }
-        self.taken = self.taken.wrapping_add(buf.len());
-        Ok(buf.len())
+        let count = buf.len().min(self.most);
+        self.taken = self.taken.wrapping_add(count);
+        Ok(count)
     }
 
     fn flush(&mut self) -> io::Result<()> {
@@ -105,23 +79,18 @@ impl Write for InterruptedWriter {
     }
 }
 
-/// A writer that takes no byte.
-#[derive(Drop)]
-struct FullWriter;
-
-impl Write for FullWriter {
-    fn write(&mut self, _buf: &[u8]) -> io::Result<usize> {
-        Ok(0)
-    }
-
-    fn flush(&mut self) -> io::Result<()> {
-        Ok(())
+/// Such a stream before its first call.
+fn stream_that_takes(most: usize) -> Interrupted {
+    Interrupted {
+        calls: 0,
+        most,
+        taken: 0,
     }
 }
 
 /// Whether the text is copied, and nothing behind it.
 fn is_copied(source: &mut PlainSource, sink: &mut PlainSink) -> bool {
-    let copied = copy_all(source, sink, &mut [0; 8]) == Ok(true);
+    let copied = copy_all(source, sink) == Ok(true);
     let whole = sink.held() == TEXT && source.left().is_empty();
     let full = sink.write(b"x") == Err(Failed) && sink.write(b"") == Ok(0);
     copied && whole && full && sink.held() == TEXT && sink.faults() == 1
@@ -189,7 +158,7 @@ fn told(
     sink: &mut MemSink,
     held: &[u8],
 ) -> (Result<bool, Failed>, bool, (u64, u64)) {
-    let copied = copy_all(source, sink, &mut [0; 8]);
+    let copied = copy_all(source, sink);
     let is_held = sink.held() == held;
     (copied, is_held, (source.faults(), sink.faults()))
 }
@@ -202,9 +171,15 @@ fn sink_of(alloc: Global, row: &Row) -> Result<MemSink, NoMemory> {
 }
 
 /// A source of the text, in pieces of five bytes, of which these reads fail.
-fn source_of(alloc: Global, fails: &[u64]) -> Result<MemSource, AllocError> {
-    let fails = fails.to_vec(alloc)?;
-    Ok(MemSource::new(TEXT.to_vec(alloc)?, 5, fails))
+fn source_of(alloc: Global, fails: &[u64]) -> Result<MemSource, NoMemory> {
+    let Ok(text) = TEXT.to_vec(alloc) else {
+        return Err(NoMemory);
+    };
+    let Ok(fails) = fails.to_vec(alloc) else {
+        forget(text);
+        return Err(NoMemory);
+    };
+    Ok(MemSource::new(text, 5, fails))
 }
 
 /// Whether a copy into a sink of the row comes to what the row says.
@@ -215,15 +190,21 @@ fn copies_to(alloc: Global, source: &mut MemSource, row: &Row) -> Result<bool, N
     Ok(told == (row.copied, true, row.faults))
 }
 
+/// Whether a copy comes to what the row says.
+fn is_so(alloc: Global, row: &Row) -> Result<bool, NoMemory> {
+    let Ok(mut source) = source_of(alloc, row.read_fails) else {
+        return Err(NoMemory);
+    };
+    let good = copies_to(alloc, &mut source, row);
+    forget(source);
+    good
+}
+
 #[test]
-fn copies_with_failing_calls(rt: HostRuntime) -> Result<(), Fail> {
+fn copies_with_failing_calls(rt: HostRuntime) {
     for row in &ROWS {
-        let mut source = source_of(rt.alloc(), row.read_fails)?;
-        let good = copies_to(rt.alloc(), &mut source, row);
-        forget(source);
-        assert!(rt; good == Ok(true));
+        assert!(rt; is_so(rt.alloc(), row) == Ok(true));
     }
-    Ok(())
 }
 
 /// What three copies answer, of which the first two reads fail, and how many bytes are held behind each.
@@ -238,7 +219,7 @@ fn goes_on(alloc: Global, source: &mut MemSource) -> Result<bool, NoMemory> {
     let mut sink = PlainSink::new(alloc, 64)?;
     let mut good = true;
     for (copied, held) in &AFTER_FAULTS {
-        let found = copy_all(source, &mut sink, &mut [0; 8]);
+        let found = copy_all(source, &mut sink);
         good = good && found == *copied && sink.held().len() == *held;
     }
     good = good && sink.held() == TEXT;
@@ -246,50 +227,53 @@ fn goes_on(alloc: Global, source: &mut MemSource) -> Result<bool, NoMemory> {
     Ok(good)
 }
 
-#[test]
-fn goes_on_after_a_failed_read(rt: HostRuntime) -> Result<(), Fail> {
-    let mut source = source_of(rt.alloc(), &[1, 2])?;
-    let good = goes_on(rt.alloc(), &mut source);
+/// Whether a source of which the first two reads fail goes on.
+fn goes_on_in_memory(alloc: Global) -> Result<bool, NoMemory> {
+    let Ok(mut source) = source_of(alloc, &[1, 2]) else {
+        return Err(NoMemory);
+    };
+    let good = goes_on(alloc, &mut source);
     forget(source);
-    assert!(rt; good == Ok(true));
-    Ok(())
-}
-
-/// Whether all is copied, and neither stream fails.
-fn is_calm<R: Read, W: Write>(source: &mut ReadSource<R>, sink: &mut WriteSink<W>) -> bool {
-    let copied = copy_all(source, sink, &mut [0; 8]) == Ok(true);
-    copied && source.faults() == 0 && sink.faults() == 0
-}
-
-/// Whether the text is written into the pipe.
-fn is_written(writer: PipeWriter) -> bool {
-    let mut sink = WriteSink::new(writer);
-    let good = is_calm(&mut ReadSource::new(TEXT), &mut sink);
-    drop(sink);
     good
 }
 
-/// Whether the text, and nothing else, is read out of the pipe.
-fn is_read(reader: PipeReader, taken: &mut Vec<u8>) -> bool {
+#[test]
+fn goes_on_after_a_failed_read(rt: HostRuntime) {
+    assert!(rt; goes_on_in_memory(rt.alloc()) == Ok(true));
+}
+
+/// Whether the text is written into the pipe, and neither stream fails.
+fn is_written(writer: PipeWriter) -> bool {
+    let mut source = ReadSource::new(TEXT);
+    let mut sink = WriteSink::new(writer);
+    let copied = copy_all(&mut source, &mut sink) == Ok(true);
+    let calm = source.faults() == 0 && sink.faults() == 0;
+    drop(sink);
+    copied && calm
+}
+
+/// Whether the text, and nothing else, is read out of the pipe, and neither stream fails.
+fn is_read(reader: PipeReader, sink: &mut PlainSink) -> bool {
     let mut source = ReadSource::new(reader);
-    let good = is_calm(&mut source, &mut WriteSink::new(&mut *taken));
+    let copied = copy_all(&mut source, sink) == Ok(true);
+    let calm = source.faults() == 0 && sink.faults() == 0;
     drop(source);
-    good && taken.as_slice() == TEXT
+    copied && calm && sink.held() == TEXT
 }
 
 #[test]
 fn copies_over_streams(rt: HostRuntime) -> Result<(), Fail> {
     let (reader, writer) = io::pipe(&rt)?;
     let written = is_written(writer);
-    let mut taken = Vec::new(rt.alloc());
-    let read = is_read(reader, &mut taken);
-    forget(taken);
+    let mut sink = PlainSink::new(rt.alloc(), 64)?;
+    let read = is_read(reader, &mut sink);
+    forget(sink);
     assert!(rt; written && read);
     Ok(())
 }
 
 /// Whether each read answers and fills the buffer as it should.
-fn reads_go_on(source: &mut ReadSource<InterruptedReader>, buffer: &mut [u8]) -> bool {
+fn reads_go_on(source: &mut ReadSource<Interrupted>, buffer: &mut [u8]) -> bool {
     let mut good = true;
     for (succeeds, faults, filled) in &CALLS {
         let expected = answer(*succeeds, buffer.len().min(65_536));
@@ -302,21 +286,8 @@ fn reads_go_on(source: &mut ReadSource<InterruptedReader>, buffer: &mut [u8]) ->
     good
 }
 
-#[test]
-fn reads_go_on_after_a_fault(rt: HostRuntime) -> Result<(), Fail> {
-    for size in &SIZES {
-        let mut buffer = zeros(rt.alloc(), *size)?;
-        let mut source = ReadSource::new(InterruptedReader { calls: 0 });
-        let good = reads_go_on(&mut source, &mut buffer);
-        forget(source);
-        forget(buffer);
-        assert!(rt; good);
-    }
-    Ok(())
-}
-
 /// Whether each write answers as it should.
-fn writes_go_on(sink: &mut WriteSink<&mut InterruptedWriter>, piece: &[u8]) -> bool {
+fn writes_go_on(sink: &mut WriteSink<&mut Interrupted>, piece: &[u8]) -> bool {
     let mut good = true;
     for (succeeds, faults, _) in &CALLS {
         let found = sink.write(piece);
@@ -325,29 +296,53 @@ fn writes_go_on(sink: &mut WriteSink<&mut InterruptedWriter>, piece: &[u8]) -> b
     good
 }
 
-/// Whether a piece of that size is taken by each write that is not interrupted.
-fn is_taken(alloc: Global, size: usize) -> Result<bool, AllocError> {
-    let piece = zeros(alloc, size)?;
-    let mut writer = InterruptedWriter { calls: 0, taken: 0 };
-    let good = writes_go_on(&mut WriteSink::new(&mut writer), &piece);
-    forget(piece);
-    Ok(good && writer.taken / 4 == size)
+/// Whether the piece is taken by each write that is not interrupted.
+fn is_taken(piece: &[u8]) -> bool {
+    let mut writer = stream_that_takes(usize::MAX);
+    let good = writes_go_on(&mut WriteSink::new(&mut writer), piece);
+    good && writer.taken / 4 == piece.len()
+}
+
+/// Whether reads into so much of the buffer and writes of it go on behind a fault.
+fn go_on(buffer: &mut [u8], size: usize) -> bool {
+    if size > buffer.len() {
+        return false;
+    }
+    reads_go_on(
+        &mut ReadSource::new(stream_that_takes(0)),
+        &mut buffer[..size],
+    ) && is_taken(&buffer[..size])
+}
+
+/// Whether reads and writes of each size go on behind a fault.
+fn all_go_on(buffer: &mut [u8]) -> bool {
+    let mut good = true;
+    for size in &SIZES {
+        good = good && go_on(buffer, *size);
+    }
+    good
+}
+
+fn zeros(alloc: Global, count: usize) -> Result<Vec<u8>, AllocError> {
+    vec![in alloc; 0; count]
 }
 
 #[test]
-fn writes_go_on_after_a_fault(rt: HostRuntime) {
-    for size in &SIZES {
-        assert!(rt; is_taken(rt.alloc(), *size) == Ok(true));
-    }
+fn streams_go_on_after_a_fault(rt: HostRuntime) -> Result<(), Fail> {
+    let mut buffer = zeros(rt.alloc(), LARGEST)?;
+    let good = all_go_on(&mut buffer);
+    forget(buffer);
+    assert!(rt; good);
+    Ok(())
 }
 
-/// Whether a full writer takes no byte without a fault, and fails at a text.
-fn fails_at_a_text(sink: &mut WriteSink<FullWriter>) -> bool {
+/// Whether a stream that takes no byte is written none without a fault, and fails at a text.
+fn fails_at_a_text(sink: &mut WriteSink<Interrupted>) -> bool {
     let none = sink.write(b"") == Ok(0) && sink.faults() == 0;
     none && write_whole(sink, TEXT) == Err(Failed) && sink.faults() == 1
 }
 
 #[test]
-fn full_writer_fails(rt: HostRuntime) {
-    assert!(rt; fails_at_a_text(&mut WriteSink::new(FullWriter)));
+fn a_full_stream_fails(rt: HostRuntime) {
+    assert!(rt; fails_at_a_text(&mut WriteSink::new(stream_that_takes(0))));
 }

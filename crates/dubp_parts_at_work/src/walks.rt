@@ -55,7 +55,16 @@ impl Web for Listed {
 fn first_above(keys: &[Key], after: &Option<Key>) -> Option<Key>
     ensures { result ≡ find (is_above after.now) keys.now }
 {
-    keys.iter().copied().find(|key| is_above_key(after, key))
+    match keys.split_first() {
+        Some((key, rest)) => {
+            if is_above_key(after, key) {
+                Some(*key)
+            } else {
+                first_above(rest, after)
+            }
+        }
+        None => None,
+    }
 }
 
 fn is_above_key(after: &Option<Key>, key: &Key) -> bool
@@ -129,7 +138,10 @@ fn count_certified(pairs: &[(Key, Key)], from: &Key) -> usize
 fn has_pair(pairs: &[(Key, Key)], from: &Key, to: &Key) -> bool
     ensures { result ≡ list_any (λ p. same_text from.now p.0 && same_text to.now p.1) pairs.now }
 {
-    pairs.iter().any(|p| *from == p.0 && *to == p.1)
+    match pairs.split_first() {
+        Some((pair, rest)) => (*from == pair.0 && *to == pair.1) || has_pair(rest, from, to),
+        None => false,
+    }
 }
 
 fn is_in_order(keys: &[Key]) -> bool
@@ -144,52 +156,68 @@ fn is_in_order(keys: &[Key]) -> bool
 fn is_below_all(key: &Key, keys: &[Key]) -> bool
     ensures { result ≡ list_all (less key.now) keys.now }
 {
-    keys.iter().all(|k| *key < *k)
+    match keys.split_first() {
+        Some((first, rest)) => *key < *first && is_below_all(key, rest),
+        None => true,
+    }
 }
 
-/// The web of the members A to E, whose keys repeat a letter each, and of who certifies whom.
-fn make_web(alloc: Global, pairs: &[(u8, u8)]) -> Result<Listed, Fail> {
-    let members = keys_of(alloc, b"ABCDE")?;
+/// The keys that repeat a letter each: those of the members A to E, and that of X, who is no member.
+const KEYS: &[u8] =
+    b"AAAAAAAAAAAAAAAAAAAAAAAAAAAAAAAAAAAAAAAAAAABBBBBBBBBBBBBBBBBBBBBBBBBBBBBBBBBBBBBBBBBBBCCCCCCCCCCCCCCCCCCCCCCCCCCCCCCCCCCCCCCCCCCCDDDDDDDDDDDDDDDDDDDDDDDDDDDDDDDDDDDDDDDDDDDEEEEEEEEEEEEEEEEEEEEEEEEEEEEEEEEEEEEEEEEEEEXXXXXXXXXXXXXXXXXXXXXXXXXXXXXXXXXXXXXXXXXXX";
+
+const LENGTH: usize = 43;
+
+/// The places of the keys.
+const A: usize = 0;
+
+const B: usize = 1;
+
+const C: usize = 2;
+
+const D: usize = 3;
+
+const E: usize = 4;
+
+const X: usize = 5;
+
+/// The web of the members, and of who certifies whom.
+fn make_web(alloc: Global, places: &[(usize, usize)]) -> Result<Listed, Fail> {
+    let pairs = pairs_of(alloc, &keys_of(alloc)?, places)?;
+    let mut members = keys_of(alloc)?;
+    members.truncate(X);
     if !is_in_order(&members) {
         return Err(Fail::from("members in no order"));
     }
-    let pairs = pairs_of(alloc, pairs)?;
     Ok(Listed { members, pairs })
 }
 
-fn keys_of(alloc: Global, letters: &[u8]) -> Result<Vec<Key>, AllocError> {
+fn keys_of(alloc: Global) -> Result<Vec<Key>, AllocError> {
     let mut keys = Vec::new(alloc);
-    for letter in letters {
-        if let Some(key) = key_of(*letter) {
+    for text in KEYS.chunks(LENGTH) {
+        if let Some(key) = Key::read(text) {
             keys.push(key)?;
         }
     }
     Ok(keys)
 }
 
-fn pairs_of(alloc: Global, letters: &[(u8, u8)]) -> Result<Vec<(Key, Key)>, AllocError> {
+fn pairs_of(
+    alloc: Global,
+    keys: &[Key],
+    places: &[(usize, usize)],
+) -> Result<Vec<(Key, Key)>, AllocError> {
     let mut pairs = Vec::new(alloc);
-    for (from, to) in letters {
-        if let (Some(from), Some(to)) = (key_of(*from), key_of(*to)) {
-            pairs.push((from, to))?;
+    for (from, to) in places {
+        if let (Some(from), Some(to)) = (keys.get(*from), keys.get(*to)) {
+            pairs.push((*from, *to))?;
         }
     }
     Ok(pairs)
 }
 
-fn key_of(letter: u8) -> Option<Key> {
-    Key::read(&[letter; 43])
-}
-
 /// A walk of four pairs from A to E, and one of two through X, who is no member.
-const WALKS: [(u8, u8); 6] = [
-    (b'A', b'B'),
-    (b'B', b'C'),
-    (b'C', b'D'),
-    (b'D', b'E'),
-    (b'A', b'X'),
-    (b'X', b'E'),
-];
+const WALKS: [(usize, usize); 6] = [(A, B), (B, C), (C, D), (D, E), (A, X), (X, E)];
 
 /// The greatest number of steps, and how many of the four sentries other than the target reach it.
 const REACHED: [(u64, u64); 5] = [(4, 4), (3, 3), (2, 2), (1, 1), (16, 4)];
@@ -211,8 +239,8 @@ fn are_reached(
 
 /// Whether the members of the web reach E as they should.
 fn members_reach(alloc: Global, web: &Listed) -> Result<bool, NoMemory> {
-    match key_of(b'E') {
-        Some(target) => are_reached(alloc, web, &web.members, target),
+    match web.members.last() {
+        Some(target) => are_reached(alloc, web, &web.members, *target),
         None => Ok(false),
     }
 }
@@ -227,34 +255,21 @@ fn walks_within_the_limit_reach(rt: HostRuntime) -> Result<(), Fail> {
 }
 
 /// A has issued two and received two; C has received two and issued one.
-const CERTIFICATIONS: [(u8, u8); 6] = [
-    (b'A', b'B'),
-    (b'A', b'C'),
-    (b'B', b'A'),
-    (b'B', b'C'),
-    (b'C', b'A'),
-    (b'C', b'A'),
-];
+const CERTIFICATIONS: [(usize, usize); 6] = [(A, B), (A, C), (B, A), (B, C), (C, A), (C, A)];
 
-/// A letter, how many sentries reach its key within three steps, and how many there are beside it.
-const SENTRIES: [(u8, (u64, u64)); 3] = [(b'A', (0, 0)), (b'C', (1, 1)), (b'D', (0, 1))];
-
-fn is_a_alone(found: &[Key]) -> bool {
-    match key_of(b'A') {
-        Some(key) => found == [key].as_slice(),
-        None => false,
-    }
-}
+/// A place, how many sentries reach its key within three steps, and how many there are beside it.
+const SENTRIES: [(usize, (u64, u64)); 3] = [(A, (0, 0)), (C, (1, 1)), (D, (0, 1))];
 
 /// Whether A alone is a sentry, and as many sentries reach each of three as should.
 fn a_is_the_sentry(alloc: Global, web: &Listed) -> Result<bool, NoMemory> {
     if web.count_members() != 5 {
         return Ok(false);
     }
-    let mut good = is_a_alone(&sentries(alloc, web, 3)?);
-    for (letter, numbers) in &SENTRIES {
-        if let Some(target) = key_of(*letter) {
-            good = good && reaches(alloc, web, target, 3)? == *numbers;
+    let found = sentries(alloc, web, 3)?;
+    let mut good = Some(found.as_slice()) == web.members.get(..1);
+    for (place, numbers) in &SENTRIES {
+        if let Some(target) = web.members.get(*place) {
+            good = good && reaches(alloc, web, *target, 3)? == *numbers;
         }
     }
     Ok(good)
