@@ -1,3 +1,7 @@
+ghost use Rattle.std.specs.Prelude.{◌≡◌, ◌<◌, ℕ, List, ◌++◌, length, ◌⊎◌, IsTrue, IfOk, OnOk, OnErr};
+ghost use Rattle.std.specs.Io.KnownBytes.{Appends, Consumes, IsAtEnd};
+ghost use Rattle.dubp_outside.specs.Causes.{Rose};
+
 use dubp_outside::{
     Failed, MemSink, MemSource, NoMemory, PlainSink, PlainSource, ReadSource, Sink, Source,
     WriteSink, write_whole,
@@ -11,10 +15,27 @@ use std::test::Fail;
 const TEXT: &[u8] = b"one line\nand another\n";
 
 /// Writes what the source has left to the sink, piece by piece, and tells whether the source came to its end.
-fn copy_all<S: Source, K: Sink>(source: &mut S, sink: &mut K) -> Result<bool, Failed> {
-    let mut piece = [0; 8];
+fn copy_all<S: Source, K: Sink>(
+    source: &mut S,
+    sink: &mut K,
+    piece: &mut [u8],
+) -> Result<bool, Failed>
+    requires { 0 < length piece.old }
+    ensures copied { OnOk result ((bytes : List ℕ)
+        × Consumes (S.left source.old) (S.left source.new) bytes
+        × Appends (K.held sink.old) (K.held sink.new) bytes) }
+    ensures end { IfOk result (λ ended. IsTrue ended → IsAtEnd (S.left source.new)) }
+    ensures calm { OnOk result ((S.faults source.new ≡ S.faults source.old)
+        × (K.faults sink.new ≡ K.faults sink.old)) }
+
+    ensures part { OnErr result ((front : List ℕ) × (back : List ℕ)
+        × Consumes (S.left source.old) (S.left source.new) (front ++ back)
+        × Appends (K.held sink.old) (K.held sink.new) front) }
+    ensures cause { OnErr result (Rose (S.faults source.old) (S.faults source.new)
+        ⊎ Rose (K.faults sink.old) (K.faults sink.new)) }
+{
     for _ in 0..u64::MAX {
-        let count = source.read(&mut piece)?;
+        let count = source.read(piece)?;
         if count == 0 {
             return Ok(true);
         }
@@ -90,7 +111,7 @@ fn stream_that_takes(most: usize) -> Interrupted {
 
 /// Whether the text is copied, and nothing behind it.
 fn is_copied(source: &mut PlainSource, sink: &mut PlainSink) -> bool {
-    let copied = copy_all(source, sink) == Ok(true);
+    let copied = copy_all(source, sink, &mut [0; 8]) == Ok(true);
     let whole = sink.held() == TEXT && source.left().is_empty();
     let full = sink.write(b"x") == Err(Failed) && sink.write(b"") == Ok(0);
     copied && whole && full && sink.held() == TEXT && sink.faults() == 1
@@ -158,7 +179,7 @@ fn told(
     sink: &mut MemSink,
     held: &[u8],
 ) -> (Result<bool, Failed>, bool, (u64, u64)) {
-    let copied = copy_all(source, sink);
+    let copied = copy_all(source, sink, &mut [0; 8]);
     let is_held = sink.held() == held;
     (copied, is_held, (source.faults(), sink.faults()))
 }
@@ -219,7 +240,7 @@ fn goes_on(alloc: Global, source: &mut MemSource) -> Result<bool, NoMemory> {
     let mut sink = PlainSink::new(alloc, 64)?;
     let mut good = true;
     for (copied, held) in &AFTER_FAULTS {
-        let found = copy_all(source, &mut sink);
+        let found = copy_all(source, &mut sink, &mut [0; 8]);
         good = good && found == *copied && sink.held().len() == *held;
     }
     good = good && sink.held() == TEXT;
@@ -246,7 +267,7 @@ fn goes_on_after_a_failed_read(rt: HostRuntime) {
 fn is_written(writer: PipeWriter) -> bool {
     let mut source = ReadSource::new(TEXT);
     let mut sink = WriteSink::new(writer);
-    let copied = copy_all(&mut source, &mut sink) == Ok(true);
+    let copied = copy_all(&mut source, &mut sink, &mut [0; 8]) == Ok(true);
     let calm = source.faults() == 0 && sink.faults() == 0;
     drop(sink);
     copied && calm
@@ -255,7 +276,7 @@ fn is_written(writer: PipeWriter) -> bool {
 /// Whether the text, and nothing else, is read out of the pipe, and neither stream fails.
 fn is_read(reader: PipeReader, sink: &mut PlainSink) -> bool {
     let mut source = ReadSource::new(reader);
-    let copied = copy_all(&mut source, sink) == Ok(true);
+    let copied = copy_all(&mut source, sink, &mut [0; 8]) == Ok(true);
     let calm = source.faults() == 0 && sink.faults() == 0;
     drop(source);
     copied && calm && sink.held() == TEXT

@@ -209,7 +209,10 @@ fn pairs_of(
 ) -> Result<Vec<(Key, Key)>, AllocError> {
     let mut pairs = Vec::new(alloc);
     for (from, to) in places {
-        if let (Some(from), Some(to)) = (keys.get(*from), keys.get(*to)) {
+        let Some(from) = keys.get(*from) else {
+            continue;
+        };
+        if let Some(to) = keys.get(*to) {
             pairs.push((*from, *to))?;
         }
     }
@@ -260,13 +263,19 @@ const CERTIFICATIONS: [(usize, usize); 6] = [(A, B), (A, C), (B, A), (B, C), (C,
 /// A place, how many sentries reach its key within three steps, and how many there are beside it.
 const SENTRIES: [(usize, (u64, u64)); 3] = [(A, (0, 0)), (C, (1, 1)), (D, (0, 1))];
 
+fn is_first_alone(members: &[Key], found: &[Key]) -> bool {
+    match members.first() {
+        Some(first) => found == [*first].as_slice(),
+        None => false,
+    }
+}
+
 /// Whether A alone is a sentry, and as many sentries reach each of three as should.
 fn a_is_the_sentry(alloc: Global, web: &Listed) -> Result<bool, NoMemory> {
     if web.count_members() != 5 {
         return Ok(false);
     }
-    let found = sentries(alloc, web, 3)?;
-    let mut good = Some(found.as_slice()) == web.members.get(..1);
+    let mut good = is_first_alone(&web.members, &sentries(alloc, web, 3)?);
     for (place, numbers) in &SENTRIES {
         if let Some(target) = web.members.get(*place) {
             good = good && reaches(alloc, web, *target, 3)? == *numbers;
