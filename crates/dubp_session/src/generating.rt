@@ -45,10 +45,10 @@ pub fn generate<T: PeopleAndMoney, K: Sink, L: StepBook>(
 {
     match make_chain::<T, L>(alloc, n, start, steps) {
         Ok(chain) => show(alloc, n, start, chain, sink, node, steps),
-        Err(GenRefusal::NoNonce { block }) => write_text(sink, no_nonce(block).as_bytes()),
+        Err(GenRefusal::NoNonce { block }) => write_text(sink, no_nonce(block).as_slice()),
         Err(GenRefusal::Invalid { block, rule }) => write_text(
             sink,
-            no_block(block, rule).as_bytes(),
+            no_block(block, rule).as_slice(),
         ),
         Err(GenRefusal::NoMemory) => GenEnding::NoRoom,
     }

@@ -1,4 +1,4 @@
-ghost use Rattle.std.specs.Prelude.{◌≡◌, ◌+◌, ◌-◌, ◌≤◌, ◌++◌, [], IsTrue, List, ℕ, length, drop, IfOk, OnOk, OnErr, ◌<◌, MatchOption};
+ghost use Rattle.std.specs.Prelude.{◌≡◌, ◌+◌, ◌-◌, ◌≤◌, ◌++◌, [], IsFalse, IsTrue, List, ℕ, length, drop, IfOk, OnOk, OnErr, ◌<◌, MatchOption};
 ghost use Rattle.dubp_outside.specs.Causes.{HasCause};
 ghost use Rattle.dubp_entries.specs.Cut.{BeginsNone, lacking};
 ghost use Rattle.dubp_validity.specs.Rules.{longest_block};
@@ -6,15 +6,15 @@ ghost use Rattle.dubp_entries.specs.Entries.{Entry, Frame as frame_entry, HeadsF
 ghost use Rattle.dubp_entries.specs.Turns.{EntryServed, EntryTurn};
 ghost use Rattle.dubp_script.specs.Framed.{framed_command, framed_len};
 ghost use Rattle.dubp_script.specs.Spelling.{Says};
-ghost use Rattle.dubp_replay.specs.AnswerBytes.{answer_bytes};
 ghost use Rattle.dubp_replay.specs.Turns.{State};
+ghost use Rattle.dubp_turns.specs.Told.{told_text};
 ghost use Rattle.dubp_entries.specs.Session.{Broke};
 ghost use Rattle.dubp_entries.specs.Reading.{Shows, Stands, most_at_hand};
 ghost use Rattle.dubp_entries.specs.Asking.{ShowsQuestion};
 ghost use Rattle.dubp_entries.specs.Gathering.{TurnOwed, TurnOwedBroke};
 ghost use Rattle.dubp_entries.specs.Serving.{TurnWritten, TurnBroke, ServedAll, Finished};
 
-use crate::texts::bad;
+use crate::texts::put_bad;
 use arrayvec::ArrayVec;
 use dubp_atoms::{Line, Steps};
 use dubp_entries::{
@@ -25,7 +25,7 @@ use dubp_gen::PeopleAndMoney;
 use dubp_laws::conserved;
 use dubp_outside::{Failed, Sink, write_whole};
 use dubp_script::{Framed, begins_command, read_asked, read_command};
-use dubp_turns::{Answer, Node, put_one, refused};
+use dubp_turns::{Node, Told, put_refused};
 use std::sync::ledger::Ledger as StepBook;
 
 // An entry takes its turn. The answer of one that is sure to change nothing is gathered; before any other, what was gathered is written, and
@@ -42,13 +42,14 @@ fn take_turn<T: PeopleAndMoney, K: Sink, L: StepBook>(
     ensures broke { OnErr result (TurnOwedBroke node.old node.new (K.held sink.old) (K.held sink.new) gathered.old item.entry) }
     ensures cause { HasCause (K.faults sink.old) (K.faults sink.new) result }
 {
+    line.clear();
     if is_question(&item) {
         return gather_turn(node, sink, gathered, line, item, steps);
     }
     if let Err(failed) = flush(sink, gathered) {
         return Err(failed);
     }
-    write_turn(node, sink, item, steps)
+    write_turn(node, sink, line, item, steps)
 }
 
 // An entry that is sure to change nothing takes its turn, and its answer is gathered. Most are answered in one line, and for all of these there is one
@@ -61,7 +62,8 @@ fn gather_turn<T: PeopleAndMoney, K: Sink, L: StepBook>(
     item: Item<'_>,
     steps: &mut Steps<L>,
 ) -> Result<(), Failed>
-    requires { ShowsQuestion item }
+    requires question { ShowsQuestion item }
+    requires empty { line.old.items ≡ [] }
     ensures owed { OnOk result (TurnOwed node.old node.new (K.held sink.old) (K.held sink.new) gathered.old gathered.new item.entry) }
     ensures broke { OnErr result (TurnOwedBroke node.old node.new (K.held sink.old) (K.held sink.new) gathered.old item.entry) }
     ensures cause { HasCause (K.faults sink.old) (K.faults sink.new) result }
@@ -69,7 +71,7 @@ fn gather_turn<T: PeopleAndMoney, K: Sink, L: StepBook>(
     if tell_entry(node, &item, line) {
         return keep(sink, gathered, line.as_slice());
     }
-    gather_answer(node, sink, gathered, item, steps)
+    gather_answer(node, sink, gathered, line, item, steps)
 }
 
 // The same of an entry whose answer may be of many lines.
@@ -77,23 +79,27 @@ fn gather_answer<T: PeopleAndMoney, K: Sink, L: StepBook>(
     node: &mut Node<T>,
     sink: &mut K,
     gathered: &mut Gathered,
+    line: &mut Line,
     item: Item<'_>,
     steps: &mut Steps<L>,
 ) -> Result<(), Failed>
-    requires { ShowsQuestion item }
+    requires question { ShowsQuestion item }
+    requires empty { line.old.items ≡ [] }
     ensures owed { OnOk result (TurnOwed node.old node.new (K.held sink.old) (K.held sink.new) gathered.old gathered.new item.entry) }
     ensures broke { OnErr result (TurnOwedBroke node.old node.new (K.held sink.old) (K.held sink.new) gathered.old item.entry) }
     ensures cause { HasCause (K.faults sink.old) (K.faults sink.new) result }
 {
     node.laws();
-    let answer = answer_item(node, item, steps);
-    keep(sink, gathered, answer.as_bytes())
+    let told = answer_item(node, item, line, steps);
+    keep(sink, gathered, told.bytes(line))
 }
 
 // Puts the answer to an entry into the line, where it is a query that is answered in one line, or a line that is sure to be no command; and behind it
-// the money adds up. False of any other entry.
+// the money adds up. False of any other entry, which leaves the line empty.
 fn tell_entry<T: PeopleAndMoney>(node: &Node<T>, item: &Item<'_>, line: &mut Line) -> bool
-    ensures { IsTrue result → (entry : Entry) → IsWhole entry → Shows item.now entry → EntryTurn node.now entry line.new.items node.now }
+    requires { line.old.items ≡ [] }
+    ensures empty { IsFalse result → line.new.items ≡ [] }
+    ensures told { IsTrue result → (entry : Entry) → IsWhole entry → Shows item.now entry → EntryTurn node.now entry line.new.items node.now }
 {
     node.ledger().laws();
     conserved();
@@ -102,12 +108,13 @@ fn tell_entry<T: PeopleAndMoney>(node: &Node<T>, item: &Item<'_>, line: &mut Lin
 
 // Puts the answer to such an entry into the line.
 fn tell_item<T: PeopleAndMoney>(node: &Node<T>, item: &Item<'_>, line: &mut Line) -> bool
-    ensures { IsTrue result → (entry : Entry) → IsWhole entry → Shows item.now entry → EntryServed node.now entry line.new.items node.now }
+    requires { line.old.items ≡ [] }
+    ensures empty { IsFalse result → line.new.items ≡ [] }
+    ensures told { IsTrue result → (entry : Entry) → IsWhole entry → Shows item.now entry → EntryServed node.now entry line.new.items node.now }
 {
-    line.clear();
     match item {
         Item::LongLine => {
-            put_one(b"BAD", line);
+            put_bad(line);
             true
         }
         Item::Line(text) => tell_line(node, text, line),
@@ -119,16 +126,17 @@ fn tell_item<T: PeopleAndMoney>(node: &Node<T>, item: &Item<'_>, line: &mut Line
 // The same of a line.
 fn tell_line<T: PeopleAndMoney>(node: &Node<T>, text: &[u8], line: &mut Line) -> bool
     requires { line.old.items ≡ [] }
-    ensures { IsTrue result → IsWhole (line_entry text.now) → EntryServed node.now (line_entry text.now) line.new.items node.now }
+    ensures empty { IsFalse result → line.new.items ≡ [] }
+    ensures told { IsTrue result → IsWhole (line_entry text.now) → EntryServed node.now (line_entry text.now) line.new.items node.now }
 {
     if text.len() > LONGEST_LINE {
-        put_one(b"BAD", line);
+        put_bad(line);
         return true;
     }
     if begins_command(text) {
         return tell_query(node, text, line);
     }
-    put_one(b"BAD", line);
+    put_bad(line);
     true
 }
 
@@ -136,7 +144,8 @@ fn tell_line<T: PeopleAndMoney>(node: &Node<T>, text: &[u8], line: &mut Line) ->
 fn tell_query<T: PeopleAndMoney>(node: &Node<T>, text: &[u8], line: &mut Line) -> bool
     requires fits { length text.now ≤ longest_line }
     requires empty { line.old.items ≡ [] }
-    ensures { IsTrue result → IsWhole (line_entry text.now) → EntryServed node.now (line_entry text.now) line.new.items node.now }
+    ensures empty { IsFalse result → line.new.items ≡ [] }
+    ensures told { IsTrue result → IsWhole (line_entry text.now) → EntryServed node.now (line_entry text.now) line.new.items node.now }
 {
     match read_asked(text) {
         Some(asked) => {
@@ -151,60 +160,78 @@ fn tell_query<T: PeopleAndMoney>(node: &Node<T>, text: &[u8], line: &mut Line) -
 fn write_turn<T: PeopleAndMoney, K: Sink, L: StepBook>(
     node: &mut Node<T>,
     sink: &mut K,
+    line: &mut Line,
     item: Item<'_>,
     steps: &mut Steps<L>,
 ) -> Result<(), Failed>
+    requires { line.old.items ≡ [] }
     ensures written { OnOk result (TurnWritten node.old node.new (K.held sink.old) (K.held sink.new) item.entry) }
     ensures broke { OnErr result (TurnBroke node.old node.new (K.held sink.old) (K.held sink.new) item.entry) }
     ensures cause { HasCause (K.faults sink.old) (K.faults sink.new) result }
 {
-    let answer = answer_item(node, item, steps);
-    write_whole(sink, answer.as_bytes())
+    let told = answer_item(node, item, line, steps);
+    write_whole(sink, told.bytes(line))
 }
 
-// The answer to an entry, and behind it the money adds up.
+// Tells the answer to an entry, and behind it the money adds up.
 fn answer_item<T: PeopleAndMoney, L: StepBook>(
     node: &mut Node<T>,
     item: Item<'_>,
+    line: &mut Line,
     steps: &mut Steps<L>,
-) -> Answer
-    ensures { (entry : Entry) → IsWhole entry → Shows item.entry entry → EntryTurn node.old entry (answer_bytes result) node.new }
+) -> Told
+    requires { line.old.items ≡ [] }
+    ensures { (entry : Entry) → IsWhole entry → Shows item.entry entry → EntryTurn node.old entry (told_text line.new.items result) node.new }
 {
-    let answer = answer_of(node, item, steps);
+    let told = answer_of(node, item, line, steps);
     node.ledger().laws();
     conserved();
-    answer
+    told
 }
 
-// The answer to an entry.
+// Tells the answer to an entry.
 fn answer_of<T: PeopleAndMoney, L: StepBook>(
     node: &mut Node<T>,
     item: Item<'_>,
+    line: &mut Line,
     steps: &mut Steps<L>,
-) -> Answer
-    ensures { (entry : Entry) → IsWhole entry → Shows item.entry entry → EntryServed node.old entry (answer_bytes result) node.new }
+) -> Told
+    requires { line.old.items ≡ [] }
+    ensures { (entry : Entry) → IsWhole entry → Shows item.entry entry → EntryServed node.old entry (told_text line.new.items result) node.new }
 {
     match item {
-        Item::LongLine => bad(),
-        Item::Line(line) => answer_line(node, line, steps),
-        Item::Frame(framed, frame, last) => answer_frame(node, framed, frame, last, steps),
-        Item::LongFrame(last) => answer_long_frame(node, last),
+        Item::Line(text) => answer_line(node, text, line, steps),
+        Item::Frame(framed, frame, last) => answer_frame(node, framed, frame, last, line, steps),
+        Item::LongLine => {
+            put_bad(line);
+            Told::InLine
+        }
+        Item::LongFrame(last) => {
+            answer_long_frame(node, last, line);
+            Told::InLine
+        }
     }
 }
 
 fn answer_line<T: PeopleAndMoney, L: StepBook>(
     node: &mut Node<T>,
-    line: &[u8],
+    text: &[u8],
+    line: &mut Line,
     steps: &mut Steps<L>,
-) -> Answer
-    ensures { IsWhole (line_entry line.now) → EntryServed node.old (line_entry line.now) (answer_bytes result) node.new }
+) -> Told
+    requires { line.old.items ≡ [] }
+    ensures { IsWhole (line_entry text.now) → EntryServed node.old (line_entry text.now) (told_text line.new.items result) node.new }
 {
-    if line.len() > LONGEST_LINE {
-        return bad();
+    if text.len() > LONGEST_LINE {
+        put_bad(line);
+        return Told::InLine;
     }
-    match read_command(line) {
-        Some(command) => node.act(&command, b"".as_slice(), steps),
-        None => bad(),
+    match read_command(text) {
+        Some(command) => node.take_turn(&command, b"".as_slice(), line, steps),
+        None => {
+            put_bad(line);
+            Told::InLine
+        }
     }
 }
 
@@ -213,26 +240,29 @@ fn answer_frame<T: PeopleAndMoney, L: StepBook>(
     framed: Framed,
     frame: &[u8],
     last: u8,
+    line: &mut Line,
     steps: &mut Steps<L>,
-) -> Answer
-    ensures { (head : List ℕ) → Says head (framed_command framed) → framed_len framed ≡ length frame.now → EntryServed node.old (frame_entry head frame.now last) (answer_bytes result) node.new }
+) -> Told
+    requires { line.old.items ≡ [] }
+    ensures { (head : List ℕ) → Says head (framed_command framed) → framed_len framed ≡ length frame.now → EntryServed node.old (frame_entry head frame.now last) (told_text line.new.items result) node.new }
 {
     if last != b'\n' {
-        return bad();
+        put_bad(line);
+        return Told::InLine;
     }
-    node.act(&framed.command(), frame, steps)
+    node.take_turn(&framed.command(), frame, line, steps)
 }
 
 // The frame was read past, and the node is left as it is.
-fn answer_long_frame<T: PeopleAndMoney>(node: &Node<T>, last: u8) -> Answer
-    ensures { (head payload : List ℕ) → HeadsFrame head (length payload) → longest_block < length payload → EntryServed node.now (frame_entry head payload last) (answer_bytes result) node.now }
+fn answer_long_frame<T: PeopleAndMoney>(node: &Node<T>, last: u8, line: &mut Line)
+    requires { line.old.items ≡ [] }
+    ensures { (head payload : List ℕ) → HeadsFrame head (length payload) → longest_block < length payload → EntryServed node.now (frame_entry head payload last) line.new.items node.now }
 {
     node.laws();
     if last == b'\n' {
-        refused(b"X01")
-    } else {
-        bad()
+        return put_refused(b"X01", line);
     }
+    put_bad(line);
 }
 
 fn skip(bytes: &[u8], count: usize) -> &[u8]
@@ -301,7 +331,8 @@ pub fn finish<T: PeopleAndMoney, K: Sink, L: StepBook>(
     match phase {
         Phase::LongFrame(_) => Ok(InputEnd::InsideFrame),
         Phase::LongLine => {
-            if let Err(failed) = write_turn(node, sink, Item::LongLine, steps) {
+            let mut line: Line = ArrayVec::new();
+            if let Err(failed) = write_turn(node, sink, &mut line, Item::LongLine, steps) {
                 return Err(failed);
             }
             Ok(InputEnd::OnBoundary)
@@ -357,7 +388,8 @@ fn finish_item<T: PeopleAndMoney, K: Sink, L: StepBook>(
     ensures broke { OnErr result (Broke node.old node.new (K.held sink.old) (K.held sink.new) (hand.now ++ lacking hand.now)) }
     ensures cause { HasCause (K.faults sink.old) (K.faults sink.new) result }
 {
-    match write_turn(node, sink, item, steps) {
+    let mut line: Line = ArrayVec::new();
+    match write_turn(node, sink, &mut line, item, steps) {
         Ok(()) => Ok(InputEnd::OnBoundary),
         Err(failed) => Err(failed),
     }

@@ -1,19 +1,19 @@
-ghost use Rattle.std.specs.Prelude.{◌≡◌, ◌++◌, ◌∷◌, codes, decimal};
+ghost use Rattle.std.specs.Prelude.{◌≡◌, ◌++◌, ◌∷◌, [], codes, decimal};
 ghost use Rattle.dubp_atoms.specs.Letters.{SPACE};
-ghost use Rattle.dubp_replay.specs.AnswerBytes.{answer_bytes};
 ghost use Rattle.dubp_replay.specs.Answers.{answer_line, bad_answer};
 ghost use Rattle.dubp_rules.specs.Table.{code_text};
 
 use arrayvec::ArrayVec;
 use dubp_atoms::{Line, put_bytes, put_number};
 use dubp_rules::{Rule, code};
-use dubp_turns::{Answer, numbered, one};
+use dubp_turns::{put_numbered, put_one};
 
-/// `BAD`: the answer to a line that is no command, and to a frame that does not end with LF.
-pub fn bad() -> Answer
-    ensures { answer_bytes result ≡ bad_answer }
+/// `BAD`: the answer to a line that is no command, and to a frame that does not end with LF. It is put into an empty line.
+pub fn put_bad(line: &mut Line)
+    requires { line.old.items ≡ [] }
+    ensures { line.new.items ≡ bad_answer }
 {
-    one(b"BAD")
+    put_one(b"BAD", line);
 }
 
 /// What `gen` was asked for.
@@ -30,15 +30,17 @@ pub fn asked_for(n: u64, start: u64) -> Line
 }
 
 /// `NO NONCE` and the number of the block for which there is none.
-pub fn no_nonce(block: u64) -> Answer
-    ensures { answer_bytes result ≡ answer_line (codes "NO NONCE " ++ decimal block) }
+pub fn no_nonce(block: u64) -> Line
+    ensures { result.items ≡ answer_line (codes "NO NONCE " ++ decimal block) }
 {
-    numbered(b"NO NONCE ", block)
+    let mut line: Line = ArrayVec::new();
+    put_numbered(b"NO NONCE ", block, &mut line);
+    line
 }
 
 /// `NO BLOCK`, the number of the block that is refused, and the code of the rule that it breaks.
-pub fn no_block(block: u64, rule: Rule) -> Answer
-    ensures { answer_bytes result ≡ answer_line (codes "NO BLOCK " ++ (decimal block ++ (SPACE ∷ code_text rule))) }
+pub fn no_block(block: u64, rule: Rule) -> Line
+    ensures { result.items ≡ answer_line (codes "NO BLOCK " ++ (decimal block ++ (SPACE ∷ code_text rule))) }
 {
     let mut line: Line = ArrayVec::new();
     put_bytes(&mut line, b"NO BLOCK ");
@@ -46,5 +48,5 @@ pub fn no_block(block: u64, rule: Rule) -> Answer
     put_bytes(&mut line, b" ");
     put_bytes(&mut line, code(rule).as_slice());
     put_bytes(&mut line, b"\n");
-    Answer::One(line)
+    line
 }

@@ -5,3 +5,4 @@ pub mod Texts
 pub mod BranchActs
 pub mod Deciding
 pub mod OfForks
+pub mod Told

@@ -2,7 +2,7 @@ ghost use Rattle.std.specs.Prelude.{◌≡◌, length, ◌≤◌, ◌<◌, ℕ, 
 ghost use Rattle.std.specs.List.{list_any};
 ghost use Rattle.dubp_atoms.specs.Spelling.{IsNumber};
 ghost use Rattle.dubp_turns.specs.BranchActs.{BranchesActs};
-ghost use Rattle.dubp_replay.specs.AnswerBytes.{answer_bytes};
+ghost use Rattle.dubp_turns.specs.Told.{told_text};
 ghost use Rattle.dubp_atoms.specs.Hashing.{hash_of};
 ghost use Rattle.dubp_block.specs.Text.{IsBlock, block_text, inner_text, stamp_of as block_stamp};
 ghost use Rattle.dubp_block.specs.declared.block.Block.{Block as BlockValue};
@@ -17,16 +17,17 @@ ghost use Rattle.dubp_replay.specs.Turns.{is_stamped, no_branches, previous_stam
 ghost use Rattle.dubp_replay.specs.declared.command.Command.TheVariants.{Ask as AskCommand, Block as BlockCommand, Forget as ForgetCommand, Revert as RevertCommand, Statement as StatementCommand, Switch as SwitchCommand, Verdict as VerdictCommand};
 
 use crate::stating::{
-    accepted, forgotten, no_memory, noted, put_one, refusal_answer, refused, reverted,
-    switch_answer, too_deep, unknown, unread,
+    put_accepted, put_forgotten, put_no_memory, put_noted, put_refusal, put_refused, put_reverted,
+    put_switch, put_too_deep, put_unknown, put_unread,
 };
+use crate::told::{Told, tell};
 use dubp_atoms::{Hash, Key, Line, NoMemory, Secret, Sig, Stamp, Steps};
 use dubp_block::laws::blocks_have_one_text;
 use dubp_block::{Block, HashedBlock, ReadRefusal, inner_hash_of, read_hashed_block};
 use dubp_forks::{
     Ledger, OfferRefusal, PeopleAndMoney, Store, SubmitRefusal, SwitchRefusal, TooDeep,
 };
-use dubp_query::{Answer, Asked, CondText, Query, answer, put_answer, statement_answer};
+use dubp_query::{Asked, CondText, Query, answer, put_answer, statement_answer};
 use dubp_replay::LONGEST_BLOCK;
 use dubp_verdict::Verdicts;
 use std::alloc::Global;
@@ -134,13 +135,17 @@ impl<T: PeopleAndMoney> Branches<T> {
         self.store.entry(place)
     }
 
-    /// The answer to a query; nothing changes.
-    pub fn ask(&self, query: &Query) -> Answer
-        ensures { (frame : List ℕ) → BranchesActs self.now (AskCommand query.now) frame (answer_bytes result) self.now }
+    /// Tells the answer to a query; nothing changes.
+    pub fn ask(&self, query: &Query, line: &mut Line) -> Told
+        requires { line.old.items ≡ [] }
+        ensures { (frame : List ℕ) → BranchesActs self.now (AskCommand query.now) frame (told_text line.new.items result) self.now }
     {
         match answer(self.alloc, &self.ledger, query) {
-            Ok(answer) => answer,
-            Err(_) => no_memory(),
+            Ok(answer) => tell(answer, line),
+            Err(_) => {
+                put_no_memory(line);
+                Told::InLine
+            }
         }
     }
 
@@ -152,76 +157,96 @@ impl<T: PeopleAndMoney> Branches<T> {
     {
         match put_answer(self.alloc, &self.ledger, asked, line) {
             Ok(()) => {}
-            Err(_) => put_one(b"NOMEM", line),
+            Err(_) => put_no_memory(line),
         }
     }
 
-    /// The answer to STATEMENT: the moves of the condition of this text; nothing changes.
-    pub fn statement(&self, cond: &CondText) -> Answer
-        ensures { (frame : List ℕ) → BranchesActs self.now (StatementCommand cond.now) frame (answer_bytes result) self.now }
+    /// Tells the answer to STATEMENT: the moves of the condition of this text; nothing changes.
+    pub fn statement(&self, cond: &CondText, line: &mut Line) -> Told
+        requires { line.old.items ≡ [] }
+        ensures { (frame : List ℕ) → BranchesActs self.now (StatementCommand cond.now) frame (told_text line.new.items result) self.now }
     {
         match statement_answer(self.alloc, &self.ledger, cond) {
-            Ok(answer) => answer,
-            Err(_) => no_memory(),
+            Ok(answer) => tell(answer, line),
+            Err(_) => {
+                put_no_memory(line);
+                Told::InLine
+            }
         }
     }
 
     /// The turn of VERDICT: the verdict joins those that were given; a repeat changes nothing.
-    pub fn note(&mut self, key: Key, hash: Hash, sig: Sig) -> Answer
-        ensures acts { (frame : List ℕ) → BranchesActs self.old (VerdictCommand key hash sig) frame (answer_bytes result) self.new }
+    pub fn note(&mut self, key: Key, hash: Hash, sig: Sig, line: &mut Line)
+        requires { line.old.items ≡ [] }
+        ensures acts { (frame : List ℕ) → BranchesActs self.old (VerdictCommand key hash sig) frame line.new.items self.new }
         ensures store { self.new.store ≡ self.old.store }
     {
         match self.verdicts.add(key, hash, sig) {
-            Ok(()) => noted(),
-            Err(_) => no_memory(),
+            Ok(()) => put_noted(line),
+            Err(_) => put_no_memory(line),
         }
     }
 
     /// The turn of REVERT: the last blocks leave the chain, where so many can be reversed. It takes no memory.
-    pub fn revert<L: StepBook>(&mut self, count: u64, steps: &mut Steps<L>) -> Answer
-        ensures acts { (frame : List ℕ) → BranchesActs self.old (RevertCommand count) frame (answer_bytes result) self.new }
+    pub fn revert<L: StepBook>(&mut self, count: u64, line: &mut Line, steps: &mut Steps<L>)
+        requires { line.old.items ≡ [] }
+        ensures acts { (frame : List ℕ) → BranchesActs self.old (RevertCommand count) frame line.new.items self.new }
         ensures store { self.new.store ≡ self.old.store }
     {
         match self.ledger.revert(count, steps) {
-            Ok(()) => reverted(count),
-            Err(TooDeep { kept }) => too_deep(kept),
+            Ok(()) => put_reverted(count, line),
+            Err(TooDeep { kept }) => put_too_deep(kept, line),
         }
     }
 
     /// The turn of BLOCK, of which `frame` has the raw bytes where they are at most 1,048,576.
-    pub fn act_block<L: StepBook>(&mut self, len: u64, frame: &[u8], steps: &mut Steps<L>) -> Answer
-        ensures { BranchesActs self.old (BlockCommand len) frame.now (answer_bytes result) self.new }
+    pub fn act_block<L: StepBook>(
+        &mut self,
+        len: u64,
+        frame: &[u8],
+        line: &mut Line,
+        steps: &mut Steps<L>,
+    )
+        requires { line.old.items ≡ [] }
+        ensures { BranchesActs self.old (BlockCommand len) frame.now line.new.items self.new }
     {
         if len > LONGEST_BLOCK as u64 {
-            return refused(b"X01");
+            return put_refused(b"X01", line);
         }
-        self.act_short_block(frame, steps)
+        self.act_short_block(frame, line, steps);
     }
 
-    fn act_short_block<L: StepBook>(&mut self, frame: &[u8], steps: &mut Steps<L>) -> Answer
-        ensures { length frame.now ≤ longest_block → ShortBlockActs self.old frame.now (answer_bytes result) self.new }
+    fn act_short_block<L: StepBook>(
+        &mut self,
+        frame: &[u8],
+        line: &mut Line,
+        steps: &mut Steps<L>,
+    )
+        requires { line.old.items ≡ [] }
+        ensures { length frame.now ≤ longest_block → ShortBlockActs self.old frame.now line.new.items self.new }
     {
         if frame.len() > LONGEST_BLOCK {
-            return refused(b"X01");
+            return put_refused(b"X01", line);
         }
         match read_hashed_block(self.alloc, frame) {
-            Ok(read) => self.submit(read, steps),
-            Err(ReadRefusal::NotABlock { line }) => unread(line),
-            Err(ReadRefusal::NoMemory) => no_memory(),
+            Ok(read) => self.submit(read, line, steps),
+            Err(ReadRefusal::NotABlock { line: number }) => put_unread(number, line),
+            Err(ReadRefusal::NoMemory) => put_no_memory(line),
         }
     }
 
     // The block joins the chain and leaves the store, or the first rule that it breaks is named.
-    fn submit<L: StepBook>(&mut self, read: HashedBlock, steps: &mut Steps<L>) -> Answer
+    fn submit<L: StepBook>(&mut self, read: HashedBlock, line: &mut Line, steps: &mut Steps<L>)
+        requires empty { line.old.items ≡ [] }
         requires text { IsBlock read.block }
         requires short { length (block_text read.block) ≤ longest_block }
         requires inner { read.inner ≡ hash_of (inner_text read.block) }
-        ensures { Decided self.old read.block (answer_bytes result) self.new }
+        ensures { Decided self.old read.block line.new.items self.new }
     {
         let HashedBlock { block, inner } = read;
         match self.decide(block, &inner, steps) {
-            Ok(stamp) => accepted(&stamp),
-            Err(refusal) => refusal_answer(refusal),
+            Ok(stamp) => put_accepted(&stamp, line),
+            Err(refusal) => put_refusal(refusal, line),
         }
     }
 
@@ -316,21 +341,22 @@ impl<T: PeopleAndMoney> Branches<T> {
     }
 
     /// The turn of SWITCH.
-    pub fn switch<L: StepBook>(&mut self, stamp: Stamp, steps: &mut Steps<L>) -> Answer
-        ensures { (frame : List ℕ) → BranchesActs self.old (SwitchCommand stamp) frame (answer_bytes result) self.new }
+    pub fn switch<L: StepBook>(&mut self, stamp: Stamp, line: &mut Line, steps: &mut Steps<L>)
+        requires { line.old.items ≡ [] }
+        ensures { (frame : List ℕ) → BranchesActs self.old (SwitchCommand stamp) frame line.new.items self.new }
     {
         let outcome = self.switch_to(stamp, steps);
-        switch_answer(&stamp, outcome)
+        put_switch(&stamp, outcome, line);
     }
 
     /// The turn of FORGET: the stored block of this stamp leaves the store. It takes no memory.
-    pub fn forget(&mut self, stamp: Stamp) -> Answer
-        ensures { (frame : List ℕ) → BranchesActs self.old (ForgetCommand stamp) frame (answer_bytes result) self.new }
+    pub fn forget(&mut self, stamp: Stamp, line: &mut Line)
+        requires { line.old.items ≡ [] }
+        ensures { (frame : List ℕ) → BranchesActs self.old (ForgetCommand stamp) frame line.new.items self.new }
     {
         if self.store.forget(stamp) {
-            forgotten()
-        } else {
-            unknown()
+            return put_forgotten(line);
         }
+        put_unknown(line);
     }
 }

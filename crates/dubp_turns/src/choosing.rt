@@ -3,15 +3,15 @@ ghost use Rattle.dubp_choosing.specs.States.{IsTipOf, choosing};
 ghost use Rattle.dubp_replay.specs.Answers.{failed_line, stored_answer};
 ghost use Rattle.dubp_replay.specs.Turns.{Chooses, left_over};
 ghost use Rattle.dubp_turns.specs.Choosing.{AreTried, ChoosesBehind, TriedOne};
-ghost use Rattle.dubp_replay.specs.AnswerBytes.{answer_bytes};
+ghost use Rattle.dubp_turns.specs.Told.{told_text};
 
 use crate::branches::Branches;
 use crate::seeing::find_tip;
-use crate::stating::{no_memory, offer_answer};
+use crate::stating::{put_no_memory, put_offer};
 use crate::texts::{add, failed_text, switched_text};
-use dubp_atoms::{NoMemory, Stamp, Steps};
+use crate::told::Told;
+use dubp_atoms::{Line, NoMemory, Stamp, Steps};
 use dubp_forks::{PeopleAndMoney, SwitchRefusal};
-use dubp_query::Answer;
 use dubp_replay::Failure;
 use std::alloc::Global;
 use std::sync::ledger::Ledger as StepBook;
@@ -22,35 +22,41 @@ pub(crate) fn choose_behind<T: PeopleAndMoney, L: StepBook>(
     stamp: Stamp,
     branches: &mut Branches<T>,
     failures: &mut Vec<Failure>,
+    line: &mut Line,
     steps: &mut Steps<L>,
-) -> Answer
-    requires { left_over branches.old.store failures.old.items ≡ failures.old.items }
-    ensures { ChoosesBehind stamp branches.old failures.old.items (answer_bytes result) branches.new failures.new.items }
+) -> Told
+    requires held { left_over branches.old.store failures.old.items ≡ failures.old.items }
+    requires empty { line.old.items ≡ [] }
+    ensures { ChoosesBehind stamp branches.old failures.old.items (told_text line.new.items result) branches.new failures.new.items }
 {
-    match resolve_behind(alloc, &stamp, branches, failures, steps) {
-        Ok(answer) => answer,
+    match resolve_behind(alloc, &stamp, branches, failures, line, steps) {
+        Ok(lines) => Told::Here(lines),
         Err(NoMemory) => {
             branches.take_out(stamp);
-            no_memory()
+            line.clear();
+            put_no_memory(line);
+            Told::InLine
         }
     }
 }
 
-/// The same, where the answer begins with `STORED` and this stamp. `NoMemory` leaves all as before.
+/// The same, where the answer begins with `STORED` and this stamp, which are put into an empty line. `NoMemory` leaves all else as before.
 fn resolve_behind<T: PeopleAndMoney, L: StepBook>(
     alloc: Global,
     stamp: &Stamp,
     branches: &mut Branches<T>,
     failures: &mut Vec<Failure>,
+    line: &mut Line,
     steps: &mut Steps<L>,
-) -> Result<Answer, NoMemory>
-    requires { left_over branches.old.store failures.old.items ≡ failures.old.items }
-    ensures chosen { IfOk result (λ answer. Chooses (stored_answer stamp.now) (choosing branches.old failures.old.items) (answer_bytes answer) (choosing branches.new failures.new.items)) }
+) -> Result<Vec<u8>, NoMemory>
+    requires held { left_over branches.old.store failures.old.items ≡ failures.old.items }
+    requires empty { line.old.items ≡ [] }
+    ensures chosen { IfOk result (λ lines. Chooses (stored_answer stamp.now) (choosing branches.old failures.old.items) lines.items (choosing branches.new failures.new.items)) }
     ensures held { OnOk result (left_over branches.new.store failures.new.items ≡ failures.new.items) }
     ensures refused { OnErr result ((branches.new ≡ branches.old) × (failures.new.items ≡ failures.old.items)) }
 {
-    let first = offer_answer(Ok(*stamp));
-    resolve(alloc, first.as_bytes(), branches, failures, steps)
+    put_offer(Ok(*stamp), line);
+    resolve(alloc, line.as_slice(), branches, failures, steps)
 }
 
 /// Tries one choice after another, until one is switched to or none is left. The answer has the line that comes first, and one for each
@@ -63,9 +69,9 @@ pub(crate) fn resolve<T: PeopleAndMoney, L: StepBook>(
     branches: &mut Branches<T>,
     failures: &mut Vec<Failure>,
     steps: &mut Steps<L>,
-) -> Result<Answer, NoMemory>
+) -> Result<Vec<u8>, NoMemory>
     requires { left_over branches.old.store failures.old.items ≡ failures.old.items }
-    ensures chosen { IfOk result (λ answer. Chooses first.now (choosing branches.old failures.old.items) (answer_bytes answer) (choosing branches.new failures.new.items)) }
+    ensures chosen { IfOk result (λ lines. Chooses first.now (choosing branches.old failures.old.items) lines.items (choosing branches.new failures.new.items)) }
     ensures held { OnOk result (left_over branches.new.store failures.new.items ≡ failures.new.items) }
     ensures refused { OnErr result ((branches.new ≡ branches.old) × (failures.new.items ≡ failures.old.items)) }
 {
@@ -73,7 +79,7 @@ pub(crate) fn resolve<T: PeopleAndMoney, L: StepBook>(
     add(&mut lines, first)?;
     let count = failures.len();
     match try_all(alloc, branches, failures, &mut lines, steps) {
-        Ok(()) => Ok(Answer::Many(lines)),
+        Ok(()) => Ok(lines),
         Err(NoMemory) => {
             failures.truncate(count);
             Err(NoMemory)

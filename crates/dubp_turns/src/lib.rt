@@ -8,6 +8,7 @@
 //! ```text
 //! let mut node = Node::<Books<PeopleRules>>::new(alloc);
 //! let answer = node.act(&command, frame, &mut steps);
+//! let told = node.take_turn(&command, frame, &mut line, &mut steps);
 //! node.tell(&Asked::Head, &mut line);
 //! ```
 #![tactic(auto)]
@@ -19,8 +20,10 @@ mod node;
 mod seeing;
 mod stating;
 mod texts;
+mod told;
 
 pub use branches::Branches;
 pub use dubp_query::{Answer, Asked, head_line};
 pub use node::Node;
-pub use stating::{numbered, one, put_one, refused};
+pub use stating::{put_numbered, put_one, put_refused};
+pub use told::Told;

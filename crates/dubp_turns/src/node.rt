@@ -2,6 +2,7 @@ ghost use Rattle.std.specs.Prelude.{◌≡◌, length, ◌≤◌, ℕ, List, [],
 ghost use Rattle.dubp_atoms.specs.Spelling.{IsNumber};
 ghost use Rattle.dubp_turns.specs.Acting.{Acts, OfferActs, PendActs};
 ghost use Rattle.dubp_replay.specs.AnswerBytes.{answer_bytes};
+ghost use Rattle.dubp_turns.specs.Told.{told_text};
 ghost use Rattle.dubp_block.specs.Text.{IsBlock, block_text};
 ghost use Rattle.dubp_validity.specs.Rules.{IsValid, longest_block};
 ghost use Rattle.dubp_turns.specs.Given.{IsGivenAll, block_given, verdict_given};
@@ -12,8 +13,12 @@ ghost use Rattle.dubp_replay.specs.declared.command.Command.TheVariants.{Ask as 
 use crate::branches::Branches;
 use crate::choosing::{choose_behind, let_go, resolve};
 use crate::forging::forge_on;
-use crate::stating::{forgotten, no_memory, offer_answer, one, refused, unknown};
-use crate::texts::{failures_text, pend_answer};
+use crate::stating::{
+    put_forgotten, put_no_memory, put_offer, put_one, put_refused, put_unknown,
+};
+use crate::texts::{failures_text, put_pend};
+use crate::told::Told;
+use arrayvec::ArrayVec;
 use dubp_atoms::{Hash, Key, Line, NoMemory, Secret, Sig, Stamp, Steps};
 use dubp_block::Block;
 use dubp_forks::{Ledger, PeopleAndMoney};
@@ -94,20 +99,60 @@ impl<T: PeopleAndMoney> Node<T> {
         requires { IsTimely command.now }
         ensures { Acts self.old command.now frame.now (answer_bytes result) self.new }
     {
+        let mut line: Line = ArrayVec::new();
+        match self.take_turn(command, frame, &mut line, steps) {
+            Told::InLine => Answer::One(line),
+            Told::Here(lines) => Answer::Many(lines),
+        }
+    }
+
+    /// The same, where an answer of one line is put into an empty line at hand.
+    pub fn take_turn<L: StepBook>(
+        &mut self,
+        command: &Command,
+        frame: &[u8],
+        line: &mut Line,
+        steps: &mut Steps<L>,
+    ) -> Told
+        requires timely { IsTimely command.now }
+        requires empty { line.old.items ≡ [] }
+        ensures { Acts self.old command.now frame.now (told_text line.new.items result) self.new }
+    {
         match command {
-            Command::Verdict { key, hash, sig } => self.note(*key, *hash, *sig),
-            Command::Block { len } => self.act_block(*len, frame, steps),
-            Command::Revert { count } => self.revert(*count, steps),
-            Command::Offer { len } => self.act_offer(*len, frame, steps),
-            Command::Switch { stamp } => self.switch(*stamp, steps),
-            Command::Forget { stamp } => self.forget(*stamp),
-            Command::Statement { cond } => self.statement(cond),
-            Command::Auto { on } => self.set_auto(*on, steps),
-            Command::Failures => self.failed(),
-            Command::Pend { len } => self.act_pend(*len, frame),
-            Command::Unpend { hash } => self.unpend(*hash),
-            Command::Forge { key, time } => self.forge(*key, *time),
-            Command::Ask(query) => self.ask(query),
+            Command::Offer { len } => self.act_offer(*len, frame, line, steps),
+            Command::Statement { cond } => self.statement(cond, line),
+            Command::Auto { on } => self.set_auto(*on, line, steps),
+            Command::Failures => self.failed(line),
+            Command::Forge { key, time } => self.forge(*key, *time, line),
+            Command::Ask(query) => self.ask(query, line),
+            Command::Verdict { key, hash, sig } => {
+                self.note(*key, *hash, *sig, line);
+                Told::InLine
+            }
+            Command::Block { len } => {
+                self.act_block(*len, frame, line, steps);
+                Told::InLine
+            }
+            Command::Revert { count } => {
+                self.revert(*count, line, steps);
+                Told::InLine
+            }
+            Command::Switch { stamp } => {
+                self.switch(*stamp, line, steps);
+                Told::InLine
+            }
+            Command::Forget { stamp } => {
+                self.forget(*stamp, line);
+                Told::InLine
+            }
+            Command::Pend { len } => {
+                self.act_pend(*len, frame, line);
+                Told::InLine
+            }
+            Command::Unpend { hash } => {
+                self.unpend(*hash, line);
+                Told::InLine
+            }
         }
     }
 
@@ -141,57 +186,67 @@ impl<T: PeopleAndMoney> Node<T> {
     }
 
     // The query is answered, and nothing changes.
-    fn ask(&self, query: &Query) -> Answer
-        ensures { (frame : List ℕ) → Acts self.now (AskCommand query.now) frame (answer_bytes result) self.now }
+    fn ask(&self, query: &Query, line: &mut Line) -> Told
+        requires { line.old.items ≡ [] }
+        ensures { (frame : List ℕ) → Acts self.now (AskCommand query.now) frame (told_text line.new.items result) self.now }
     {
-        self.branches.ask(query)
+        self.branches.ask(query, line)
     }
 
     // The moves of the condition are told, and nothing changes.
-    fn statement(&self, cond: &CondText) -> Answer
-        ensures { (frame : List ℕ) → Acts self.now (StatementCommand cond.now) frame (answer_bytes result) self.now }
+    fn statement(&self, cond: &CondText, line: &mut Line) -> Told
+        requires { line.old.items ≡ [] }
+        ensures { (frame : List ℕ) → Acts self.now (StatementCommand cond.now) frame (told_text line.new.items result) self.now }
     {
-        self.branches.statement(cond)
+        self.branches.statement(cond, line)
     }
 
     // The verdict joins those that were given.
-    fn note(&mut self, key: Key, hash: Hash, sig: Sig) -> Answer
-        ensures { (frame : List ℕ) → Acts self.old (VerdictCommand key hash sig) frame (answer_bytes result) self.new }
+    fn note(&mut self, key: Key, hash: Hash, sig: Sig, line: &mut Line)
+        requires { line.old.items ≡ [] }
+        ensures { (frame : List ℕ) → Acts self.old (VerdictCommand key hash sig) frame line.new.items self.new }
     {
-        self.branches.note(key, hash, sig)
+        self.branches.note(key, hash, sig, line);
     }
 
     // The last blocks leave the chain, where so many can be reversed.
-    fn revert<L: StepBook>(&mut self, count: u64, steps: &mut Steps<L>) -> Answer
-        ensures { (frame : List ℕ) → Acts self.old (RevertCommand count) frame (answer_bytes result) self.new }
+    fn revert<L: StepBook>(&mut self, count: u64, line: &mut Line, steps: &mut Steps<L>)
+        requires { line.old.items ≡ [] }
+        ensures { (frame : List ℕ) → Acts self.old (RevertCommand count) frame line.new.items self.new }
     {
-        self.branches.revert(count, steps)
+        self.branches.revert(count, line, steps);
     }
 
-    fn act_block<L: StepBook>(&mut self, len: u64, frame: &[u8], steps: &mut Steps<L>) -> Answer
-        ensures { Acts self.old (BlockCommand len) frame.now (answer_bytes result) self.new }
+    fn act_block<L: StepBook>(
+        &mut self,
+        len: u64,
+        frame: &[u8],
+        line: &mut Line,
+        steps: &mut Steps<L>,
+    )
+        requires { line.old.items ≡ [] }
+        ensures { Acts self.old (BlockCommand len) frame.now line.new.items self.new }
     {
-        let answer = self.branches.act_block(len, frame, steps);
+        self.branches.act_block(len, frame, line, steps);
         let_go(&self.branches, &mut self.failures);
-        answer
     }
 
     // The branch that ends at this stored block takes the place of the chain's last blocks, or the first reason against it is named.
-    fn switch<L: StepBook>(&mut self, stamp: Stamp, steps: &mut Steps<L>) -> Answer
-        ensures { (frame : List ℕ) → Acts self.old (SwitchCommand stamp) frame (answer_bytes result) self.new }
+    fn switch<L: StepBook>(&mut self, stamp: Stamp, line: &mut Line, steps: &mut Steps<L>)
+        requires { line.old.items ≡ [] }
+        ensures { (frame : List ℕ) → Acts self.old (SwitchCommand stamp) frame line.new.items self.new }
     {
-        let answer = self.branches.switch(stamp, steps);
+        self.branches.switch(stamp, line, steps);
         let_go(&self.branches, &mut self.failures);
-        answer
     }
 
     // The stored block of this stamp leaves the store.
-    fn forget(&mut self, stamp: Stamp) -> Answer
-        ensures { (frame : List ℕ) → Acts self.old (ForgetCommand stamp) frame (answer_bytes result) self.new }
+    fn forget(&mut self, stamp: Stamp, line: &mut Line)
+        requires { line.old.items ≡ [] }
+        ensures { (frame : List ℕ) → Acts self.old (ForgetCommand stamp) frame line.new.items self.new }
     {
-        let answer = self.branches.forget(stamp);
+        self.branches.forget(stamp, line);
         let_go(&self.branches, &mut self.failures);
-        answer
     }
 
     /// Takes the turn of a block of a chain that was generated. `NoMemory` leaves the node as before.
@@ -220,113 +275,152 @@ impl<T: PeopleAndMoney> Node<T> {
     }
 
     // The node chooses from now on, and at once; or no longer.
-    fn set_auto<L: StepBook>(&mut self, on: bool, steps: &mut Steps<L>) -> Answer
-        ensures { (frame : List ℕ) → Acts self.old (AutoCommand on) frame (answer_bytes result) self.new }
+    fn set_auto<L: StepBook>(
+        &mut self,
+        on: bool,
+        line: &mut Line,
+        steps: &mut Steps<L>,
+    ) -> Told
+        requires { line.old.items ≡ [] }
+        ensures { (frame : List ℕ) → Acts self.old (AutoCommand on) frame (told_text line.new.items result) self.new }
     {
         if on {
-            self.start_choosing(steps)
+            self.start_choosing(line, steps)
         } else {
             self.auto = false;
-            one(b"AUTO OFF")
+            put_one(b"AUTO OFF", line);
+            Told::InLine
         }
     }
 
-    fn start_choosing<L: StepBook>(&mut self, steps: &mut Steps<L>) -> Answer
-        ensures { (frame : List ℕ) → Acts self.old (AutoCommand true) frame (answer_bytes result) self.new }
+    fn start_choosing<L: StepBook>(&mut self, line: &mut Line, steps: &mut Steps<L>) -> Told
+        requires { line.old.items ≡ [] }
+        ensures { (frame : List ℕ) → Acts self.old (AutoCommand true) frame (told_text line.new.items result) self.new }
     {
-        let first = one(b"AUTO ON");
+        put_one(b"AUTO ON", line);
         match resolve(
             self.alloc,
-            first.as_bytes(),
+            line.as_slice(),
             &mut self.branches,
             &mut self.failures,
             steps,
         ) {
-            Ok(answer) => {
+            Ok(lines) => {
                 self.auto = true;
-                answer
+                Told::Here(lines)
             }
-            Err(NoMemory) => no_memory(),
+            Err(NoMemory) => {
+                line.clear();
+                put_no_memory(line);
+                Told::InLine
+            }
         }
     }
 
     // The branches that failed, as long as they are kept.
-    fn failed(&self) -> Answer
-        ensures { (frame : List ℕ) → Acts self.now FailuresCommand frame (answer_bytes result) self.now }
+    fn failed(&self, line: &mut Line) -> Told
+        requires { line.old.items ≡ [] }
+        ensures { (frame : List ℕ) → Acts self.now FailuresCommand frame (told_text line.new.items result) self.now }
     {
         match failures_text(self.alloc, self.failures.as_slice()) {
-            Ok(text) => Answer::Many(text),
-            Err(NoMemory) => no_memory(),
+            Ok(text) => Told::Here(text),
+            Err(NoMemory) => {
+                put_no_memory(line);
+                Told::InLine
+            }
         }
     }
 
     // The document of these bytes waits from now on, or the first reason against it is named.
-    fn act_pend(&mut self, len: u64, frame: &[u8]) -> Answer
-        ensures { Acts self.old (PendCommand len) frame.now (answer_bytes result) self.new }
+    fn act_pend(&mut self, len: u64, frame: &[u8], line: &mut Line)
+        requires { line.old.items ≡ [] }
+        ensures { Acts self.old (PendCommand len) frame.now line.new.items self.new }
     {
         if len > LONGEST_BLOCK as u64 {
-            return refused(b"X01");
+            return put_refused(b"X01", line);
         }
-        self.pend(frame)
+        self.pend(frame, line);
     }
 
     // The same, where the bytes are not too many.
-    fn pend(&mut self, frame: &[u8]) -> Answer
-        ensures { length frame.now ≤ longest_block → PendActs self.old frame.now (answer_bytes result) self.new }
+    fn pend(&mut self, frame: &[u8], line: &mut Line)
+        requires { line.old.items ≡ [] }
+        ensures { length frame.now ≤ longest_block → PendActs self.old frame.now line.new.items self.new }
     {
-        pend_answer(self.pool.add(frame))
+        put_pend(self.pool.add(frame), line);
     }
 
     // The document whose text has this hash waits no longer.
-    fn unpend(&mut self, hash: Hash) -> Answer
-        ensures { (frame : List ℕ) → Acts self.old (UnpendCommand hash) frame (answer_bytes result) self.new }
+    fn unpend(&mut self, hash: Hash, line: &mut Line)
+        requires { line.old.items ≡ [] }
+        ensures { (frame : List ℕ) → Acts self.old (UnpendCommand hash) frame line.new.items self.new }
     {
         if self.pool.remove(hash) {
-            forgotten()
-        } else {
-            unknown()
+            return put_forgotten(line);
         }
+        put_unknown(line);
     }
 
     // A block is forged of the documents that wait, and nothing changes.
-    fn forge(&self, key: Key, time: u64) -> Answer
-        requires { IsNumber time }
-        ensures { (frame : List ℕ) → Acts self.now (ForgeCommand key time) frame (answer_bytes result) self.now }
+    fn forge(&self, key: Key, time: u64, line: &mut Line) -> Told
+        requires time { IsNumber time }
+        requires empty { line.old.items ≡ [] }
+        ensures { (frame : List ℕ) → Acts self.now (ForgeCommand key time) frame (told_text line.new.items result) self.now }
     {
-        forge_on(self.alloc, &self.branches, &self.pool, key, time)
+        forge_on(self.alloc, &self.branches, &self.pool, key, time, line)
     }
 
-    fn act_offer<L: StepBook>(&mut self, len: u64, frame: &[u8], steps: &mut Steps<L>) -> Answer
-        ensures { Acts self.old (OfferCommand len) frame.now (answer_bytes result) self.new }
+    fn act_offer<L: StepBook>(
+        &mut self,
+        len: u64,
+        frame: &[u8],
+        line: &mut Line,
+        steps: &mut Steps<L>,
+    ) -> Told
+        requires { line.old.items ≡ [] }
+        ensures { Acts self.old (OfferCommand len) frame.now (told_text line.new.items result) self.new }
     {
         if len > LONGEST_BLOCK as u64 {
             self.laws();
-            return refused(b"X01");
+            put_refused(b"X01", line);
+            return Told::InLine;
         }
-        self.offer(frame, steps)
+        self.offer(frame, line, steps)
     }
 
     // The block goes to the end of the store, and the node chooses, if it does so by itself; or the first reason against the block is named.
-    fn offer<L: StepBook>(&mut self, frame: &[u8], steps: &mut Steps<L>) -> Answer
-        ensures { length frame.now ≤ longest_block → OfferActs self.old frame.now (answer_bytes result) self.new }
+    fn offer<L: StepBook>(
+        &mut self,
+        frame: &[u8],
+        line: &mut Line,
+        steps: &mut Steps<L>,
+    ) -> Told
+        requires { line.old.items ≡ [] }
+        ensures { length frame.now ≤ longest_block → OfferActs self.old frame.now (told_text line.new.items result) self.new }
     {
         if frame.len() > LONGEST_BLOCK {
-            return refused(b"X01");
+            put_refused(b"X01", line);
+            return Told::InLine;
         }
         match self.branches.store_block(frame) {
             Ok(stamp) => {
                 if !self.auto {
-                    return offer_answer(Ok(stamp));
+                    put_offer(Ok(stamp), line);
+                    return Told::InLine;
                 }
                 choose_behind(
                     self.alloc,
                     stamp,
                     &mut self.branches,
                     &mut self.failures,
+                    line,
                     steps,
                 )
             }
-            Err(refusal) => offer_answer(Err(refusal)),
+            Err(refusal) => {
+                put_offer(Err(refusal), line);
+                Told::InLine
+            }
         }
     }
 }

@@ -1,14 +1,12 @@
-ghost use Rattle.std.specs.Prelude.{◌≡◌, ◌++◌, ◌≤◌, Err, IfOk, OnOk, length};
+ghost use Rattle.std.specs.Prelude.{◌≡◌, ◌++◌, ◌≤◌, [], Err, IfOk, OnOk, length};
 ghost use Rattle.dubp_atoms.specs.Spelling.{stamp_text};
 ghost use Rattle.dubp_replay.specs.Answers.{answer_line, ended, failed_line, failures_answer, switched_answer};
-ghost use Rattle.dubp_replay.specs.AnswerBytes.{answer_bytes};
 ghost use Rattle.dubp_turns.specs.Texts.{failed_lines, pend_text};
 
-use crate::stating::{full, no_memory, refused};
+use crate::stating::{put_full, put_no_memory, put_refused};
 use arrayvec::ArrayVec;
 use dubp_atoms::{Hash, Line, NoMemory, Stamp, put_bytes};
 use dubp_pool::PendRefusal;
-use dubp_query::Answer;
 use dubp_replay::Failure;
 use dubp_rules::code;
 use std::alloc::Global;
@@ -60,38 +58,39 @@ pub(crate) fn switched_text(stamp: &Stamp) -> Line
     line
 }
 
-/// `PENDING` and the hash of the document, or why it does not wait. It takes no memory.
-pub(crate) fn pend_answer(outcome: Result<Hash, PendRefusal>) -> Answer
-    ensures { answer_bytes result ≡ pend_text outcome }
+/// Puts `PENDING` and the hash of the document, or why it does not wait, into an empty line. It takes no memory.
+pub(crate) fn put_pend(outcome: Result<Hash, PendRefusal>, line: &mut Line)
+    requires { line.old.items ≡ [] }
+    ensures { line.new.items ≡ pend_text outcome }
 {
     match outcome {
-        Ok(hash) => hashed(b"PENDING ", hash),
-        Err(refusal) => pend_refused(refusal),
+        Ok(hash) => put_hashed(b"PENDING ", hash, line),
+        Err(refusal) => put_pend_refusal(refusal, line),
     }
 }
 
 // Why a document does not wait.
-fn pend_refused(refusal: PendRefusal) -> Answer
-    ensures { answer_bytes result ≡ pend_text (Err refusal) }
+fn put_pend_refusal(refusal: PendRefusal, line: &mut Line)
+    requires { line.old.items ≡ [] }
+    ensures { line.new.items ≡ pend_text (Err refusal) }
 {
     match refusal {
-        PendRefusal::Unread => refused(b"D01"),
-        PendRefusal::Known(hash) => hashed(b"KNOWN ", hash),
-        PendRefusal::Full { held: _ } => full(),
-        PendRefusal::NoMemory => no_memory(),
+        PendRefusal::Unread => put_refused(b"D01", line),
+        PendRefusal::Known(hash) => put_hashed(b"KNOWN ", hash, line),
+        PendRefusal::Full { held: _ } => put_full(line),
+        PendRefusal::NoMemory => put_no_memory(line),
     }
 }
 
 // A word and a hash.
-fn hashed(word: &[u8], hash: Hash) -> Answer
-    requires { length word.now ≤ 64 }
-    ensures { answer_bytes result ≡ answer_line (word.now ++ hash) }
+fn put_hashed(word: &[u8], hash: Hash, line: &mut Line)
+    requires short { length word.now ≤ 64 }
+    requires empty { line.old.items ≡ [] }
+    ensures { line.new.items ≡ answer_line (word.now ++ hash) }
 {
-    let mut line: Line = ArrayVec::new();
-    put_bytes(&mut line, word);
-    put_bytes(&mut line, hash.as_bytes());
-    put_bytes(&mut line, b"\n");
-    Answer::One(line)
+    put_bytes(line, word);
+    put_bytes(line, hash.as_bytes());
+    put_bytes(line, b"\n");
 }
 
 /// Adds bytes to a text. `NoMemory` where there is no room for them; then the text is as before.

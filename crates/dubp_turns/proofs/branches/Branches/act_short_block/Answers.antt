@@ -10,4 +10,4 @@ returns-in-Ok g c = λ short.
 pub returns-in-Err-NotABlock : goal.returns-in-Err-NotABlock
 returns-in-Err-NotABlock g c = λ short.
     let line = c.in-Err-NotABlock in
-    unread_raw _ c.args.frame.now _ line.line (λ d t. let e = line.ensures.only d t.is t.text in let f = line.field-0-is in cc) short (subst (NamesLine c.args.frame.now) line.field-0-is line.ensures.refused) c.unread.ensures
+    unread_raw _ c.args.frame.now _ line.number (λ d t. let e = line.ensures.only d t.is t.text in let f = line.field-0-is in cc) short (subst (NamesLine c.args.frame.now) line.field-0-is line.ensures.refused) c.put_unread.ensures

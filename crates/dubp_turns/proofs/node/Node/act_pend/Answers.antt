@@ -3,4 +3,4 @@ use Rattle.dubp_turns.proofs.Pending.{long_pend_acts}
 use Rattle.dubp_turns.proofs.node.Node.act_pend.Goals as goal
 
 pub returns-then-len : goal.returns-then-len
-returns-then-len g c = long_pend_acts c.args.self.now c.args.len c.args.frame.now _ (omega (arith, c.if-len.true)) c.refused.ensures
+returns-then-len g c = long_pend_acts c.args.self.now c.args.len c.args.frame.now _ (omega (arith, c.if-len.true)) c.put_refused.ensures

@@ -3,7 +3,7 @@ use Rattle.dubp_replay.specs.declared.command.Command.TheVariants.{Ask}
 use Rattle.dubp_replay.specs.Turns.{State}
 use Rattle.dubp_choosing.specs.States.{state_with}
 use Rattle.dubp_turns.specs.Acting.{Acts}
-use Rattle.dubp_replay.specs.AnswerBytes.{answer_bytes}
+use Rattle.dubp_turns.specs.Told.{told_text}
 use Rattle.dubp_turns.proofs.Turns.{acts_aside}
 use Rattle.dubp_turns.proofs.node.Node.ask.Goals as goal
 
@@ -11,5 +11,5 @@ pub returns : goal.returns
 returns g c = λ frame.
     let s = c.self.inside in
     let old = state_with s.pool s.branches s.auto s.failures.items in
-    subst (λ (x : State). Acts x (Ask c.args.query.now) frame (answer_bytes c.ask.result) x) c.self.view_is
-    (acts_aside old (Ask c.args.query.now) frame (answer_bytes c.ask.result) s.branches tt c.self.invariant refl (c.ask.ensures frame))
+    subst (λ (x : State). Acts x (Ask c.args.query.now) frame (told_text c.ask.new.line.items c.ask.result) x) c.self.view_is
+    (acts_aside old (Ask c.args.query.now) frame (told_text c.ask.new.line.items c.ask.result) s.branches tt c.self.invariant refl (c.ask.ensures frame))

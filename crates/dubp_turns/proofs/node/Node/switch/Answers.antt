@@ -3,16 +3,15 @@ use Rattle.dubp_replay.specs.declared.command.Command.TheVariants.{Switch}
 use Rattle.dubp_replay.specs.Turns.{State}
 use Rattle.dubp_choosing.specs.States.{state_with}
 use Rattle.dubp_turns.specs.Acting.{Acts}
-use Rattle.dubp_replay.specs.AnswerBytes.{answer_bytes}
 use Rattle.dubp_turns.proofs.Turns.{acts_on, held_left}
 use Rattle.dubp_turns.proofs.node.Node.switch.Goals as goal
 
 pub invariant_of-self : goal.invariant_of-self
-invariant_of-self g c = held_left c.switch-answer.new.self.store c.self.inside.failures.items c.let_go.new.failures.items c.let_go.ensures
+invariant_of-self g c = held_left c.switch.new.self.store c.self.inside.failures.items c.let_go.new.failures.items c.let_go.ensures
 
 pub returns : goal.returns
 returns g c = λ frame.
     let s = c.self.inside in
     let old = state_with s.pool s.branches s.auto s.failures.items in
-    subst (λ (x : State). Acts x (Switch c.args.stamp) frame (answer_bytes c.switch-answer.result) (state_with s.pool c.switch-answer.new.self s.auto c.let_go.new.failures.items)) c.self.view_is
-    (acts_on old (Switch c.args.stamp) frame (answer_bytes c.switch-answer.result) c.switch-answer.new.self c.let_go.new.failures.items tt c.self.invariant c.let_go.ensures (c.switch-answer.ensures frame))
+    subst (λ (x : State). Acts x (Switch c.args.stamp) frame (c.switch.new.line.items) (state_with s.pool c.switch.new.self s.auto c.let_go.new.failures.items)) c.self.view_is
+    (acts_on old (Switch c.args.stamp) frame (c.switch.new.line.items) c.switch.new.self c.let_go.new.failures.items tt c.self.invariant c.let_go.ensures (c.switch.ensures frame))
