@@ -11,3 +11,4 @@ pub mod Answering
 pub mod InRange
 pub mod Together
 pub mod First
+pub mod WithHash

@@ -34,4 +34,4 @@ pub use drafting::{draft, first_draft, payer};
 pub use keys::{KEYS, key_of, uid_of};
 pub use numbers::next_number;
 pub use sealed::{SealRefusal, Sealed};
-pub use sealing::seal;
+pub use sealing::{seal, seal_hashed};

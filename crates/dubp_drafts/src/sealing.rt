@@ -1,6 +1,6 @@
 ghost use Rattle.std.specs.Prelude.{◌≡◌, ◌≤◌, ◌<◌, ℕ, IfOk, IfSome, IfNone};
 ghost use Rattle.dubp_atoms.specs.Hashing.{hash_of};
-ghost use Rattle.dubp_block.specs.Text.{IsBlock, signed_text};
+ghost use Rattle.dubp_block.specs.Text.{IsBlock, inner_text, signed_text};
 ghost use Rattle.dubp_drafts.specs.Sealing.{IsSealing, MeetsWith, signed};
 
 use crate::begun::Begun;
@@ -25,9 +25,23 @@ pub fn seal(draft: Block, difficulty: u128) -> Result<Sealed, SealRefusal>
 {
     let mut block = draft;
     block.inner_hash = inner_hash_of(&block);
-    match least_nonce(&block, difficulty) {
+    seal_hashed(block, difficulty)
+}
+
+/// Seals a draft that has its inner hash: sets its nonce and its signature.
+///
+/// The nonce is that of `seal`, and `NoNonce` comes where it comes there. The draft is in range, and its nonce and signature are not
+/// read. It takes no memory.
+pub fn seal_hashed(draft: Block, difficulty: u128) -> Result<Sealed, SealRefusal>
+    requires text { IsBlock draft }
+    requires inner { draft.inner_hash ≡ hash_of (inner_text draft) }
+    ensures sealed { IsSealing draft difficulty result }
+    ensures block { IfOk result (λ s. IsBlock s.block) }
+{
+    match least_nonce(&draft, difficulty) {
         None => Err(SealRefusal::NoNonce),
         Some(nonce) => {
+            let mut block = draft;
             block.nonce = nonce;
             Ok(signed(block))
         }

@@ -5,3 +5,4 @@ pub mod Sealing
 pub mod Shown
 pub mod Sizes
 pub mod Spendable
+pub mod InnerHashes

@@ -1,7 +1,8 @@
 -- A draft that is sealed, or cannot be, behind a chain.
-use Rattle.std.proofs.Common.{◌≡◌, ◌≤◌, ℕ, [], ◌∷◌, length, Some, None, Option, false, refl, subst, sym, true, ◌∙◌, arith}
+use Rattle.std.proofs.Common.{◌≡◌, ◌≤◌, ℕ, [], ◌∷◌, length, Some, None, false, refl, subst, sym, true, ◌∙◌, arith}
 use Rattle.std.specs.Prelude.{IsTrue}
 use Rattle.dubp_atoms.specs.Same.{Text}
+use Rattle.dubp_block.specs.Text.{inner_text}
 use Rattle.dubp_block.specs.declared.block.Block.{Block}
 use Rattle.dubp_chain.specs.Chains.{Chain}
 use Rattle.dubp_chain.specs.Heads.{difficulty}
@@ -15,6 +16,7 @@ use Rattle.dubp_gen.specs.declared.chain.GenRefusal.{GenRefusal}
 use Rattle.dubp_gen.specs.declared.chain.GenRefusal.TheVariants.{Invalid, NoNonce}
 use Rattle.dubp_gen.specs.Generated.{HasNoNonce, HasNoSeal, IsToSeal, IssuerMay}
 use Rattle.dubp_gen.specs.Making.{IsSealedBlock}
+use Rattle.dubp_validity.specs.LocalRules.{InnerHashIsRight}
 
 pub no_first : (c : Chain) (draft : Block) (n : ℕ) (refusal : GenRefusal) → c ≡ [] → n ≡ length c → refusal ≡ NoNonce n → HasNoNonce draft 0 → HasNoSeal c draft refusal
 no_first [] draft n refusal empty is same none = subst (HasNoSeal [] draft) (sym same) (is, (draft, 0, ((refl, refl), (tt, none))))
@@ -51,3 +53,8 @@ pub no_member : (c : Chain) (draft b : Block) (n : ℕ) → 1 ≤ length c → I
 no_member c draft b n some filled is long =
     let not : member c draft.issuer ≡ false = subst (λ k. member c k ≡ false) filled.keeps.issuer is in
     (long, (refl, issuer_may_not c draft.issuer some (λ may. let no : true ≡ false = sym may ∙ not in absurd cc)))
+
+-- neither the nonce nor the signature is of the inner text
+pub has_inner_hash : (c : Chain) (draft : Block) (s : Sealed) → IsSealedBlock c draft s → InnerHashIsRight s.block
+unfolding inner_text
+has_inner_hash c draft s q = subst InnerHashIsRight (sym q.sealed.block_is) refl

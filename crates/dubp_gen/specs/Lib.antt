@@ -2,3 +2,4 @@ pub mod Generated
 pub mod Making
 pub mod OfLedger
 pub mod Spendable
+pub mod OfValidity

@@ -4,6 +4,7 @@ ghost use Rattle.dubp_block.specs.Text.{IsBlock};
 ghost use Rattle.dubp_ledger.specs.Traces.{IsShort};
 ghost use Rattle.dubp_gen.specs.Generated.{Ends, IsMade};
 ghost use Rattle.dubp_gen.specs.Making.{made_of};
+ghost use Rattle.dubp_validity.specs.LocalRules.{InnerHashIsRight};
 
 use crate::chain::{Chain, GenRefusal};
 use crate::next::make_next;
@@ -28,6 +29,7 @@ pub fn make_chain<T: PeopleAndMoney, L: StepBook>(
     ensures made { IfOk result (λ made. IsMade start n (made_of made)) }
     ensures blocks { IfOk result (λ made. AllByRecursion IsBlock (reverse made.blocks.items)) }
     ensures short { IfOk result (λ made. AllByRecursion IsShort (reverse made.blocks.items)) }
+    ensures hashed { IfOk result (λ made. AllByRecursion InnerHashIsRight (reverse made.blocks.items)) }
     ensures ended { IfErr result (Ends start n) }
 {
     let mut ledger: Ledger<T> = Ledger::new(alloc);

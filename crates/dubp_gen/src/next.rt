@@ -6,12 +6,13 @@ ghost use Rattle.dubp_drafts.specs.Sealing.{IsSealed};
 ghost use Rattle.dubp_gen.specs.declared.chain.GenRefusal.TheVariants.{NoNonce};
 ghost use Rattle.dubp_gen.specs.Generated.{EndsWith, HasNoNonce, HasNoSeal, IsMadeNext, IsRefused, next_draft, next_given, number_at, with_given};
 ghost use Rattle.dubp_gen.specs.Making.{IsOfMade, IsSealedBlock, Joins, made_of};
+ghost use Rattle.dubp_validity.specs.LocalRules.{InnerHashIsRight};
 
 use crate::chain::{Chain, GenRefusal};
 use crate::spending::first_source;
 use dubp_atoms::{Hash, Key, NoMemory, Sig, Steps};
-use dubp_block::{Block, copy_block, inner_hash_in, put_block};
-use dubp_drafts::{Draft, SealRefusal, Sealed, draft, first_draft, payer, seal};
+use dubp_block::{Block, copy_block, put_block};
+use dubp_drafts::{Draft, SealRefusal, Sealed, draft, first_draft, payer, seal, seal_hashed};
 use dubp_ledger::{Ledger, PeopleAndMoney, SubmitRefusal};
 use dubp_rules::Rule;
 use dubp_verdict::Verdicts;
@@ -115,7 +116,13 @@ fn seal_first<T: PeopleAndMoney>(ledger: &Ledger<T>, draft: Block) -> Result<Sea
     ensures block { IfOk result (λ s. IsBlock s.block) }
     ensures ended { IfErr result (HasNoSeal ledger.now.chain draft) }
 {
-    seal_for(draft, 0, ledger.len() as u64)
+    match seal(draft, 0) {
+        Ok(sealed) => Ok(sealed),
+        Err(SealRefusal::NoNonce) => Err(GenRefusal::NoNonce {
+            block: ledger.len() as u64,
+        }),
+        Err(SealRefusal::NoMemory) => Err(GenRefusal::NoMemory),
+    }
 }
 
 /// The same for a chain that has blocks.
@@ -142,14 +149,15 @@ fn seal_later<T: PeopleAndMoney>(ledger: &Ledger<T>, draft: Block) -> Result<Sea
     }
 }
 
-/// Seals the block of this number for a difficulty.
+/// Seals the block of this number, which has its inner hash, for a difficulty.
 fn seal_for(block: Block, difficulty: u128, number: u64) -> Result<Sealed, GenRefusal>
-    requires { IsBlock block }
+    requires text { IsBlock block }
+    requires inner { InnerHashIsRight block }
     ensures sealed { IfOk result (IsSealed block difficulty) }
     ensures block { IfOk result (λ s. IsBlock s.block) }
     ensures ended { IfErr result (λ refusal. (refusal ≡ NoNonce number) × HasNoNonce block difficulty) }
 {
-    match seal(block, difficulty) {
+    match seal_hashed(block, difficulty) {
         Ok(sealed) => Ok(sealed),
         Err(SealRefusal::NoNonce) => Err(GenRefusal::NoNonce { block: number }),
         Err(SealRefusal::NoMemory) => Err(GenRefusal::NoMemory),
@@ -184,7 +192,7 @@ fn note(
     noted.push((key, hash, sig)).map_err(|_| NoMemory)
 }
 
-/// The block joins the ledger, and a copy of it the blocks, where it is not too long and breaks no rule.
+/// The block, which has its inner hash, joins the ledger, and a copy of it the blocks, where it is not too long and breaks no rule.
 fn join<T: PeopleAndMoney, L: StepBook>(
     alloc: Global,
     ledger: &mut Ledger<T>,
@@ -193,7 +201,8 @@ fn join<T: PeopleAndMoney, L: StepBook>(
     blocks: &mut Vec<Block>,
     steps: &mut Steps<L>,
 ) -> Result<(), GenRefusal>
-    requires { IsBlock block }
+    requires text { IsBlock block }
+    requires inner { InnerHashIsRight block }
     ensures joined { OnOk result (Joins verdicts.now ledger.old.chain block) }
     ensures ledger { OnOk result (ledger.new.chain ≡ block ∷ ledger.old.chain) }
     ensures blocks { OnOk result (blocks.new.items ≡ blocks.old.items ++ block ∷ []) }
@@ -212,7 +221,7 @@ fn join<T: PeopleAndMoney, L: StepBook>(
     let Ok(copy) = copy_block(alloc, &block) else {
         return Err(GenRefusal::NoMemory);
     };
-    let inner = inner_hash_in(text.as_slice(), &block);
+    let inner = block.inner_hash;
     match ledger.submit_read(block, &inner, verdicts, steps) {
         Ok(_) => match blocks.push(copy) {
             Ok(()) => Ok(()),

@@ -27,7 +27,7 @@ use crate::judgement::Judgement;
 use crate::judges::Judges;
 use crate::{Asked, Checked, Kept, Written, check_local_hashed};
 use dubp_atoms::{Hash, Items, NoMemory};
-use dubp_block::{Block, inner_hash_of};
+use dubp_block::Block;
 use dubp_chain::Head;
 use dubp_docs::TxHashes;
 use dubp_head::{Frame, Heads, augment_over, head_rules_over, stated_rules_over};
@@ -63,17 +63,19 @@ pub fn judge<T: Judges>(
     Ok(judgement)
 }
 
-/// The first rule that the block, whose text has at most 1,048,576 bytes, breaks behind the chain, other than `L05` and `G62`, which a
-/// block keeps once it is signed; or None where it breaks none of the others.
+/// The first rule that the block, whose text has at most 1,048,576 bytes and whose inner hash is at hand, breaks behind the chain, other
+/// than `L05` and `G62`, which a block keeps once it is signed; or None where it breaks none of the others.
 ///
 /// `NoMemory` where there is no memory to check the block.
 pub fn trial<T: Judges>(
     alloc: Global,
     kept: &Kept<T>,
     block: &Block,
+    inner: &Hash,
     verdicts: &Verdicts,
 ) -> Result<Option<Rule>, NoMemory>
     requires text { IsBlock block.now }
+    requires inner { inner.now ≡ hash_of (inner_text block.now) }
     requires short { length (block_text block.now) ≤ longest_block }
     ensures { IfOk result (FirstBad verdicts.now kept.now.chain block.now) }
 {
@@ -83,7 +85,7 @@ pub fn trial<T: Judges>(
         kept.heads(),
         kept.blocks(),
         block,
-        &inner_hash_of(block),
+        inner,
         verdicts,
         Asked::Unsigned,
     )?;

@@ -20,7 +20,7 @@
 //!     Judgement::Breaks(rule) => refuse(rule),
 //!     Judgement::Keeps(head, params, hashes) => kept.add(block, head, &params, hashes.as_slice(), &mut steps),
 //! }
-//! let bad = trial(alloc, &kept, &draft, &verdicts)?;
+//! let bad = trial(alloc, &kept, &draft, &inner, &verdicts)?;
 //! let block = kept.withdraw(&mut steps);
 //!
 //! let held = kept.hold(2, &mut steps)?;

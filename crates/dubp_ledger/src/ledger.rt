@@ -11,6 +11,7 @@ ghost use Rattle.dubp_rules.specs.declared.rule.Rule.TheVariants.{X01, P01};
 ghost use Rattle.dubp_people_and_money.specs.OfValidity.{FirstBad, FirstBroken, Holds, IsSound, longest_block, records_at};
 ghost use Rattle.dubp_people_and_money.specs.OfKept.{all_hashes, local_rules};
 ghost use Rattle.dubp_people_and_money.specs.OfKept.{AreStates, IsAsBefore, IsAsHeld, IsHeldBy, IsKnown, MayJoin, last_steps, most_kept, most_steps, steps_of_last, steps_of_out, without_last};
+ghost use Rattle.dubp_validity.specs.LocalRules.{InnerHashIsRight};
 ghost use Rattle.dubp_ledger.specs.States.{Accepted, HandedBack, IsDifficulty, IsTooDeep};
 ghost use Rattle.dubp_ledger.specs.Traces.{IsShort};
 ghost use Rattle.dubp_ledger.specs.Written.{IsWrittenAt};
@@ -258,7 +259,18 @@ impl<T: PeopleAndMoney> Ledger<T> {
         requires short { length (block_text block.now) ≤ longest_block }
         ensures { IfOk result (FirstBad verdicts.now self.now.chain block.now) }
     {
-        trial(self.alloc, &self.kept, block, verdicts)
+        let inner = inner_hash_of(block);
+        trial(self.alloc, &self.kept, block, &inner, verdicts)
+    }
+
+    /// The same of a block whose InnerHash is right, as that of a filled draft is.
+    pub fn trial_hashed(&self, block: &Block, verdicts: &Verdicts) -> Result<Option<Rule>, NoMemory>
+        requires text { IsBlock block.now }
+        requires inner { InnerHashIsRight block.now }
+        requires short { length (block_text block.now) ≤ longest_block }
+        ensures { IfOk result (FirstBad verdicts.now self.now.chain block.now) }
+    {
+        trial(self.alloc, &self.kept, block, &block.inner_hash, verdicts)
     }
 
     /// Does nothing. Its clauses say that each block of the chain is one in range, whose text is no longer than blocks are read, and breaks no

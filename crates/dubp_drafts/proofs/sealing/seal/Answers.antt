@@ -1,21 +1,12 @@
 use Rattle.std.proofs.Common.{ap, sym, ◌∙◌}
 use Rattle.dubp_atoms.specs.Hashing.{hash_of}
-use Rattle.dubp_block.specs.Text.{signed_text}
-use Rattle.dubp_drafts.proofs.Hashed.{signed_text-signed}
+use Rattle.dubp_drafts.proofs.WithHash.{inner_text-with_hash, sealed_again}
 use Rattle.dubp_drafts.proofs.sealing.seal.Goals as goal
 
-pub returns-in-None-clause-sealed : goal.returns-in-None-clause-sealed
-returns-in-None-clause-sealed c = rw (← c.inner_hash_of-block.ensures) c.in-None.ensures.none
+pub seal_hashed-requires-clause-inner : goal.seal_hashed-requires-clause-inner
+seal_hashed-requires-clause-inner c =
+    let hash = c.inner_hash_of-block.result in
+    c.inner_hash_of-block.ensures ∙ sym (ap hash_of (inner_text-with_hash c.args.draft hash))
 
-pub returns-in-Some-clause-sealed : goal.returns-in-Some-clause-sealed
-returns-in-Some-clause-sealed c =
-    record {
-      nonce = c.in-Some.nonce;
-      within = c.in-Some.ensures.within;
-      block_is = rw (← c.inner_hash_of-block.ensures) c.signed.ensures.block;
-      meets = rw c.signed.ensures.block c.in-Some.ensures.meets;
-      least = rw (← c.inner_hash_of-block.ensures) c.in-Some.ensures.least;
-      key_is = c.signed.ensures.key;
-      message_is = c.signed.ensures.message ∙ sym (ap hash_of (ap signed_text c.signed.ensures.block ∙ signed_text-signed _));
-      sig_is = c.signed.ensures.sig;
-    }
+pub returns-clause-sealed : goal.returns-clause-sealed
+returns-clause-sealed c = sealed_again c.args.draft c.inner_hash_of-block.result c.args.difficulty c.seal_hashed.result c.seal_hashed.ensures.sealed

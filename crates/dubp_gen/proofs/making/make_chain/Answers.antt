@@ -6,6 +6,8 @@ use Rattle.dubp_ledger.specs.Traces.{IsShort}
 use Rattle.dubp_block.specs.declared.block.Block.{Block}
 use Rattle.dubp_gen.specs.Generated.{IsMade}
 use Rattle.dubp_gen.specs.Making.{IsOfMade, made_of}
+use Rattle.dubp_validity.specs.LocalRules.{InnerHashIsRight}
+use Rattle.dubp_gen.proofs.InnerHashes.{are_right}
 use Rattle.dubp_gen.proofs.Rounds.{made_length, of_made_next}
 use Rattle.dubp_gen.proofs.making.make_chain.Goals as goal
 
@@ -40,3 +42,6 @@ returns-clause-blocks g c = subst (AllByRecursion IsBlock) c.loop.invariant.of_m
 
 pub returns-clause-short : goal.returns-clause-short
 returns-clause-short g c = subst (AllByRecursion IsShort) c.loop.invariant.of_made.chain c.laws.ensures.short
+
+pub returns-clause-hashed : goal.returns-clause-hashed
+returns-clause-hashed g c = subst (AllByRecursion InnerHashIsRight) c.loop.invariant.of_made.chain (are_right _ c.laws.ensures.sound)

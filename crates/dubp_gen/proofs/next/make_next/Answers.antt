@@ -1,7 +1,11 @@
 use Rattle.std.proofs.lemmas.Result.{err_from_is_err_and}
 use Rattle.dubp_gen.specs.declared.chain.Chain.{Chain}
+use Rattle.dubp_gen.proofs.Sealing.{has_inner_hash}
 use Rattle.dubp_gen.proofs.Rounds.{IsRound, ended_by, made_next, not_sealed, round_of, verdicts_next}
 use Rattle.dubp_gen.proofs.next.make_next.Goals as goal
+
+pub join-requires-clause-inner : goal.join-requires-clause-inner
+join-requires-clause-inner g c = has_inner_hash c.args.ledger.now.chain c.in-Ok.drafted.block c.in_ok-sealed.sealed c.in_ok-sealed.ensures.sealed
 
 pub returns-clause-made : goal.returns-clause-made
 returns-clause-made g c =
