@@ -2,4 +2,3 @@ pub mod Generated
 pub mod Making
 pub mod OfLedger
 pub mod Spendable
-pub mod OfValidity

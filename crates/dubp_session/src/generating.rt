@@ -2,6 +2,7 @@ ghost use Rattle.std.specs.Prelude.{◌≡◌, ◌≤◌, ◌++◌, List, ℕ, O
 ghost use Rattle.std.specs.List.{AllByRecursion};
 ghost use Rattle.dubp_block.specs.Text.{IsBlock};
 ghost use Rattle.dubp_gen.specs.OfLedger.{IsShort};
+ghost use Rattle.dubp_validity.specs.LocalRules.{InnerHashIsRight};
 ghost use Rattle.dubp_gen.specs.Generated.{IsMade};
 ghost use Rattle.dubp_gen.specs.Making.{made_of};
 ghost use Rattle.dubp_entries.specs.Run.{at};
@@ -67,6 +68,7 @@ fn show<T: PeopleAndMoney, K: Sink, L: StepBook>(
     requires made { IsMade start n (made_of chain) }
     requires blocks { AllByRecursion IsBlock (reverse chain.blocks.items) }
     requires short { AllByRecursion IsShort (reverse chain.blocks.items) }
+    requires hashed { AllByRecursion InnerHashIsRight (reverse chain.blocks.items) }
     ensures ends { (left : Option (List ℕ)) → GenEnds n start (at node.old left (K.held sink.old)) (at node.new left (K.held sink.new)) result }
     ensures faults { GenFaults (K.faults sink.old) (K.faults sink.new) result }
 {
@@ -87,6 +89,7 @@ fn give<T: PeopleAndMoney, L: StepBook>(
 ) -> Result<(), NoMemory>
     requires blocks { AllByRecursion IsBlock (reverse chain.blocks.items) }
     requires short { AllByRecursion IsShort (reverse chain.blocks.items) }
+    requires hashed { AllByRecursion InnerHashIsRight (reverse chain.blocks.items) }
     ensures all { OnOk result (IsGivenAll (commands_of (made_of chain)) node.old node.new) }
     ensures front { OnErr result (IsGivenFront (commands_of (made_of chain)) node.old node.new) }
 {
@@ -120,6 +123,7 @@ fn give_blocks<T: PeopleAndMoney, L: StepBook>(
 ) -> Result<(), NoMemory>
     requires blocks { AllByRecursion IsBlock blocks.items }
     requires short { AllByRecursion IsShort blocks.items }
+    requires hashed { AllByRecursion InnerHashIsRight blocks.items }
     ensures all { OnOk result (IsGivenAll (map block_given (reverse blocks.items)) node.old node.new) }
     ensures front { OnErr result (IsGivenFront (map block_given (reverse blocks.items)) node.old node.new) }
 {

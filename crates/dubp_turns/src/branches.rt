@@ -6,6 +6,7 @@ ghost use Rattle.dubp_turns.specs.Told.{told_text};
 ghost use Rattle.dubp_atoms.specs.Hashing.{hash_of};
 ghost use Rattle.dubp_block.specs.Text.{IsBlock, block_text, inner_text, stamp_of as block_stamp};
 ghost use Rattle.dubp_block.specs.declared.block.Block.{Block as BlockValue};
+ghost use Rattle.dubp_validity.specs.LocalRules.{InnerHashIsRight};
 ghost use Rattle.dubp_validity.specs.Rules.{IsSound, IsValid, longest_block};
 ghost use Rattle.dubp_verdict.specs.Verdicts.{verdict_of, with_verdict};
 ghost use Rattle.dubp_turns.specs.Deciding.{ShortBlockActs, Decided, IsDecided, TakesTurn};
@@ -23,7 +24,7 @@ use crate::stating::{
 use crate::told::{Told, tell};
 use dubp_atoms::{Hash, Key, Line, NoMemory, Secret, Sig, Stamp, Steps};
 use dubp_block::laws::blocks_have_one_text;
-use dubp_block::{Block, HashedBlock, ReadRefusal, inner_hash_of, read_hashed_block};
+use dubp_block::{Block, HashedBlock, ReadRefusal, read_hashed_block};
 use dubp_forks::{
     Ledger, OfferRefusal, PeopleAndMoney, Store, SubmitRefusal, SwitchRefusal, TooDeep,
 };
@@ -276,7 +277,7 @@ impl<T: PeopleAndMoney> Branches<T> {
         }
     }
 
-    /// Takes the turn of a block of a chain that was generated. `NoMemory` leaves all as before.
+    /// Takes the turn of a block of a chain that was generated, whose InnerHash is right. `NoMemory` leaves all as before.
     pub fn give_block<L: StepBook>(
         &mut self,
         block: Block,
@@ -284,11 +285,12 @@ impl<T: PeopleAndMoney> Branches<T> {
     ) -> Result<(), NoMemory>
         requires text { IsBlock block }
         requires short { length (block_text block) ≤ longest_block }
+        requires inner { InnerHashIsRight block }
         ensures given { OnOk result (TakesTurn self.old (block_text block) self.new) }
         ensures refused { OnErr result (self.new ≡ self.old) }
     {
         blocks_have_one_text();
-        let inner = inner_hash_of(&block);
+        let inner = block.inner_hash;
         match self.decide(block, &inner, steps) {
             Ok(_) => Ok(()),
             Err(SubmitRefusal::Refused { .. }) => Ok(()),

@@ -4,6 +4,7 @@ ghost use Rattle.dubp_turns.specs.Acting.{Acts, OfferActs, PendActs};
 ghost use Rattle.dubp_replay.specs.AnswerBytes.{answer_bytes};
 ghost use Rattle.dubp_turns.specs.Told.{told_text};
 ghost use Rattle.dubp_block.specs.Text.{IsBlock, block_text};
+ghost use Rattle.dubp_validity.specs.LocalRules.{InnerHashIsRight};
 ghost use Rattle.dubp_validity.specs.Rules.{IsValid, longest_block};
 ghost use Rattle.dubp_turns.specs.Given.{IsGivenAll, block_given, verdict_given};
 ghost use Rattle.dubp_replay.specs.OneLine.{IsShort, query_of};
@@ -249,7 +250,7 @@ impl<T: PeopleAndMoney> Node<T> {
         let_go(&self.branches, &mut self.failures);
     }
 
-    /// Takes the turn of a block of a chain that was generated. `NoMemory` leaves the node as before.
+    /// Takes the turn of a block of a chain that was generated, whose InnerHash is right. `NoMemory` leaves the node as before.
     pub fn give_block<L: StepBook>(
         &mut self,
         block: Block,
@@ -257,6 +258,7 @@ impl<T: PeopleAndMoney> Node<T> {
     ) -> Result<(), NoMemory>
         requires text { IsBlock block }
         requires short { length (block_text block) ≤ longest_block }
+        requires inner { InnerHashIsRight block }
         ensures given { OnOk result (IsGivenAll (block_given block ∷ []) self.old self.new) }
         ensures refused { OnErr result (self.new ≡ self.old) }
     {

@@ -1,5 +1,6 @@
 use Rattle.std.proofs.Common.{◌∙◌, ◌++◌, ap, option_to_list}
 use Rattle.dubp_block.specs.Text.{IsBlock}
+use Rattle.dubp_validity.specs.LocalRules.{InnerHashIsRight}
 use Rattle.dubp_gen.specs.OfLedger.{IsShort}
 use Rattle.dubp_session.proofs.Givens.{blocks_more, blocks_none, of_last}
 use Rattle.dubp_session.proofs.generating.give_blocks.Goals as goal
@@ -16,6 +17,11 @@ pub give_block-requires-clause-short : goal.give_block-requires-clause-short
 give_block-requires-clause-short g c =
     let last = c.pop.ensures.items ∙ ap (λ r. c.pop.new.self.items ++ option_to_list r) c.in-Some.is in
     of_last IsShort c.args.blocks.items c.loop-block.blocks.items c.pop.new.self.items c.in-Some.block c.args.node.now c.loop-block.node c.loop-block.invariant last c.requires.short
+
+pub give_block-requires-clause-inner : goal.give_block-requires-clause-inner
+give_block-requires-clause-inner g c =
+    let last = c.pop.ensures.items ∙ ap (λ r. c.pop.new.self.items ++ option_to_list r) c.in-Some.is in
+    of_last InnerHashIsRight c.args.blocks.items c.loop-block.blocks.items c.pop.new.self.items c.in-Some.block c.args.node.now c.loop-block.node c.loop-block.invariant last c.requires.hashed
 
 pub loop-block-preserved : goal.loop-block-preserved
 loop-block-preserved g c =
