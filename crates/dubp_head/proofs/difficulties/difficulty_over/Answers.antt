@@ -1,8 +1,6 @@
-use Rattle.std.proofs.Common.{◌≡◌, ◌-◌, length, ap, ◌∙◌, arith}
-use Rattle.std.specs.Option.{option_map_or}
+use Rattle.std.proofs.Common.{◌-◌, length, ◌∙◌, arith}
 use Rattle.std.proofs.lemmas.List.Sums.{count_by-le-length}
 use Rattle.dubp_atoms.specs.Same.{same_text}
-use Rattle.dubp_chain.specs.Heads.{last_issued}
 use Rattle.dubp_head.proofs.Bounds.{newest_bounds, are_small}
 use Rattle.dubp_head.proofs.NextHeads.{told_by, last_issuers-le, blocks_since-le, difficulty_is}
 use Rattle.dubp_head.proofs.difficulties.difficulty_over.Goals as goal
