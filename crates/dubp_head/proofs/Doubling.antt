@@ -1,14 +1,12 @@
--- Twice the median of some numbers is the median of their doubles, so it depends only on how often each number is there, and of
--- numbers in rising order it is the sum of the middle two.
-use Rattle.std.proofs.Common.{◌≡◌, ℕ, zero, suc, ◌+◌, ◌-◌, ◌*◌, ◌/◌, ◌<◌, ◌≤◌, Bool, true, false, cond, ◌&&◌, ◌==◌, List, [], ◌∷◌, map, Some, length, get_or, slice_index, find, unwrap_or, refl, ap, sym, ◌∙◌, nat_lt, nat_le, arith, IsPermutation}
+-- Twice the median of some numbers is the median of their doubles, so it depends only on how often each number is there.
+use Rattle.std.proofs.Common.{◌≡◌, ℕ, ◌+◌, ◌-◌, ◌*◌, ◌/◌, Bool, true, false, cond, ◌&&◌, ◌==◌, List, [], ◌∷◌, map, Some, length, find, unwrap_or, refl, ap, sym, ◌∙◌, nat_lt, nat_le, arith, IsPermutation}
 use Rattle.std.specs.List.{sum_by}
-use Rattle.std.specs.List.Sorted.{IsNonDecreasing}
 use Rattle.std.proofs.lemmas.Bool.Decides.{nat_tests}
 use Rattle.std.proofs.lemmas.List.{length-map}
 use Rattle.std.proofs.lemmas.List.Sums.{sum_by-cons}
 use Rattle.std.proofs.lemmas.List.Sorted.{sum_by-IsPermutation}
 use Rattle.dubp_time.specs.Median.{count_of, count_below, count_up_to, has_rank, ranked, mean_of_middle, median_of}
-use Rattle.dubp_time.proofs.MedianLaws.{median_of_same, median_of_rising}
+use Rattle.dubp_time.proofs.MedianLaws.{median_of_same}
 use Rattle.dubp_chain.specs.Heads.{doubled_median}
 
 abbrev doubles : List ℕ → List ℕ
@@ -71,24 +69,3 @@ same_doubles ms ns moved m = in_doubles ms ∙ sym (sum_by-IsPermutation (λ t. 
 pub doubled_median-permutation : (ms ns : List ℕ) → IsPermutation ms ns → doubled_median ms ≡ doubled_median ns
 doubled_median-permutation ms ns moved =
     median_of-doubles ms ∙ ap (λ o. unwrap_or o 0) (median_of_same (doubles ms) (doubles ns) (record { each = same_doubles ms ns moved })) ∙ sym (median_of-doubles ns)
-
-get_or-doubles : (ns : List ℕ) (i d : ℕ) → i < length ns → get_or (doubles ns) i d ≡ 2 * get_or ns i d
-get_or-doubles [] i d lt = absurd (omega arith)
-get_or-doubles (n ∷ ns) zero d lt = refl
-get_or-doubles (n ∷ ns) (suc i) d lt = get_or-doubles ns i d (omega arith)
-
-doubles_rise : (ns : List ℕ) → IsNonDecreasing ns → IsNonDecreasing (doubles ns)
-doubles_rise ns rising i j d le lt =
-    let within : j < length ns = omega (arith, lt, length-map ns (λ m. 2 * m)) in
-    let up : get_or ns i d ≤ get_or ns j d = rising i j d le within in
-    omega (arith, get_or-doubles ns i d (omega arith), get_or-doubles ns j d within)
-
--- in rising order it is the sum of the middle two
-pub doubled_median-rising : (ns : List ℕ) → 0 < length ns → IsNonDecreasing ns → doubled_median ns ≡ slice_index ns ((length ns - 1) / 2) + slice_index ns (length ns / 2)
-doubled_median-rising ns some rising =
-    let n = length ns in
-    let long : length (doubles ns) ≡ n = length-map ns (λ m. 2 * m) in
-    let rise = median_of_rising (doubles ns) (omega arith) (doubles_rise ns rising) in
-    median_of-doubles ns ∙ ap (λ o. unwrap_or o 0) rise
-    ∙ ap (λ k. (slice_index (doubles ns) ((k - 1) / 2) + slice_index (doubles ns) (k / 2)) / 2) long
-    ∙ omega (arith, get_or-doubles ns ((n - 1) / 2) 0 (omega arith), get_or-doubles ns (n / 2) 0 (omega arith))

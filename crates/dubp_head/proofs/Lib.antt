@@ -9,5 +9,6 @@ pub mod LastTimes
 pub mod NextHeads
 pub mod Powers
 pub mod SameRules
+pub mod Selecting
 pub mod Sizes
 pub mod Stated

@@ -1,5 +1,5 @@
 -- The next head behind a head that is there, its money and its limits, as the code computes them from the newest head.
-use Rattle.std.proofs.Common.{◌≡◌, ℕ, zero, suc, ◌+◌, ◌-◌, ◌/◌, ◌^◌, ◌<◌, ◌≤◌, List, [], ◌∷◌, map, take, Option, Some, None, length, slice_get, slice_index_or, refl, ap, subst, sym, ◌∙◌, inl, inr, ◌↔◌, IsTrue, nat_lt, ltb-true, lt-ltb, arith}
+use Rattle.std.proofs.Common.{◌≡◌, ℕ, zero, suc, ◌+◌, ◌-◌, ◌/◌, ◌^◌, ◌<◌, ◌≤◌, List, [], ◌∷◌, map, take, Option, Some, None, MatchOption, Bor, length, slice_get, slice_index_or, refl, ap, subst, sym, ◌∙◌, inl, inr, ◌↔◌, IsTrue, nat_lt, ltb-true, lt-ltb, arith}
 use Rattle.std.specs.List.{AllByRecursion}
 use Rattle.std.specs.Option.{option_map_or}
 use Rattle.std.proofs.lemmas.List.{length-map, length-take}
@@ -147,6 +147,12 @@ refused p count hs b h head rule e is =
     (λ f. passes_from_money p count hs b h rule e f)
 
 -- The parts of a difficulty.
+
+-- what a borrow that may be there tells is what its value tells
+pub told_by : {X : Type 0} (f : X → ℕ) (own : Option (Bor X)) (o : Option X) → MatchOption own (o ≡ None) (λ h. o ≡ Some h.now) → option_map_or (λ h. f h.now) own 0 ≡ option_map_or f o 0
+told_by f None o is = ap (λ x. option_map_or f x 0) (sym is)
+told_by f (Some h) o is = ap (λ x. option_map_or f x 0) (sym is)
+
 pub last_issuers-le : (hs : List Head) (k : Text) → AllByRecursion IsSmall hs → option_map_or (λ h. h.issuers) (last_issued hs k) 0 ≤ 2 ^ 40
 last_issuers-le hs k all =
     elim (last_issued hs k) as (λ o. last_issued hs k ≡ o → option_map_or (λ h. h.issuers) o 0 ≤ 2 ^ 40) [

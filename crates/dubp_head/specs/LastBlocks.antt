@@ -16,6 +16,11 @@ abbrev pub last_place : List Text → Text → Option ℕ
 last_place [] k = None
 last_place (i ∷ is) k = if same_text k i then Some (length is) else last_place is k
 
+-- of issuers, newest first: the place of the last block of some key
+pub record IsLastOfSome (issuers : List Text) (last : Option ℕ) : Type 0 where
+  pub key : Text
+  pub is : last ≡ last_place issuers key
+
 -- of issuers, newest first: for each block the place of the block that its issuer issued before
 abbrev pub places_before : List Text → List (Option ℕ)
 places_before [] = []

@@ -1,6 +1,5 @@
 ghost use Rattle.std.specs.Prelude.{◌≡◌, ◌<◌, ◌≤◌, ◌^◌, List, [], ◌∷◌, length, Some, None, IfOk, IfSome};
-ghost use Rattle.std.specs.List.{All};
-ghost use Rattle.std.specs.List.Sorted.{IsNonDecreasing};
+ghost use Rattle.std.specs.List.{All, Contains};
 ghost use Rattle.dubp_atoms.specs.Same.{Text};
 ghost use Rattle.dubp_chain.specs.Heads.{blocks_of, doubled_median as doubled};
 ghost use Rattle.dubp_head.specs.LastBlocks.{last_place};
@@ -115,9 +114,8 @@ impl Counts {
         requires { All (λ n. n < 2 ^ 63) self.now.counts }
         ensures { IfOk result (λ median. median ≡ doubled self.now.counts) }
     {
-        let mut rising = copy_of(alloc, &self.counts)?;
-        rising.sort_unstable();
-        Ok(sum_of_middle(rising.as_slice()))
+        let mut counts = copy_of(alloc, &self.counts)?;
+        Ok(sum_of_middle(&mut counts))
     }
 }
 
@@ -127,14 +125,31 @@ fn copy_of(alloc: Global, counts: &[u64]) -> Result<Vec<u64>, NoMemory>
     Vec::from_slice(alloc, counts).map_err(|_| NoMemory)
 }
 
-// Twice the median: twice the middle one, or the sum of the middle two.
-fn sum_of_middle(rising: &[u64]) -> u64
-    requires rising { IsNonDecreasing rising.now }
-    requires small { All (λ n. n < 2 ^ 63) rising.now }
-    ensures { result ≡ doubled rising.now }
+// Twice the median: twice the middle one, or the sum of the middle two. The numbers change their places, and are not put into order.
+fn sum_of_middle(numbers: &mut [u64]) -> u64
+    requires { All (λ n. n < 2 ^ 63) numbers.old }
+    ensures { result ≡ doubled numbers.old }
 {
-    let Some(last) = rising.len().checked_sub(1) else {
+    let count = numbers.len();
+    if count == 0 {
         return 0;
-    };
-    rising[last / 2] + rising[rising.len() / 2]
+    }
+    let (before, upper, _) = numbers.select_nth_unstable(count / 2);
+    if count % 2 == 1 {
+        *upper + *upper
+    } else {
+        greatest(before) + *upper
+    }
+}
+
+// The greatest of the numbers; 0 where there is none.
+fn greatest(numbers: &[u64]) -> u64
+    ensures bound { All (λ n. n ≤ result) numbers.now }
+    ensures among { 0 < length numbers.now → Contains numbers.now result }
+{
+    let mut greatest = 0;
+    for number in numbers {
+        greatest = greatest.max(*number);
+    }
+    greatest
 }

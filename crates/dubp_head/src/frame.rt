@@ -1,7 +1,8 @@
 ghost use Rattle.std.specs.Prelude.{◌≡◌, IfOk, map};
 ghost use Rattle.std.specs.Set.{distinct_count, unique_keys};
-ghost use Rattle.dubp_atoms.specs.Same.{same_text};
+ghost use Rattle.dubp_atoms.specs.Same.{Text, same_text};
 ghost use Rattle.dubp_chain.specs.Heads.{blocks_of, doubled_median as doubled};
+ghost use Rattle.dubp_head.specs.LastBlocks.{last_place, IsLastOfSome};
 ghost use Rattle.dubp_head.specs.Frames.{frame_issuers, frame_of, place_behind, IsFrameOf};
 
 use crate::counts::Counts;
@@ -56,9 +57,18 @@ impl Frame {
         requires { self.now ≡ frame_issuers heads.now.list }
         ensures { result ≡ blocks_of self.now key.now }
     {
+        self.blocks_of_last(heads, heads.last_place(key))
+    }
+
+    /// How many of its blocks a key issued, from the place of its last block among the heads. The frame is that of the heads. It takes
+    /// no memory, and looks no key up.
+    pub(crate) fn blocks_of_last(&self, heads: &Heads, last: Option<usize>) -> u64
+        requires heads { self.now ≡ frame_issuers heads.now.list }
+        requires last { IsLastOfSome (map (λ h. h.issuer) heads.now.list) last }
+        ensures { (k : Text) → last ≡ last_place (map (λ h. h.issuer) heads.now.list) k → result ≡ blocks_of self.now k }
+    {
         let start = heads.len() - self.counts.blocks();
-        self.counts
-            .of_last(place_behind(start, heads.last_place(key)))
+        self.counts.of_last(place_behind(start, last))
     }
 
     /// Twice the median of the blocks per issuer, over its issuers.

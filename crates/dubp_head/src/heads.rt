@@ -2,7 +2,8 @@ ghost use Rattle.std.specs.Prelude.{◌≡◌, [], ◌∷◌, ◌<◌, ◌≤◌
 ghost use Rattle.std.specs.Option.{option_map};
 ghost use Rattle.dubp_params.specs.Ranges.{IsInRange};
 ghost use Rattle.dubp_chain.specs.Heads.{newest, last_issued};
-ghost use Rattle.dubp_head.specs.LastBlocks.{last_place, places_before};
+ghost use Rattle.dubp_atoms.specs.Same.{Text};
+ghost use Rattle.dubp_head.specs.LastBlocks.{last_place, places_before, IsLastOfSome};
 ghost use Rattle.dubp_head.specs.HeadsStates.{AreOver, KeepsRoom, median_over};
 
 use crate::issuers::Issuers;
@@ -149,10 +150,7 @@ impl Heads {
     pub fn last_of(&self, key: &Key) -> Option<&Head>
         ensures { MatchOption result (last_issued self.now.list key.now ≡ None) (λ h. last_issued self.now.list key.now ≡ Some h.now) }
     {
-        match self.issuers.last_of(key) {
-            Some(place) => Some(&self.heads[place]),
-            None => None,
-        }
+        self.at_last(self.last_place(key))
     }
 
     /// The place of the last block that the key issued, counted from the oldest. None exactly where it issued none. It takes no
@@ -161,6 +159,19 @@ impl Heads {
         ensures { result ≡ last_place (map (λ h. h.issuer) self.now.list) key.now }
     {
         self.issuers.last_of(key)
+    }
+
+    /// The head of the last block that a key issued, from the place of that block. None exactly where there is no place. It takes no
+    /// memory, and looks no key up.
+    pub(crate) fn at_last(&self, last: Option<usize>) -> Option<&Head>
+        requires { IsLastOfSome (map (λ h. h.issuer) self.now.list) last }
+        ensures { (k : Text) → last ≡ last_place (map (λ h. h.issuer) self.now.list) k
+            → MatchOption result (last_issued self.now.list k ≡ None) (λ h. last_issued self.now.list k ≡ Some h.now) }
+    {
+        match last {
+            Some(place) => Some(&self.heads[place]),
+            None => None,
+        }
     }
 
     /// For each of the last so many blocks, or of all where there are fewer, the place of the block that its issuer issued before,

@@ -63,10 +63,9 @@ impl Issuers {
         ensures issuers { (keys : List Text) → AreIssuers self.old keys → AreIssuers self.new (key ∷ keys) }
         ensures room { self.new.room ≡ self.old.room }
     {
-        let earlier = self.last.get(&key);
         let place = self.before.len();
+        let earlier = self.last.replace(key, place);
         self.before.push_reserved(earlier);
-        self.last.set(key, place);
     }
 
     /// Takes the last block off, which is of this issuer. It takes no memory.
@@ -77,7 +76,9 @@ impl Issuers {
     {
         let earlier = self.before.pop().unwrap_or(None);
         match earlier {
-            Some(place) => self.last.set(*key, place),
+            Some(place) => {
+                self.last.replace(*key, place);
+            }
             None => self.last.remove(key),
         }
     }

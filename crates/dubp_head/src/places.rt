@@ -60,19 +60,26 @@ impl Places {
         }
     }
 
-    /// Gives the key this place. There is room for it where it has none yet. It takes no memory.
-    pub(crate) fn set(&mut self, key: Key, place: usize)
+    /// Gives the key this place, and tells the one that it had; none where it had none. There is room for it where it has none yet.
+    /// It takes no memory, and looks the key up once.
+    pub(crate) fn replace(&mut self, key: Key, place: usize) -> Option<usize>
         requires { lookup (same_text key) self.old.entries ≡ None → length self.old.entries < self.old.capacity }
+        ensures earlier { result ≡ lookup (same_text key) self.old.entries }
         ensures places { (k : Text) → lookup (same_text k) self.new.entries
             ≡ (if same_text k key then Some place else lookup (same_text k) self.old.entries) }
         ensures len { length self.new.entries ≡ length self.old.entries + (if is_some (lookup (same_text key) self.old.entries) then 0 else 1) }
         ensures capacity { self.new.capacity ≡ self.old.capacity }
     {
         match self.search(&key) {
-            Ok(at) => self.pairs[at] = (key, place),
+            Ok(at) => {
+                let earlier = self.pairs[at].1;
+                self.pairs[at] = (key, place);
+                Some(earlier)
+            }
             Err(at) => {
                 let inserted = self.pairs.insert(at, (key, place));
                 prove!(inserted.is_ok());
+                None
             }
         }
     }

@@ -8,8 +8,8 @@ pub returns-in-Some-clause-issuers : goal.returns-in-Some-clause-issuers
 returns-in-Some-clause-issuers c keys kept =
     let was : AreIssuers _ _ = subst (λ s. AreIssuers s (c.args.key.now ∷ keys)) (sym c.self.view_is) kept in
     let there : 0 < length c.self.inside.before.items → IsSome c.pop.result = λ some. c.pop.ensures.variant.1 (omega (arith, c.self.inside.before.ok.0)) in
-    let same = c.set.ensures.len ∙ ap (λ b. length c.self.inside.last.entries + (if b then 0 else 1)) (last-IsSome _ _ keys was) in
-    AreIssuers-pop _ _ c.args.key.now keys c.pop.result (Some c.in-Some.place) was c.pop.ensures.items there (sym c.in-Some.is ∙ c.unwrap_or-earlier.ensures) c.set.ensures.places (omega (arith, same))
+    let same = c.replace.ensures.len ∙ ap (λ b. length c.self.inside.last.entries + (if b then 0 else 1)) (last-IsSome _ _ keys was) in
+    AreIssuers-pop _ _ c.args.key.now keys c.pop.result (Some c.in-Some.place) was c.pop.ensures.items there (sym c.in-Some.is ∙ c.unwrap_or-earlier.ensures) c.replace.ensures.places (omega (arith, same))
 
 -- it was his only block
 pub returns-in-None-clause-issuers : goal.returns-in-None-clause-issuers

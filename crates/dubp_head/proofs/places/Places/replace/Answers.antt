@@ -9,7 +9,16 @@ use Rattle.std.proofs.lemmas.List.{length-set}
 use Rattle.std.proofs.lemmas.List.Edits.{length-insert}
 use Rattle.dubp_head.specs.Entries.{PlacesState, IsRising, IsGapFor}
 use Rattle.dubp_head.proofs.Entries.{lookup_at, lookup_gap, lookup_set, lookup_insert, rising_insert}
-use Rattle.dubp_head.proofs.places.Places.set.Goals as goal
+use Rattle.dubp_head.proofs.places.Places.replace.Goals as goal
+
+pub returns-in-Ok-clause-earlier : goal.returns-in-Ok-clause-earlier
+returns-in-Ok-clause-earlier c =
+    let seen : c.self.inside.pairs.items ≡ c.args.self.now.entries = ap (λ (v : PlacesState). v.entries) c.self.view_is in
+    let found = lookup_at _ (subst IsRising seen c.self.invariant) _ _ c.in-Ok.ensures.found c.index.result.now in
+    cc
+
+pub returns-in-Err-clause-earlier : goal.returns-in-Err-clause-earlier
+returns-in-Err-clause-earlier c = sym (lookup_gap _ _ _ c.in-Err.ensures.absent)
 
 -- the place was written over
 pub returns-in-Ok-clause-places : goal.returns-in-Ok-clause-places
