@@ -217,12 +217,7 @@ impl<T: PeopleAndMoney> Branches<T> {
         self.act_short_block(frame, line, steps);
     }
 
-    fn act_short_block<L: StepBook>(
-        &mut self,
-        frame: &[u8],
-        line: &mut Line,
-        steps: &mut Steps<L>,
-    )
+    fn act_short_block<L: StepBook>(&mut self, frame: &[u8], line: &mut Line, steps: &mut Steps<L>)
         requires { line.old.items ≡ [] }
         ensures { length frame.now ≤ longest_block → ShortBlockActs self.old frame.now line.new.items self.new }
     {

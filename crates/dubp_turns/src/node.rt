@@ -14,9 +14,7 @@ ghost use Rattle.dubp_replay.specs.declared.command.Command.TheVariants.{Ask as 
 use crate::branches::Branches;
 use crate::choosing::{choose_behind, let_go, resolve};
 use crate::forging::forge_on;
-use crate::stating::{
-    put_forgotten, put_no_memory, put_offer, put_one, put_refused, put_unknown,
-};
+use crate::stating::{put_forgotten, put_no_memory, put_offer, put_one, put_refused, put_unknown};
 use crate::texts::{failures_text, put_pend};
 use crate::told::Told;
 use arrayvec::ArrayVec;
@@ -277,12 +275,7 @@ impl<T: PeopleAndMoney> Node<T> {
     }
 
     // The node chooses from now on, and at once; or no longer.
-    fn set_auto<L: StepBook>(
-        &mut self,
-        on: bool,
-        line: &mut Line,
-        steps: &mut Steps<L>,
-    ) -> Told
+    fn set_auto<L: StepBook>(&mut self, on: bool, line: &mut Line, steps: &mut Steps<L>) -> Told
         requires { line.old.items ≡ [] }
         ensures { (frame : List ℕ) → Acts self.old (AutoCommand on) frame (told_text line.new.items result) self.new }
     {
@@ -391,12 +384,7 @@ impl<T: PeopleAndMoney> Node<T> {
     }
 
     // The block goes to the end of the store, and the node chooses, if it does so by itself; or the first reason against the block is named.
-    fn offer<L: StepBook>(
-        &mut self,
-        frame: &[u8],
-        line: &mut Line,
-        steps: &mut Steps<L>,
-    ) -> Told
+    fn offer<L: StepBook>(&mut self, frame: &[u8], line: &mut Line, steps: &mut Steps<L>) -> Told
         requires { line.old.items ≡ [] }
         ensures { length frame.now ≤ longest_block → OfferActs self.old frame.now (told_text line.new.items result) self.new }
     {
