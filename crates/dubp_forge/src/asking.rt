@@ -1,6 +1,7 @@
 ghost use Rattle.std.specs.Prelude.{◌≡◌, ◌≤◌, IfOk, OnOk, length};
 ghost use Rattle.dubp_block.specs.Text.{IsBlock};
 ghost use Rattle.dubp_chain.specs.Members.{member};
+ghost use Rattle.dubp_validity.specs.LocalRules.{InnerHashIsRight};
 ghost use Rattle.dubp_forging.specs.Drafts.{FirstBad, IsDraftOf};
 ghost use Rattle.dubp_forging.specs.Forged.{Forging, IsTried};
 ghost use Rattle.dubp_forge.specs.Steps.{IsBlank, Stands, docs_of};
@@ -120,15 +121,16 @@ impl<'a, T: PeopleAndMoney> Forge<'a, T> {
         self.first_bad(&draft.block)
     }
 
-    // The first rule that the block breaks, but for `L05` and `G62`.
+    // The first rule that the block, whose InnerHash is right, breaks, but for `L05` and `G62`.
     fn first_bad(&self, block: &Block) -> Result<Option<Rule>, NoMemory>
-        requires { IsBlock block.now }
+        requires text { IsBlock block.now }
+        requires inner { InnerHashIsRight block.now }
         ensures { IfOk result (FirstBad self.now.verdicts self.now.chain block.now) }
     {
         let text = put_block(self.alloc, block)?;
         if text.len() > LONGEST_BLOCK {
             return Ok(Some(Rule::X01));
         }
-        self.ledger.trial(block, self.verdicts)
+        self.ledger.trial_hashed(block, self.verdicts)
     }
 }

@@ -10,4 +10,4 @@ returns-then-len-gt-LONGEST_BLOCK g c =
     (omega (arith, text.ok.0, ap length c.in_ok-text.ensures, c.len.ensures, c.if-len-gt-LONGEST_BLOCK.true))
 
 pub returns : goal.returns
-returns g c = subst (λ f. IfOk c.trial.result (FirstBad f.verdicts f.chain c.args.block.now)) c.self.view_is c.trial.ensures
+returns g c = subst (λ f. IfOk c.trial_hashed.result (FirstBad f.verdicts f.chain c.args.block.now)) c.self.view_is c.trial_hashed.ensures
