@@ -1,6 +1,6 @@
 -- What is told of an identity is what the chain says.
-use Rattle.std.proofs.Common.{◌≡◌, ℕ, ◌+◌, ◌<◌, ◌^◌, Bool, true, false, ◌&&◌, List, [], ◌∷◌, Option, None, Some, refl, sym, ap, ◌∙◌, true≢false, arith}
-use Rattle.std.specs.Prelude.{option_map, unwrap_or, is_some, if◌then◌else◌, codes}
+use Rattle.std.proofs.Common.{◌≡◌, ℕ, ◌+◌, ◌<◌, ◌^◌, Bool, true, false, List, [], ◌∷◌, Option, None, Some, refl, sym, ap, ◌∙◌, true≢false, arith}
+use Rattle.std.specs.Prelude.{option_map, unwrap_or, is_some, codes}
 use Rattle.std.specs.Option.{option_map_or}
 use Rattle.std.specs.Fmt.{decimal}
 use Rattle.dubp_atoms.specs.Same.{Text, same_text}
@@ -21,15 +21,11 @@ use Rattle.dubp_people_views.specs.OfFacts.{First}
 use Rattle.dubp_iindex.specs.declared.row.IdentityRow.{IdentityRow}
 use Rattle.dubp_people_views.specs.OfLeft.{identity_entry, identity_left, member_entry, membership_left}
 use Rattle.dubp_people_views.proofs.OfLeft.{last_line-in}
-use Rattle.dubp_people_views.specs.Views.{expiry_of, state_text}
+use Rattle.dubp_people_views.specs.Views.{expiry_of, state_of, state_text}
 use Rattle.dubp_people_views.specs.declared.identities.IdentityState.{IdentityState}
 use Rattle.dubp_people_views.proofs.Small.{membership_small, params_short}
 
 -- ---- the state
-
-module _ (r m l : Bool) where
-  abbrev state_of : List ℕ
-  state_of = if r then codes "REVOKED" else if m && l then codes "LEAVING" else if m then codes "MEMBER" else codes "OUT"
 
 pub revoked_state : (r m l : Bool) → r ≡ true → codes "REVOKED" ≡ state_of r m l
 revoked_state true m l e = refl

@@ -1,5 +1,6 @@
 -- What is told of an identity, in the texts of the answer to IDENTITY. Protocol: commands and answers.
-use Rattle.std.specs.Prelude.{ℕ, ◌+◌, ◌-◌, ◌^◌, List, [], ◌∷◌, codes, Option, Some, None, min}
+use Rattle.std.specs.Prelude.{ℕ, ◌+◌, ◌-◌, ◌^◌, Bool, false, ◌&&◌, if◌then◌else◌, List, [], ◌∷◌, codes, Option, Some, None, min}
+use Rattle.std.specs.Option.{option_map_or}
 use Rattle.std.specs.Fmt.{decimal}
 use Rattle.dubp_atoms.specs.Same.{Text}
 use Rattle.dubp_people_views.specs.OfFacts.{First}
@@ -24,3 +25,13 @@ abbrev pub expiry_of : Option MemberRow → Option First → ℕ
 expiry_of None first = 0
 expiry_of (Some row) None = 0
 expiry_of (Some row) (Some first) = min (row.made + first.params.ms_validity) (2 ^ 64 - 1)
+
+abbrev pub is_revoked : Option MemberRow → Bool
+is_revoked o = option_map_or (λ (row : MemberRow). row.revoked) o false
+
+abbrev pub is_leaving : Option MemberRow → Bool
+is_leaving o = option_map_or (λ (row : MemberRow). row.leaving) o false
+
+-- how a key stands, by whether it is revoked, a member and leaving
+abbrev pub state_of : Bool → Bool → Bool → List ℕ
+state_of r m l = if r then codes "REVOKED" else if m && l then codes "LEAVING" else if m then codes "MEMBER" else codes "OUT"

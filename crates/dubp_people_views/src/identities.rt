@@ -1,10 +1,10 @@
-ghost use Rattle.std.specs.Prelude.{◌≡◌, find, option_map, unwrap_or};
+ghost use Rattle.std.specs.Prelude.{◌≡◌, find, option_map};
 ghost use Rattle.dubp_atoms.specs.Same.{same_text};
 ghost use Rattle.dubp_chain.specs.Chains.{Chain};
-ghost use Rattle.dubp_chain.specs.People.{expiry, identity, identity_lines};
+ghost use Rattle.dubp_chain.specs.People.{identity, identity_lines};
 ghost use Rattle.dubp_validity.specs.Rules.{IsSound};
-ghost use Rattle.dubp_replay.specs.Answers.{identity_values, standing};
-ghost use Rattle.dubp_people_views.specs.Views.{expiry_of, identity_texts, state_text};
+ghost use Rattle.dubp_replay.specs.Answers.{identity_values};
+ghost use Rattle.dubp_people_views.specs.Views.{expiry_of, identity_texts, is_leaving, is_revoked, state_of, state_text};
 
 use crate::{First, Registry};
 use dubp_atoms::{Key, Uid};
@@ -44,15 +44,18 @@ pub fn identity(registry: &Registry, key: Key) -> Option<IdentityView>
 {
     match registry.identity(key) {
         None => None,
-        Some(row) => Some(IdentityView {
-            key,
-            uid: row.uid,
-            written: row.written,
-            state: state(registry, key),
-            expires: expires(registry, key),
-            received: registry.received(key),
-            issued: registry.stock(key),
-        }),
+        Some(row) => {
+            let membership = registry.membership(key);
+            Some(IdentityView {
+                key,
+                uid: row.uid,
+                written: row.written,
+                state: state(row.member, membership),
+                expires: expiry(membership, registry.first()),
+                received: registry.received(key),
+                issued: registry.stock(key),
+            })
+        }
     }
 }
 
@@ -63,27 +66,40 @@ pub fn key_of(registry: &Registry, uid: Uid) -> Option<Key>
     registry.iindex().key_of(uid)
 }
 
-/// How the key stands.
-fn state(registry: &Registry, key: Key) -> IdentityState
-    ensures { (c : Chain) → ⟦<Registry as Tables<Block>>⟧.at registry.now c → IsSound c → state_text result ≡ standing c key }
+/// How a key with this membership stands.
+fn state(member: bool, membership: Option<MemberRow>) -> IdentityState
+    ensures { state_text result ≡ state_of (is_revoked membership) member (is_leaving membership) }
 {
-    if registry.is_revoked(key) {
+    if is_revoked(membership) {
         return IdentityState::Revoked;
     }
-    if !registry.is_member(key) {
+    if !member {
         return IdentityState::Out;
     }
-    if registry.is_leaving(key) {
+    if is_leaving(membership) {
         return IdentityState::Leaving;
     }
     IdentityState::Member
 }
 
-/// When the membership of the key ends, in seconds; 0 where it has none.
-fn expires(registry: &Registry, key: Key) -> u64
-    ensures { (c : Chain) → ⟦<Registry as Tables<Block>>⟧.at registry.now c → IsSound c → result ≡ unwrap_or (expiry c key) 0 }
+/// Whether the membership is revoked.
+fn is_revoked(membership: Option<MemberRow>) -> bool
+    ensures { result ≡ is_revoked membership }
 {
-    expiry(registry.membership(key), registry.first())
+    match membership {
+        Some(row) => row.revoked,
+        None => false,
+    }
+}
+
+/// Whether the last line of the membership is one of Leavers.
+fn is_leaving(membership: Option<MemberRow>) -> bool
+    ensures { result ≡ is_leaving membership }
+{
+    match membership {
+        Some(row) => row.leaving,
+        None => false,
+    }
 }
 
 /// When the membership of the row ends, in seconds; 0 where there is no row, or no parameters.
