@@ -199,7 +199,7 @@ def _bench(source: Path) -> Any:
     _bars(axes[1], "Memory, MiB", [""] * len(names), memory)
     _bars(axes[2], "A block behind so many others, µs", [row[0] for row in heights], [[_number(row[1]) for row in heights]] + (
         [[_number(row[2]) for row in heights]] if heights and len(heights[0]) > 2 else []), is_small=True)
-    axes[0].legend(loc="lower right", frameon=False)
+    axes[0].legend(loc="best", frameon=False)
     return figure
 
 
