@@ -1,10 +1,10 @@
 ghost use Rattle.std.specs.Prelude.{◌≡◌, ◌+◌, ◌≤◌, ◌++◌, length, true};
-ghost use Rattle.std.specs.List.{list_all};
 ghost use Rattle.arrayvec.specs.ArrayVec.{array_vec_len};
-ghost use Rattle.dubp_atoms.specs.Letters.{is_upper_hex, is_hash};
+ghost use Rattle.dubp_atoms.specs.Letters.{is_hash};
 ghost use Rattle.dubp_atoms.specs.Reading.{text_if};
 ghost use Rattle.dubp_atoms.specs.Hashing.{digest_text, hash_of};
 
+use crate::letters::all_upper_hex;
 use crate::line::{Line, put_bytes};
 use crate::text::Text;
 use sha2::{Digest, Sha256};
@@ -86,12 +86,6 @@ fn is_hash_text(text: &[u8]) -> bool
     ensures { result ≡ is_hash text.now }
 {
     text.len() == 64 && all_upper_hex(text)
-}
-
-fn all_upper_hex(text: &[u8]) -> bool
-    ensures { result ≡ list_all is_upper_hex text.now }
-{
-    text.iter().all(|c| matches!(*c, b'0'..=b'9' | b'A'..=b'F'))
 }
 
 // The digest in upper-case hexadecimal.

@@ -1,9 +1,9 @@
 ghost use Rattle.std.specs.Prelude.{◌≡◌, ◌+◌, ◌≤◌, ◌++◌, length, true};
-ghost use Rattle.std.specs.List.{list_all};
 ghost use Rattle.arrayvec.specs.ArrayVec.{array_vec_len};
-ghost use Rattle.dubp_atoms.specs.Letters.{is_base58, is_key};
+ghost use Rattle.dubp_atoms.specs.Letters.{is_key};
 ghost use Rattle.dubp_atoms.specs.Reading.{text_if};
 
+use crate::letters::all_base58;
 use crate::line::{Line, put_bytes};
 use crate::text::Text;
 use std::marker::Model;
@@ -67,16 +67,4 @@ fn is_key_text(text: &[u8]) -> bool
     ensures { result ≡ is_key text.now }
 {
     text.len() >= 43 && text.len() <= 44 && all_base58(text)
-}
-
-fn all_base58(text: &[u8]) -> bool
-    ensures { result ≡ list_all is_base58 text.now }
-{
-    text.iter().all(|c| is_base58_byte(*c))
-}
-
-fn is_base58_byte(c: u8) -> bool
-    ensures { result ≡ is_base58 c }
-{
-    matches!(c, b'1'..=b'9' | b'A'..=b'H' | b'J'..=b'N' | b'P'..=b'Z' | b'a'..=b'k' | b'm'..=b'z')
 }

@@ -20,6 +20,7 @@ mod hashing;
 mod items;
 mod key;
 pub mod laws;
+mod letters;
 mod line;
 mod number;
 mod secret;

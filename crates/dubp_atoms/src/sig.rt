@@ -1,9 +1,9 @@
 ghost use Rattle.std.specs.Prelude.{◌≡◌, ◌+◌, ◌≤◌, ◌++◌, length, true};
-ghost use Rattle.std.specs.List.{list_all};
 ghost use Rattle.arrayvec.specs.ArrayVec.{array_vec_len};
-ghost use Rattle.dubp_atoms.specs.Letters.{is_base64, is_sig};
+ghost use Rattle.dubp_atoms.specs.Letters.{is_sig};
 ghost use Rattle.dubp_atoms.specs.Reading.{text_if};
 
+use crate::letters::all_base64;
 use crate::line::{Line, put_bytes};
 use crate::text::Text;
 use std::marker::Model;
@@ -70,10 +70,4 @@ fn is_sig_text(text: &[u8]) -> bool
         return false;
     }
     all_base64(&text[..86]) && text[86] == b'=' && text[87] == b'='
-}
-
-fn all_base64(text: &[u8]) -> bool
-    ensures { result ≡ list_all is_base64 text.now }
-{
-    text.iter().all(|c| matches!(*c, b'0'..=b'9' | b'A'..=b'Z' | b'a'..=b'z' | b'+' | b'/'))
 }

@@ -1,6 +1,6 @@
 -- What a test of each element says of the whole list, and of two lists one after the other.
-use Rattle.std.proofs.Common.{arith, true≢false, sym, refl, take, ◌+◌, ◌≡◌, ℕ, ◌<◌, Bool, true, false, IsTrue, MatchBool, List, [], ◌∷◌, ◌++◌, length, get_or}
-use Rattle.std.specs.List.{All, AllWithin, HoldsAt, AllByRecursion}
+use Rattle.std.proofs.Common.{arith, true≢false, sym, refl, take, ◌+◌, ℕ, ◌<◌, Bool, true, false, IsTrue, MatchBool, List, [], ◌∷◌, ◌++◌, length, get_or}
+use Rattle.std.specs.List.{AllWithin, HoldsAt, AllByRecursion}
 use Rattle.std.proofs.lemmas.List.Elements.{All-from_recursion, recursion_from_All, All-from_all_within, All-more}
 
 -- some element fails

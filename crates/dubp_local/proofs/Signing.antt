@@ -1,5 +1,5 @@
 -- The two lines that the issuer of a block signs, as they are put together.
-use Rattle.std.proofs.Common.{◌≡◌, ℕ, List, [], ◌∷◌, ◌++◌, ap, ◌∙◌, append_assoc, append-nil}
+use Rattle.std.proofs.Common.{◌≡◌, ℕ, List, [], ◌∷◌, ◌++◌, append_assoc, append-nil}
 use Rattle.std.specs.Prelude.{codes}
 use Rattle.dubp_lines.specs.Lines.{unlines}
 

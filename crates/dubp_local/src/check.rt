@@ -169,6 +169,7 @@ fn first_before_l24(
     requires params { MatchOption params ⊤ (λ p. IsInRange p.now) }
     ensures { IfOk result (FirstAsked rules_before_l24 asked verdicts.now (option_copied params.entry) block.now) }
 {
+    let secret = verdicts.secret();
     Ok(first_of!(
         Rule::X02 => params_are_in_range(block),
         Rule::X07 => numbers_are_small(block),
@@ -179,20 +180,20 @@ fn first_before_l24(
         Rule::L05 => is_signed_where_asked(asked, block, verdicts),
         Rule::L06 => time_is_near(block, params),
         Rule::L07 => identities_are_signed(block, verdicts),
-        Rule::L08 => uids_stand_once(alloc, block)?,
-        Rule::L09 => identities_stand_once(alloc, block)?,
-        Rule::L10 => identities_join(alloc, block)?,
+        Rule::L08 => uids_stand_once(alloc, secret, block)?,
+        Rule::L09 => identities_stand_once(alloc, secret, block)?,
+        Rule::L10 => identities_join(alloc, secret, block)?,
         Rule::L11 => memberships_are_signed(block, verdicts),
-        Rule::L12 => moving_keys_stand_once(alloc, block)?,
-        Rule::L13 => revoked_stand_once(alloc, block)?,
-        Rule::L14 => pairs_stand_once(alloc, block)?,
+        Rule::L12 => moving_keys_stand_once(alloc, secret, block)?,
+        Rule::L13 => revoked_stand_once(alloc, secret, block)?,
+        Rule::L14 => pairs_stand_once(alloc, secret, block)?,
         Rule::L15 => nobody_certifies_themselves(block),
-        Rule::L16 => issuers_stand_once(alloc, block)?,
-        Rule::L17 => nobody_certified_parts(alloc, block)?,
+        Rule::L16 => issuers_stand_once(alloc, secret, block)?,
+        Rule::L17 => nobody_certified_parts(alloc, secret, block)?,
         Rule::L18 => transactions_are_short(block),
-        Rule::L19 => senders_stand_once(alloc, block)?,
+        Rule::L19 => senders_stand_once(alloc, secret, block)?,
         Rule::L20 => inputs_are_unlocked_once(block),
-        Rule::L21 => sources_stand_once(alloc, block)?,
+        Rule::L21 => sources_stand_once(alloc, secret, block)?,
         Rule::L22 => amounts_are_not_zero(block),
         Rule::L23 => transactions_are_balanced(block),
     ))

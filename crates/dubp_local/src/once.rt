@@ -1,29 +1,34 @@
 ghost use Rattle.std.specs.Prelude.{◌≡◌, ◌↔◌, ◌++◌, true, IfOk, IsTrue, OnErr, OnOk, cond, map, not};
-ghost use Rattle.std.specs.BTreeSet.{IsUnchanged, contains};
+ghost use Rattle.std.specs.HashSet.{IsUnchanged, contains};
 ghost use Rattle.std.specs.List.{list_all, list_any};
 ghost use Rattle.dubp_validity.specs.OfChain.{membership_lines};
 ghost use Rattle.dubp_validity.specs.OfChain.{each_once};
 ghost use Rattle.dubp_validity.specs.LocalRules.{IdentitiesJoin, IdentitiesStandOnce, IssuersStandOnce, MovingKeysStandOnce, NobodyCertifiedParts, NobodyCertifiesThemselves, PairsStandOnce, RevokedStandOnce, UidsStandOnce, moving_keys, parting_keys, revoked_keys};
 
-use dubp_atoms::{Key, NoMemory, Stamp, Uid};
+use dubp_atoms::{Key, NoMemory, Secret, Stamp, Uid};
 use dubp_block::{Block, CertLine, IdentityLine, MemberLine, RevokedLine};
 use std::alloc::Global;
-use std::collections::BTreeSet;
+use std::collections::HashSet;
+use std::hash::Hash;
 
-/// Puts the value into the set, and tells whether it was new. The set is ordered, so that no values that strangers choose make it slow.
-fn insert<T: Copy + Ord>(set: &mut BTreeSet<T>, value: T) -> Result<bool, NoMemory>
-    ensures is_new { IfOk result (λ is_new. is_new ≡ not (contains T.cmp set.old value)) }
-    ensures has { OnOk result ((k : T) → contains T.cmp set.new k ≡ cond (T.eq k value) true (contains T.cmp set.old k)) }
+/// Puts the value into the set, and tells whether it was new.
+fn insert<T: Copy + Eq + Hash>(set: &mut HashSet<T, Secret>, value: T) -> Result<bool, NoMemory>
+    ensures is_new { IfOk result (λ is_new. is_new ≡ not (contains T.eq set.old value)) }
+    ensures has { OnOk result ((k : T) → contains T.eq set.new k ≡ cond (T.eq k value) true (contains T.eq set.old k)) }
     ensures refused { OnErr result (IsUnchanged set.old set.new) }
 {
     set.insert(value).map_err(|_| NoMemory)
 }
 
-/// Whether none of the values stands twice.
-pub(crate) fn stand_once<T: Copy + Ord>(alloc: Global, values: &[T]) -> Result<bool, NoMemory>
+/// Whether none of the values stands twice. They are hashed by the secret, so that no values that strangers choose make it slow.
+pub(crate) fn stand_once<T: Copy + Eq + Hash>(
+    alloc: Global,
+    secret: Secret,
+    values: &[T],
+) -> Result<bool, NoMemory>
     ensures { IfOk result (λ once. once ≡ each_once T.eq values.now) }
 {
-    let mut seen = BTreeSet::new(alloc);
+    let mut seen = HashSet::with_hasher(alloc, secret);
     for value in values {
         if !insert(&mut seen, *value)? {
             return Ok(false);
@@ -33,41 +38,55 @@ pub(crate) fn stand_once<T: Copy + Ord>(alloc: Global, values: &[T]) -> Result<b
 }
 
 /// The set of the values.
-fn set_of<T: Copy + Ord>(alloc: Global, values: &[T]) -> Result<BTreeSet<T>, NoMemory>
-    ensures { IfOk result (λ set. (k : T) → contains T.cmp set k ≡ list_any (T.eq k) values.now) }
+fn set_of<T: Copy + Eq + Hash>(
+    alloc: Global,
+    secret: Secret,
+    values: &[T],
+) -> Result<HashSet<T, Secret>, NoMemory>
+    ensures { IfOk result (λ set. (k : T) → contains T.eq set k ≡ list_any (T.eq k) values.now) }
 {
-    let mut set = BTreeSet::new(alloc);
+    let mut set = HashSet::with_hasher(alloc, secret);
     for value in values {
         insert(&mut set, *value)?;
     }
     Ok(set)
 }
 
-fn has_all<T: Copy + Ord>(set: &BTreeSet<T>, values: &[T]) -> bool
-    ensures { result ≡ list_all (contains T.cmp set.now) values.now }
+fn has_all<T: Copy + Eq + Hash>(set: &HashSet<T, Secret>, values: &[T]) -> bool
+    ensures { result ≡ list_all (contains T.eq set.now) values.now }
 {
     values.iter().all(|value| set.contains(value))
 }
 
-fn has_none<T: Copy + Ord>(set: &BTreeSet<T>, values: &[T]) -> bool
-    ensures { result ≡ list_all (λ value. not (contains T.cmp set.now value)) values.now }
+fn has_none<T: Copy + Eq + Hash>(set: &HashSet<T, Secret>, values: &[T]) -> bool
+    ensures { result ≡ list_all (λ value. not (contains T.eq set.now value)) values.now }
 {
     values.iter().all(|value| !set.contains(value))
 }
 
 /// Whether each of the values is one of the others.
-fn are_among<T: Copy + Ord>(alloc: Global, values: &[T], others: &[T]) -> Result<bool, NoMemory>
+fn are_among<T: Copy + Eq + Hash>(
+    alloc: Global,
+    secret: Secret,
+    values: &[T],
+    others: &[T],
+) -> Result<bool, NoMemory>
     ensures { IfOk result (λ among. among ≡ list_all (λ value. list_any (T.eq value) others.now) values.now) }
 {
-    let set = set_of(alloc, others)?;
+    let set = set_of(alloc, secret, others)?;
     Ok(has_all(&set, values))
 }
 
 /// Whether none of the values is one of the others.
-fn are_apart<T: Copy + Ord>(alloc: Global, values: &[T], others: &[T]) -> Result<bool, NoMemory>
+fn are_apart<T: Copy + Eq + Hash>(
+    alloc: Global,
+    secret: Secret,
+    values: &[T],
+    others: &[T],
+) -> Result<bool, NoMemory>
     ensures { IfOk result (λ apart. apart ≡ list_all (λ value. not (list_any (T.eq value) others.now)) values.now) }
 {
-    let set = set_of(alloc, others)?;
+    let set = set_of(alloc, secret, others)?;
     Ok(has_none(&set, values))
 }
 
@@ -150,11 +169,15 @@ fn identity_uids(alloc: Global, lines: &[IdentityLine]) -> Result<Vec<Uid>, NoMe
 }
 
 /// No UID stands twice in Identities: rule `L08`.
-pub(crate) fn uids_stand_once(alloc: Global, block: &Block) -> Result<bool, NoMemory>
+pub(crate) fn uids_stand_once(
+    alloc: Global,
+    secret: Secret,
+    block: &Block,
+) -> Result<bool, NoMemory>
     ensures { IfOk result (λ holds. IsTrue holds ↔ UidsStandOnce block.now) }
 {
     let uids = identity_uids(alloc, block.identities.as_slice())?;
-    stand_once(alloc, uids.as_slice())
+    stand_once(alloc, secret, uids.as_slice())
 }
 
 /// The key of each line.
@@ -169,11 +192,15 @@ fn identity_keys(alloc: Global, lines: &[IdentityLine]) -> Result<Vec<Key>, NoMe
 }
 
 /// No key stands twice in Identities: rule `L09`.
-pub(crate) fn identities_stand_once(alloc: Global, block: &Block) -> Result<bool, NoMemory>
+pub(crate) fn identities_stand_once(
+    alloc: Global,
+    secret: Secret,
+    block: &Block,
+) -> Result<bool, NoMemory>
     ensures { IfOk result (λ holds. IsTrue holds ↔ IdentitiesStandOnce block.now) }
 {
     let keys = identity_keys(alloc, block.identities.as_slice())?;
-    stand_once(alloc, keys.as_slice())
+    stand_once(alloc, secret, keys.as_slice())
 }
 
 /// The key, the UID and the stamp of each identity.
@@ -209,32 +236,44 @@ fn joining_identities(
 }
 
 /// Each line of Identities has a line of Joiners with its key and UID, whose identity stamp is its stamp: rule `L10`.
-pub(crate) fn identities_join(alloc: Global, block: &Block) -> Result<bool, NoMemory>
+pub(crate) fn identities_join(
+    alloc: Global,
+    secret: Secret,
+    block: &Block,
+) -> Result<bool, NoMemory>
     ensures { IfOk result (λ holds. IsTrue holds ↔ IdentitiesJoin block.now) }
 {
     let named = named_identities(alloc, block.identities.as_slice())?;
     let joining = joining_identities(alloc, block.joiners.as_slice())?;
-    are_among(alloc, named.as_slice(), joining.as_slice())
+    are_among(alloc, secret, named.as_slice(), joining.as_slice())
 }
 
 /// No key stands twice in Joiners, Actives, Leavers and Excluded taken together: rule `L12`.
-pub(crate) fn moving_keys_stand_once(alloc: Global, block: &Block) -> Result<bool, NoMemory>
+pub(crate) fn moving_keys_stand_once(
+    alloc: Global,
+    secret: Secret,
+    block: &Block,
+) -> Result<bool, NoMemory>
     ensures { IfOk result (λ holds. IsTrue holds ↔ MovingKeysStandOnce block.now) }
 {
     let keys = all_moving_keys(alloc, block)?;
-    stand_once(alloc, keys.as_slice())
+    stand_once(alloc, secret, keys.as_slice())
 }
 
 /// No key stands twice in Revoked, and no key of Revoked stands in Joiners, Actives or Leavers: rule `L13`.
-pub(crate) fn revoked_stand_once(alloc: Global, block: &Block) -> Result<bool, NoMemory>
+pub(crate) fn revoked_stand_once(
+    alloc: Global,
+    secret: Secret,
+    block: &Block,
+) -> Result<bool, NoMemory>
     ensures { IfOk result (λ holds. IsTrue holds ↔ RevokedStandOnce block.now) }
 {
     let keys = all_revoked_keys(alloc, block)?;
-    if !stand_once(alloc, keys.as_slice())? {
+    if !stand_once(alloc, secret, keys.as_slice())? {
         return Ok(false);
     }
     let moving = membership_keys(alloc, block)?;
-    are_apart(alloc, keys.as_slice(), moving.as_slice())
+    are_apart(alloc, secret, keys.as_slice(), moving.as_slice())
 }
 
 /// The issuer and the receiver of each certification.
@@ -249,11 +288,15 @@ fn certified_pairs(alloc: Global, lines: &[CertLine]) -> Result<Vec<(Key, Key)>,
 }
 
 /// No pair of issuer and receiver stands twice in Certifications: rule `L14`.
-pub(crate) fn pairs_stand_once(alloc: Global, block: &Block) -> Result<bool, NoMemory>
+pub(crate) fn pairs_stand_once(
+    alloc: Global,
+    secret: Secret,
+    block: &Block,
+) -> Result<bool, NoMemory>
     ensures { IfOk result (λ holds. IsTrue holds ↔ PairsStandOnce block.now) }
 {
     let pairs = certified_pairs(alloc, block.certifications.as_slice())?;
-    stand_once(alloc, pairs.as_slice())
+    stand_once(alloc, secret, pairs.as_slice())
 }
 
 /// Nobody certifies their own key: rule `L15`.
@@ -281,14 +324,18 @@ fn certification_issuers(alloc: Global, lines: &[CertLine]) -> Result<Vec<Key>, 
 }
 
 /// Number is 0, or nobody issues two certifications in the block: rule `L16`.
-pub(crate) fn issuers_stand_once(alloc: Global, block: &Block) -> Result<bool, NoMemory>
+pub(crate) fn issuers_stand_once(
+    alloc: Global,
+    secret: Secret,
+    block: &Block,
+) -> Result<bool, NoMemory>
     ensures { IfOk result (λ holds. IsTrue holds ↔ IssuersStandOnce block.now) }
 {
     if block.number == 0 {
         return Ok(true);
     }
     let issuers = certification_issuers(alloc, block.certifications.as_slice())?;
-    stand_once(alloc, issuers.as_slice())
+    stand_once(alloc, secret, issuers.as_slice())
 }
 
 /// The receiver of each certification.
@@ -303,10 +350,14 @@ fn certified_keys(alloc: Global, lines: &[CertLine]) -> Result<Vec<Key>, NoMemor
 }
 
 /// Nobody whom the block certifies stands in its Leavers, Revoked or Excluded: rule `L17`.
-pub(crate) fn nobody_certified_parts(alloc: Global, block: &Block) -> Result<bool, NoMemory>
+pub(crate) fn nobody_certified_parts(
+    alloc: Global,
+    secret: Secret,
+    block: &Block,
+) -> Result<bool, NoMemory>
     ensures { IfOk result (λ holds. IsTrue holds ↔ NobodyCertifiedParts block.now) }
 {
     let parting = all_parting_keys(alloc, block)?;
     let receivers = certified_keys(alloc, block.certifications.as_slice())?;
-    are_apart(alloc, receivers.as_slice(), parting.as_slice())
+    are_apart(alloc, secret, receivers.as_slice(), parting.as_slice())
 }

@@ -5,7 +5,7 @@ ghost use Rattle.dubp_validity.specs.OfChain.{inputs_of};
 ghost use Rattle.dubp_validity.specs.LocalRules.{InputsAreUnlockedOnce, IsUnlockedOnce, NamesAnIssuer, SendersStandOnce, SourcesStandOnce};
 
 use crate::once::stand_once;
-use dubp_atoms::NoMemory;
+use dubp_atoms::{NoMemory, Secret};
 use dubp_block::Block;
 use dubp_cond::{Input, SourceId, Tx, Unlock, UnlockLine};
 use std::alloc::Global;
@@ -14,12 +14,16 @@ use std::alloc::Global;
 const MAX_LINES: usize = 100;
 
 /// No transaction names an issuer twice: rule `L19`.
-pub(crate) fn senders_stand_once(alloc: Global, block: &Block) -> Result<bool, NoMemory>
+pub(crate) fn senders_stand_once(
+    alloc: Global,
+    secret: Secret,
+    block: &Block,
+) -> Result<bool, NoMemory>
     ensures { IfOk result (λ holds. IsTrue holds ↔ SendersStandOnce block.now) }
 {
     let transactions = block.transactions.as_slice();
     for tx in transactions {
-        if !stand_once(alloc, tx.issuers.as_slice())? {
+        if !stand_once(alloc, secret, tx.issuers.as_slice())? {
             return Ok(false);
         }
     }
@@ -154,9 +158,13 @@ fn all_sources(alloc: Global, block: &Block) -> Result<Vec<SourceId>, NoMemory>
 }
 
 /// No source stands twice among the inputs of the block: rule `L21`.
-pub(crate) fn sources_stand_once(alloc: Global, block: &Block) -> Result<bool, NoMemory>
+pub(crate) fn sources_stand_once(
+    alloc: Global,
+    secret: Secret,
+    block: &Block,
+) -> Result<bool, NoMemory>
     ensures { IfOk result (λ holds. IsTrue holds ↔ SourcesStandOnce block.now) }
 {
     let sources = all_sources(alloc, block)?;
-    stand_once(alloc, sources.as_slice())
+    stand_once(alloc, secret, sources.as_slice())
 }

@@ -1,0 +1,7 @@
+use Rattle.std.proofs.Common.{◌≡◌, take}
+use Rattle.std.specs.List.{list_all}
+use Rattle.dubp_atoms.specs.Letters.{is_base64}
+use Rattle.dubp_atoms.proofs.letters.all_base64.Given as goal
+
+abbrev pub invariant-loop-c : goal.invariant-loop-c
+invariant-loop-c l = l.all ≡ list_all is_base64 (take l.c-index l.text)
