@@ -1,15 +1,14 @@
 -- Twice the median of some numbers is the median of their doubles, so it depends only on how often each number is there.
-use Rattle.std.proofs.Common.{◌≡◌, ℕ, ◌+◌, ◌-◌, ◌*◌, ◌/◌, Bool, true, false, cond, ◌&&◌, ◌==◌, List, [], ◌∷◌, map, Some, length, find, unwrap_or, refl, ap, sym, ◌∙◌, nat_lt, nat_le, arith, IsPermutation}
-use Rattle.std.specs.List.{sum_by}
+use Rattle.std.proofs.Common.{◌≡◌, ℕ, ◌+◌, ◌-◌, ◌*◌, ◌/◌, Bool, true, false, cond, ◌&&◌, ◌==◌, List, [], ◌∷◌, map, Some, length, find, unwrap_or, refl, ap, sym, ◌∙◌, nat_lt, nat_le, arith, IsPermutation, inl, inr}
+use Rattle.std.proofs.lemmas.Bool.{cases_lt}
 use Rattle.std.proofs.lemmas.Bool.Decides.{nat_tests}
 use Rattle.std.proofs.lemmas.List.{length-map}
 use Rattle.std.proofs.lemmas.List.Sums.{sum_by-cons}
-use Rattle.std.proofs.lemmas.List.Sorted.{sum_by-IsPermutation}
-use Rattle.dubp_time.specs.Median.{count_of, count_below, count_up_to, has_rank, ranked, mean_of_middle, median_of}
-use Rattle.dubp_time.proofs.MedianLaws.{median_of_same}
+use Rattle.dubp_time.specs.Median.{count_of, count_below, count_up_to, has_rank, ranked, mean_of_middle, median_of, SameTimes}
+use Rattle.dubp_time.proofs.MedianLaws.{median_of_same, SameTimes_permutation}
 use Rattle.dubp_chain.specs.Heads.{doubled_median}
 
-abbrev doubles : List ℕ → List ℕ
+abbrev pub doubles : List ℕ → List ℕ
 doubles ns = map (λ n. 2 * n) ns
 
 below_double : (t m : ℕ) → cond {A = ℕ} (nat_lt (2 * t) (2 * m)) 1 0 ≡ cond (nat_lt t m) 1 0
@@ -51,21 +50,38 @@ mean_of-doubles ns =
     ap (λ k. (ranked (doubles ns) ((k - 1) / 2) + ranked (doubles ns) (k / 2)) / 2) (length-map ns (λ m. 2 * m))
     ∙ omega (arith, ranked-doubles ns ((n - 1) / 2), ranked-doubles ns (n / 2))
 
-median_of-doubles : (ns : List ℕ) → doubled_median ns ≡ unwrap_or (median_of (doubles ns)) 0
+pub median_of-doubles : (ns : List ℕ) → doubled_median ns ≡ unwrap_or (median_of (doubles ns)) 0
 median_of-doubles [] = refl
 median_of-doubles (n ∷ ns) = sym (mean_of-doubles (n ∷ ns))
 
-same_doubles : (ms ns : List ℕ) → IsPermutation ms ns → (m : ℕ) → count_of m (doubles ms) ≡ count_of m (doubles ns)
-same_doubles ms ns moved m = in_doubles ms ∙ sym (sum_by-IsPermutation (λ t. cond (2 * t == m) 1 0) ms ns moved) ∙ sym (in_doubles ns)
+even_doubles : (m h : ℕ) (xs : List ℕ) → m ≡ 2 * h → count_of m (doubles xs) ≡ count_of h xs
+even_doubles m h [] is = refl
+even_doubles m h (x ∷ xs) is =
+    omega (arith, sum_by-cons (λ t. cond (t == m) 1 0) (2 * x) (doubles xs), sum_by-cons (λ t. cond (t == h) 1 0) x xs, one, even_doubles m h xs is)
   where
-    in_doubles : (xs : List ℕ) → count_of m (doubles xs) ≡ sum_by (λ t. cond (2 * t == m) 1 0) xs
-    in_doubles [] = refl
-    in_doubles (x ∷ xs) =
-        sum_by-cons (λ t. cond (t == m) 1 0) (2 * x) (doubles xs)
-        ∙ ap (λ n. cond (2 * x == m) 1 0 + n) (in_doubles xs)
-        ∙ sym (sum_by-cons (λ t. cond (2 * t == m) 1 0) x xs)
+    one : cond {A = ℕ} (2 * x == m) 1 0 ≡ cond (x == h) 1 0
+    one = grind (arith, nat_tests)
+
+odd_doubles : (m h : ℕ) (xs : List ℕ) → m ≡ 2 * h + 1 → count_of m (doubles xs) ≡ 0
+odd_doubles m h [] is = refl
+odd_doubles m h (x ∷ xs) is =
+    omega (arith, sum_by-cons (λ t. cond (t == m) 1 0) (2 * x) (doubles xs), none, odd_doubles m h xs is)
+  where
+    none : cond {A = ℕ} (2 * x == m) 1 0 ≡ 0
+    none = grind (arith, nat_tests)
+
+same_doubles : (ms ns : List ℕ) → SameTimes ms ns → (m : ℕ) → count_of m (doubles ms) ≡ count_of m (doubles ns)
+same_doubles ms ns same m =
+    let h = m / 2 in
+    elim (cases_lt (2 * h) m) [
+      | inl odd ↦ odd_doubles m h ms (omega (arith, odd)) ∙ sym (odd_doubles m h ns (omega (arith, odd)))
+      | inr even ↦ even_doubles m h ms (omega (arith, even)) ∙ same.each h ∙ sym (even_doubles m h ns (omega (arith, even)))
+    ]
+
+pub doubled_median-same : (ms ns : List ℕ) → SameTimes ms ns → doubled_median ms ≡ doubled_median ns
+doubled_median-same ms ns same =
+    median_of-doubles ms ∙ ap (λ o. unwrap_or o 0) (median_of_same (doubles ms) (doubles ns) (record { each = same_doubles ms ns same })) ∙ sym (median_of-doubles ns)
 
 -- the order does not matter
 pub doubled_median-permutation : (ms ns : List ℕ) → IsPermutation ms ns → doubled_median ms ≡ doubled_median ns
-doubled_median-permutation ms ns moved =
-    median_of-doubles ms ∙ ap (λ o. unwrap_or o 0) (median_of_same (doubles ms) (doubles ns) (record { each = same_doubles ms ns moved })) ∙ sym (median_of-doubles ns)
+doubled_median-permutation ms ns moved = doubled_median-same ms ns (SameTimes_permutation ms ns moved)

@@ -1,8 +1,8 @@
 -- What is kept beside the heads, as a head comes and goes.
-use Rattle.std.proofs.Common.{◌≡◌, ℕ, suc, ◌+◌, ◌-◌, ◌<◌, ◌≤◌, List, [], ◌∷◌, ◌++◌, length, take, map, Option, Some, None, IfSome, reverse, drop, get_or, Bool, true, false, cond, if◌then◌else◌, refl, sym, ap, subst, ◌∙◌, arith}
+use Rattle.std.proofs.Common.{◌≡◌, ℕ, suc, ◌+◌, ◌-◌, ◌<◌, ◌≤◌, List, [], ◌∷◌, ◌++◌, length, take, map, min, Option, Some, None, IfSome, reverse, drop, get_or, Bool, true, false, cond, if◌then◌else◌, refl, sym, ap, subst, ◌∙◌, arith}
 use Rattle.std.proofs.Math.Seq.{drop-append_seam, get_or-append_seam}
 use Rattle.std.proofs.Math.ListN.{get_or-append}
-use Rattle.std.proofs.lemmas.List.{reverse-append, length-reverse, length-drop, length-map, take-append-drop}
+use Rattle.std.proofs.lemmas.List.{reverse-append, length-reverse, length-drop, length-map, take-append-drop, take_min, take-map}
 use Rattle.std.proofs.lemmas.Option.{none-some, same_Some}
 use Rattle.dubp_atoms.specs.Same.{Text, same_text}
 use Rattle.dubp_chain.specs.Heads.{last_issued}
@@ -11,7 +11,10 @@ use Rattle.dubp_time.specs.Median.{count_of, SameTimes}
 use Rattle.dubp_chain.specs.declared.head.Head.{Head}
 use Rattle.dubp_head.specs.LastBlocks.{IssuersState, AreIssuers, last_place}
 use Rattle.dubp_head.specs.LastTimes.{TimesState}
-use Rattle.dubp_head.specs.KeptHeads.{AreKept}
+use Rattle.dubp_head.specs.Counts.{CountsState, AreCounted}
+use Rattle.dubp_head.specs.Frames.{frame_of, frame_issuers}
+use Rattle.dubp_head.specs.KeptHeads.{AreKept, IsFrameKept}
+use Rattle.dubp_head.proofs.Counting.{length-kept}
 use Rattle.dubp_head.proofs.LastTimes.{time_at, times_of, SameTimes-wider, SameTimes-narrower, length-time_at, length-one, count-among}
 
 abbrev pub issuers_of : List Head → List (List ℕ)
@@ -19,7 +22,7 @@ issuers_of list = map (λ h. h.issuer) list
 
 -- A head comes: the time at the last place of the window goes.
 
-module _ (list : List Head) (is : IssuersState) (ts : TimesState) (span m : ℕ) (kept : AreKept list is ts span) (more : span ≡ suc m) where
+module _ (list : List Head) (is : IssuersState) (cs : CountsState) (ts : TimesState) (span m : ℕ) (kept : AreKept list is cs ts span) (more : span ≡ suc m) where
   with_last : SameTimes ts.times (option_to_list (time_at list m) ++ times_of m list)
   with_last = SameTimes-narrower ts.times list m (subst (λ n. SameTimes ts.times (times_of n list)) more kept.times)
 
@@ -29,13 +32,15 @@ module _ (list : List Head) (is : IssuersState) (ts : TimesState) (span m : ℕ)
   pub room-push : length ts.times + 1 ≤ ts.width + length (option_to_list (time_at list m))
   room-push = omega (arith, kept.count, kept.width, length-time_at list m)
 
-  pub AreKept-push : (h : Head) (is' : IssuersState) (ts' : TimesState) → AreIssuers is' (h.issuer ∷ issuers_of list)
+  pub AreKept-push : (h : Head) (is' : IssuersState) (cs' : CountsState) (ts' : TimesState) → AreIssuers is' (h.issuer ∷ issuers_of list)
+      → IsFrameKept (h ∷ list) cs'
       → ((others : List ℕ) → SameTimes ts.times (option_to_list (time_at list m) ++ others) → SameTimes ts'.times (h.time ∷ others))
       → length ts'.times + length (option_to_list (time_at list m)) ≡ length ts.times + 1
       → ts'.width ≡ ts.width
-      → AreKept (h ∷ list) is' ts' span
-  AreKept-push h is' ts' issuers exchanged len width = record {
+      → AreKept (h ∷ list) is' cs' ts' span
+  AreKept-push h is' cs' ts' issuers frame exchanged len width = record {
     issuers = issuers;
+    frame = frame;
     times = subst (λ n. SameTimes ts'.times (times_of n (h ∷ list))) (sym more) (exchanged (times_of m list) with_last);
     count = omega (arith, kept.count, length-time_at list m);
     width = omega (arith, kept.width);
@@ -44,7 +49,7 @@ module _ (list : List Head) (is : IssuersState) (ts : TimesState) (span m : ℕ)
 
 -- A head goes: the time behind the window comes back.
 
-module _ (h : Head) (list : List Head) (is : IssuersState) (ts : TimesState) (span : ℕ) (kept : AreKept (h ∷ list) is ts span) where
+module _ (h : Head) (list : List Head) (is : IssuersState) (cs : CountsState) (ts : TimesState) (span : ℕ) (kept : AreKept (h ∷ list) is cs ts span) where
   more : span ≡ suc (span - 1)
   more = omega (arith, kept.span (omega arith))
 
@@ -60,18 +65,39 @@ module _ (h : Head) (list : List Head) (is : IssuersState) (ts : TimesState) (sp
   time_behind : time_at (h ∷ list) span ≡ time_at list (span - 1)
   time_behind = ap (time_at (h ∷ list)) more
 
-  pub AreKept-pop : (is' : IssuersState) (ts' : TimesState) → AreIssuers is' (issuers_of list)
+  pub AreKept-pop : (is' : IssuersState) (cs' : CountsState) (ts' : TimesState) → AreIssuers is' (issuers_of list)
+      → IsFrameKept list cs'
       → ((others : List ℕ) → SameTimes ts.times (h.time ∷ others) → SameTimes ts'.times (option_to_list (time_at (h ∷ list) span) ++ others))
       → length ts'.times + 1 ≡ length ts.times + length (option_to_list (time_at (h ∷ list) span))
       → ts'.width ≡ ts.width
-      → AreKept list is' ts' span
-  AreKept-pop is' ts' issuers exchanged len width = record {
+      → AreKept list is' cs' ts' span
+  AreKept-pop is' cs' ts' issuers frame exchanged len width = record {
     issuers = issuers;
+    frame = frame;
     times = subst (λ n. SameTimes ts'.times (times_of n list)) (sym more) (SameTimes-wider ts'.times list (span - 1) (subst (λ o. SameTimes ts'.times (option_to_list o ++ times_of (span - 1) list)) time_behind (exchanged (times_of (span - 1) list) with_first)));
     count = omega (arith, kept.count, length-time_at list (span - 1), ap (λ o. length (option_to_list o)) time_behind, more, len);
     width = omega (arith, kept.width);
     span = λ some. omega (arith, more);
   }
+
+-- The counts, settled to the frame of the newest head.
+
+pub settled : (list : List Head) (cs cs' : CountsState) → AreCounted cs (issuers_of list) → AreCounted cs' (issuers_of list) → cs'.blocks ≡ min (frame_of list) (length cs.numbers) → IsFrameKept list cs'
+settled list cs cs' was counted blocks = record {
+  counted = counted;
+  blocks = blocks ∙ ap (min (frame_of list)) (length-kept cs (issuers_of list) was ∙ length-map list (λ h. h.issuer));
+}
+
+-- the blocks that are counted are those of the last frame
+pub frame_is : (list : List Head) (cs : CountsState) → IsFrameKept list cs → take cs.blocks (issuers_of list) ≡ frame_issuers list
+frame_is list cs kept =
+    ap (λ n. take n (issuers_of list)) (kept.blocks ∙ ap (min (frame_of list)) (sym (length-map list (λ h. h.issuer))))
+    ∙ take_min (frame_of list) (issuers_of list)
+    ∙ by list
+  where
+    by : (hs : List Head) → take (frame_of hs) (issuers_of hs) ≡ frame_issuers hs
+    by [] = refl
+    by (h ∷ hs) = take-map (λ g. g.issuer) h.frame (h ∷ hs)
 
 -- Reads.
 

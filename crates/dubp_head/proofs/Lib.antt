@@ -2,13 +2,12 @@ pub mod Bounds
 pub mod Counting
 pub mod Doubling
 pub mod Entries
-pub mod FramePlaces
 pub mod KeptHeads
 pub mod LastBlocks
 pub mod LastTimes
 pub mod NextHeads
 pub mod Powers
+pub mod Ranking
 pub mod SameRules
-pub mod Selecting
 pub mod Sizes
 pub mod Stated

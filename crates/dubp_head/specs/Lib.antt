@@ -1,4 +1,5 @@
 pub mod Bounds
+pub mod Counts
 pub mod Entries
 pub mod Following
 pub mod Frames

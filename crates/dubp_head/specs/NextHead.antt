@@ -32,6 +32,11 @@ abbrev pub IsRefusal : Params → ℕ → List Head → Block → HeadRefusal �
 IsRefusal p count hs b (Refused rule head) = PassesLimit p count hs b rule head
 IsRefusal p count hs b NoMemory = ⊤
 
+-- the refusal names a limit
+abbrev pub IsOfLimit : HeadRefusal → Type 0
+IsOfLimit (Refused rule head) = ⊤
+IsOfLimit NoMemory = ⊥
+
 -- the size of a block is bounded behind a first block
 abbrev pub IsSmallEnough : List Head → Head → Block → Type 0
 IsSmallEnough [] head b = ⊤

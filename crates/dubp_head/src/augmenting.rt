@@ -3,13 +3,11 @@ ghost use Rattle.dubp_params.specs.Ranges.{IsInRange};
 ghost use Rattle.dubp_block.specs.Text.{size_of};
 ghost use Rattle.dubp_chain.specs.Heads.{newest, next_head, first_head, next_median_time, next_least_difficulty, moved_on, elapsed_over};
 ghost use Rattle.dubp_head.specs.Bounds.{InBounds};
-ghost use Rattle.dubp_head.specs.Frames.{frame_issuers};
 ghost use Rattle.dubp_head.specs.HeadsStates.{AreOver};
 ghost use Rattle.dubp_head.specs.Following.{AreHeads, MayFollow, KeepsLimits};
-ghost use Rattle.dubp_head.specs.NextHead.{IsRefusal, PassesLimit};
+ghost use Rattle.dubp_head.specs.NextHead.{IsRefusal, IsOfLimit, PassesLimit};
 ghost use Rattle.dubp_head.specs.Money.{later_without};
 
-use crate::frame::Frame;
 use crate::heads::Heads;
 use crate::money::{money_at, with_money};
 use crate::refusal::{HeadRefusal, Passed};
@@ -17,12 +15,10 @@ use dubp_block::{Block, block_hash, size};
 use dubp_chain::Head;
 use dubp_params::Params;
 use dubp_pow::{next_frame, next_pow_min, next_var};
-use std::alloc::Global;
 
 /// The head of the block behind the chain. `members` is the number of members of the chain with the block, below 2^21.
-/// Refused exactly where X03, X04 or X08 fails.
+/// Refused exactly where X03, X04 or X08 fails. It takes no memory, and is never refused for want of it.
 pub fn augment(
-    alloc: Global,
     heads: &Heads,
     params: &Params,
     block: &Block,
@@ -34,12 +30,9 @@ pub fn augment(
     requires block { MayFollow members heads.now.list block.now }
     ensures head { IfOk result (λ h. (h ≡ next_head params.now members heads.now.list block.now) × KeepsLimits params.now members heads.now.list block.now) }
     ensures refused { IfErr result (IsRefusal params.now members heads.now.list block.now) }
+    ensures always { IfErr result IsOfLimit }
 {
-    let frame = match Frame::of(alloc, heads) {
-        Ok(frame) => frame,
-        Err(_) => return Err(HeadRefusal::NoMemory),
-    };
-    match augment_over(heads, &frame, params, block, members) {
+    match augment_over(heads, params, block, members) {
         Ok(head) => Ok(head),
         Err(passed) => Err(HeadRefusal::Refused {
             rule: passed.rule,
@@ -48,10 +41,9 @@ pub fn augment(
     }
 }
 
-/// The same over the frame of the heads, counted before. It takes no memory.
+/// The same, where a limit that is passed is told without an error of memory.
 pub fn augment_over(
     heads: &Heads,
-    frame: &Frame,
     params: &Params,
     block: &Block,
     members: u64,
@@ -60,14 +52,13 @@ pub fn augment_over(
     requires over { AreOver heads.now params.now }
     requires heads { AreHeads params.now heads.now.list }
     requires block { MayFollow members heads.now.list block.now }
-    requires frame { frame.now ≡ frame_issuers heads.now.list }
     ensures head { IfOk result (λ h. (h ≡ next_head params.now members heads.now.list block.now) × KeepsLimits params.now members heads.now.list block.now) }
     ensures passed { IfErr result (λ passed. PassesLimit params.now members heads.now.list block.now passed.rule passed.head) }
 {
     let Some(before) = heads.last() else {
         return Ok(first_head(params, block, members));
     };
-    let head = without_dividend(heads, before, frame, params, block, members);
+    let head = without_dividend(heads, before, params, block, members);
     match money_at(before, params, head.median_time, members) {
         Ok(money) => Ok(with_money(head, money)),
         Err(rule) => Err(Passed { rule, head }),
@@ -107,7 +98,6 @@ fn first_head(params: &Params, block: &Block, members: u64) -> Head
 fn without_dividend(
     heads: &Heads,
     before: &Head,
-    frame: &Frame,
     params: &Params,
     block: &Block,
     members: u64,
@@ -116,12 +106,11 @@ fn without_dividend(
     requires over { AreOver heads.now params.now }
     requires before { newest heads.now.list ≡ Some before.now }
     requires bounds { InBounds params.now (length heads.now.list) before.now }
-    requires frame { frame.now ≡ frame_issuers heads.now.list }
     requires size { size_of block.now < 2 ^ 53 }
     ensures { result ≡ later_without params.now members before.now heads.now.list block.now }
 {
     let time = median_time(heads, before, params);
-    let issuers = frame.issuers();
+    let issuers = heads.issuers_of_frame();
     Head {
         version: block.version,
         number: block.number,

@@ -1,11 +1,14 @@
 ghost use Rattle.std.specs.Prelude.{◌≡◌, [], ◌∷◌, ◌<◌, ◌≤◌, ◌^◌, length, reverse, take, map, slice_get, OnOk, OnErr, MatchOption, None, Some};
 ghost use Rattle.std.specs.Option.{option_map};
+ghost use Rattle.std.specs.Set.{distinct_count, unique_keys};
 ghost use Rattle.dubp_params.specs.Ranges.{IsInRange};
-ghost use Rattle.dubp_chain.specs.Heads.{newest, last_issued};
-ghost use Rattle.dubp_atoms.specs.Same.{Text};
-ghost use Rattle.dubp_head.specs.LastBlocks.{last_place, places_before, IsLastOfSome};
+ghost use Rattle.dubp_chain.specs.Heads.{newest, last_issued, blocks_of, doubled_median as doubled};
+ghost use Rattle.dubp_atoms.specs.Same.{Text, same_text};
+ghost use Rattle.dubp_head.specs.Frames.{frame_issuers, frame_of};
+ghost use Rattle.dubp_head.specs.LastBlocks.{last_place, IsLastOfSome};
 ghost use Rattle.dubp_head.specs.HeadsStates.{AreOver, KeepsRoom, median_over};
 
+use crate::counts::Counts;
 use crate::issuers::Issuers;
 use crate::times::Times;
 use dubp_atoms::{Key, NoMemory};
@@ -23,6 +26,7 @@ pub struct Heads {
     // Oldest first.
     heads: Vec<Head>,
     issuers: Issuers,
+    counts: Counts,
     // Those of the last `span` heads.
     times: Times,
     span: u64,
@@ -37,12 +41,12 @@ impl Model for Heads {
 
     ghost view = { λ h. record {
       list = reverse h.heads.items;
-      room = min (vec_capacity h.heads) h.issuers.room;
+      room = min (vec_capacity h.heads) (min h.issuers.room h.counts.room);
       width = h.times.width;
       span = h.span;
     } };
 
-    ghost invariant = { λ h. AreKept (reverse h.heads.items) h.issuers h.times h.span };
+    ghost invariant = { λ h. AreKept (reverse h.heads.items) h.issuers h.counts h.times h.span };
 }
 
 impl Heads {
@@ -53,6 +57,7 @@ impl Heads {
         Heads {
             heads: Vec::new(alloc),
             issuers: Issuers::new(alloc),
+            counts: Counts::new(alloc),
             times: Times::new(),
             span: 0,
         }
@@ -87,7 +92,9 @@ impl Heads {
     {
         let come = self.time_before(self.span);
         let head = self.heads.pop().unwrap();
-        self.issuers.pop(&head.issuer);
+        let earlier = self.issuers.pop(&head.issuer);
+        self.counts.pop(earlier);
+        self.counts.settle(last_frame(&self.heads));
         self.times.exchange(Some(head.time), come);
         head
     }
@@ -174,12 +181,26 @@ impl Heads {
         }
     }
 
-    /// For each of the last so many blocks, or of all where there are fewer, the place of the block that its issuer issued before,
-    /// oldest first. It takes no memory.
-    pub(crate) fn places_before(&self, count: u64) -> &[Option<usize>]
-        ensures { result.now ≡ reverse (take count (places_before (map (λ h. h.issuer) self.now.list))) }
+    /// How many issuers the last frame has. It takes no memory.
+    pub(crate) fn issuers_of_frame(&self) -> u64
+        ensures { result ≡ distinct_count same_text (frame_issuers self.now.list) }
     {
-        self.issuers.newest(count)
+        self.counts.issuers()
+    }
+
+    /// How many blocks of the last frame a key issued, from the place of its last block. It takes no memory, and looks no key up.
+    pub(crate) fn blocks_of_last(&self, last: Option<usize>) -> u64
+        requires { IsLastOfSome (map (λ h. h.issuer) self.now.list) last }
+        ensures { (k : Text) → last ≡ last_place (map (λ h. h.issuer) self.now.list) k → result ≡ blocks_of (frame_issuers self.now.list) k }
+    {
+        self.counts.of_last(last)
+    }
+
+    /// Twice the median of the blocks per issuer of the last frame. It takes no memory, and looks at the middle of the counts alone.
+    pub(crate) fn doubled_median(&self) -> u64
+        ensures { result ≡ doubled (map (blocks_of (frame_issuers self.now.list)) (unique_keys same_text (frame_issuers self.now.list))) }
+    {
+        self.counts.doubled_median()
     }
 
     // Takes memory for one more head.
@@ -190,8 +211,9 @@ impl Heads {
         ensures keeps { KeepsRoom self.old self.new }
     {
         self.heads.reserve(1).map_err(|_| NoMemory)?;
-        self.issuers.reserve(self.heads.len() + 1)?;
-        Ok(())
+        let count = self.heads.len() + 1;
+        self.issuers.reserve(count)?;
+        self.counts.reserve(count)
     }
 
     // Takes memory for as many times as these parameters ask for, where there is no head yet.
@@ -235,7 +257,9 @@ impl Heads {
     {
         let gone = self.time_before(self.span - 1);
         self.times.exchange(gone, Some(head.time));
-        self.issuers.push(head.issuer);
+        let earlier = self.issuers.push(head.issuer);
+        self.counts.push(earlier);
+        self.counts.settle(head.frame);
         self.heads.push_reserved(head);
     }
 
@@ -247,6 +271,16 @@ impl Heads {
             Some(head) => Some(head.time),
             None => None,
         }
+    }
+}
+
+// How many blocks the last frame of these heads has, which stand oldest first.
+fn last_frame(heads: &[Head]) -> u64
+    ensures { result ≡ frame_of (reverse heads.now) }
+{
+    match from_last(heads, 0) {
+        Some(last) => last.frame,
+        None => 0,
     }
 }
 

@@ -1,7 +1,7 @@
-ghost use Rattle.std.specs.Prelude.{◌≡◌, ◌-◌, ◌<◌, ◌≤◌, List, [], ◌∷◌, drop, length, OnOk, IsSome};
+ghost use Rattle.std.specs.Prelude.{◌≡◌, ◌<◌, ◌≤◌, List, [], ◌∷◌, length, OnOk, IsSome};
 ghost use Rattle.std.specs.Map.{lookup};
 ghost use Rattle.dubp_atoms.specs.Same.{Text, same_text};
-ghost use Rattle.dubp_head.specs.LastBlocks.{AreIssuers};
+ghost use Rattle.dubp_head.specs.LastBlocks.{AreIssuers, last_place};
 
 use crate::places::Places;
 use dubp_atoms::{Key, NoMemory};
@@ -56,22 +56,27 @@ impl Issuers {
         Ok(())
     }
 
-    /// One more block, of this issuer. There is room for it. It takes no memory.
-    pub(crate) fn push(&mut self, key: Key)
+    /// One more block, of this issuer. There is room for it. It tells the place of the block that he issued before; none where he
+    /// issued none. It takes no memory.
+    pub(crate) fn push(&mut self, key: Key) -> Option<usize>
         requires before { length self.old.before < self.old.room }
         requires last { length self.old.last < self.old.room }
         ensures issuers { (keys : List Text) → AreIssuers self.old keys → AreIssuers self.new (key ∷ keys) }
+        ensures earlier { (keys : List Text) → AreIssuers self.old keys → result ≡ last_place keys key }
         ensures room { self.new.room ≡ self.old.room }
     {
         let place = self.before.len();
         let earlier = self.last.replace(key, place);
         self.before.push_reserved(earlier);
+        earlier
     }
 
-    /// Takes the last block off, which is of this issuer. It takes no memory.
-    pub(crate) fn pop(&mut self, key: &Key)
+    /// Takes the last block off, which is of this issuer. It tells the place of the block that he issued before; none where he issued
+    /// none. It takes no memory.
+    pub(crate) fn pop(&mut self, key: &Key) -> Option<usize>
         requires { IsSome (lookup (same_text key.now) self.old.last) }
         ensures issuers { (keys : List Text) → AreIssuers self.old (key.now ∷ keys) → AreIssuers self.new keys }
+        ensures earlier { (keys : List Text) → AreIssuers self.old (key.now ∷ keys) → result ≡ last_place keys key.now }
         ensures room { self.new.room ≡ self.old.room }
     {
         let earlier = self.before.pop().unwrap_or(None);
@@ -81,6 +86,7 @@ impl Issuers {
             }
             None => self.last.remove(key),
         }
+        earlier
     }
 
     /// The place of the last block of the key. It takes no memory.
@@ -88,14 +94,5 @@ impl Issuers {
         ensures { result ≡ lookup (same_text key.now) self.now.last }
     {
         self.last.get(key)
-    }
-
-    /// For each of the last so many blocks, or of all where there are fewer, the place of the block that its issuer issued before,
-    /// oldest first. It takes no memory.
-    pub(crate) fn newest(&self, count: u64) -> &[Option<usize>]
-        ensures { result.now ≡ drop (length self.now.before - count) self.now.before }
-    {
-        let len = self.before.len();
-        &self.before[len.saturating_sub(count as usize)..]
     }
 }

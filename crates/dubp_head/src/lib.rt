@@ -2,12 +2,13 @@
 //!
 //! Contracts see `Heads` as the list of heads, newest first (`specs/HeadsStates`). `augment` gives the head of a block behind the
 //! chain, as `next_head` of `dubp_chain` defines it, or names the limit that it passes; `head_rules` compares it with what the block
-//! states. Nothing costs more than the window of times, the frame of issuers and a logarithm, whatever the length of the chain.
+//! states. Nothing costs more than the window of times, the blocks by which the frame changes and a logarithm, whatever the length of
+//! the chain.
 //! Protocol: head values.
 //!
 //! ```text
-//! let head = augment(alloc, &heads, &params, &block, members)?;
-//! let broken = head_rules(alloc, &heads, &params, &head, &block)?;
+//! let head = augment(&heads, &params, &block, members)?;
+//! let broken = head_rules(&heads, &params, &head, &block)?;
 //! heads.push(head, &params)?;
 //! ```
 #![tactic(auto)]
@@ -15,7 +16,6 @@
 mod augmenting;
 mod counts;
 mod difficulties;
-mod frame;
 mod heads;
 mod issuers;
 pub mod laws;
@@ -28,7 +28,6 @@ mod times;
 pub use augmenting::{augment, augment_over};
 pub use difficulties::difficulty;
 pub use dubp_validity::Record;
-pub use frame::Frame;
 pub use heads::Heads;
 pub use refusal::{HeadRefusal, Passed};
 pub use rules::{head_rules, head_rules_over, stated_rules_over};

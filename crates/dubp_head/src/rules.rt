@@ -1,4 +1,4 @@
-ghost use Rattle.std.specs.Prelude.{◌≡◌, ◌^◌, ◌<◌, ◌≤◌, ◌↔◌, IsTrue, IfOk, length, sum_by};
+ghost use Rattle.std.specs.Prelude.{◌≡◌, ◌^◌, ◌<◌, ◌≤◌, ◌↔◌, IsTrue, IfOk, IsOk, length, sum_by};
 ghost use Rattle.std.specs.List.{AllByRecursion};
 ghost use Rattle.dubp_params.specs.declared.params.Params.{Params as ParamsValue};
 ghost use Rattle.dubp_params.specs.Ranges.{IsInRange};
@@ -8,13 +8,11 @@ ghost use Rattle.dubp_rules.specs.First.{FirstOf, IsFirst};
 ghost use Rattle.dubp_validity.specs.HeadRules.{greatest_size};
 ghost use Rattle.dubp_chain.specs.Heads.{next_head};
 ghost use Rattle.dubp_head.specs.Bounds.{IsSmall};
-ghost use Rattle.dubp_head.specs.Frames.{frame_issuers};
 ghost use Rattle.dubp_head.specs.HeadsStates.{AreOver};
 ghost use Rattle.dubp_head.specs.Following.{AreHeads, MayFollow, KeepsLimits};
 ghost use Rattle.dubp_head.specs.NextHead.{HeaderHolds, header_rules, stated_rules, IsSmallEnough, difficulty_for};
 
 use crate::difficulties::difficulty_over;
-use crate::frame::Frame;
 use crate::heads::Heads;
 use dubp_atoms::NoMemory;
 use dubp_block::{Block, size};
@@ -22,14 +20,13 @@ use dubp_chain::Head;
 use dubp_params::Params;
 use dubp_pow::meets;
 use dubp_rules::{Rule, first_of};
-use std::alloc::Global;
 
 /// A size below this is always small enough.
 const ALWAYS_ALLOWED: u128 = 500;
 
-/// The first of G50 and G54 to G62 that fails. `head` is the head of the block behind the heads.
+/// The first of G50 and G54 to G62 that fails. `head` is the head of the block behind the heads. It takes no memory, and is never
+/// refused.
 pub fn head_rules(
-    alloc: Global,
     heads: &Heads,
     params: &Params,
     head: &Head,
@@ -41,35 +38,27 @@ pub fn head_rules(
     requires block { MayFollow head.now.members heads.now.list block.now }
     requires limits { KeepsLimits params.now head.now.members heads.now.list block.now }
     requires head { head.now ≡ next_head params.now head.now.members heads.now.list block.now }
-    ensures { IfOk result (IsFirst (HeaderHolds params.now heads.now.list head.now block.now) header_rules) }
+    ensures broken { IfOk result (IsFirst (HeaderHolds params.now heads.now.list head.now block.now) header_rules) }
+    ensures always { IsOk result }
 {
-    let frame = Frame::of(alloc, heads)?;
-    head_rules_over(alloc, heads, &frame, params, head, block)
+    Ok(head_rules_over(heads, params, head, block))
 }
 
-/// The same over the frame of the heads, counted before.
-pub fn head_rules_over(
-    alloc: Global,
-    heads: &Heads,
-    frame: &Frame,
-    params: &Params,
-    head: &Head,
-    block: &Block,
-) -> Result<Option<Rule>, NoMemory>
+/// The same, by itself.
+pub fn head_rules_over(heads: &Heads, params: &Params, head: &Head, block: &Block) -> Option<Rule>
     requires valid { IsInRange params.now }
     requires over { AreOver heads.now params.now }
     requires heads { AreHeads params.now heads.now.list }
     requires block { MayFollow head.now.members heads.now.list block.now }
     requires limits { KeepsLimits params.now head.now.members heads.now.list block.now }
     requires head { head.now ≡ next_head params.now head.now.members heads.now.list block.now }
-    requires frame { frame.now ≡ frame_issuers heads.now.list }
-    ensures { IfOk result (IsFirst (HeaderHolds params.now heads.now.list head.now block.now) header_rules) }
+    ensures { IsFirst (HeaderHolds params.now heads.now.list head.now block.now) header_rules result }
 {
     match stated_rules_over(heads, head, block) {
-        Some(rule) => Ok(Some(rule)),
+        Some(rule) => Some(rule),
         None => {
-            let meets = meets_difficulty(alloc, heads, frame, params, head, block)?;
-            if meets { Ok(None) } else { Ok(Some(Rule::G62)) }
+            let meets = meets_difficulty(heads, params, head, block);
+            if meets { None } else { Some(Rule::G62) }
         }
     }
 }
@@ -149,21 +138,13 @@ fn total_size(heads: &[Head]) -> u128
     total
 }
 
-fn meets_difficulty(
-    alloc: Global,
-    heads: &Heads,
-    frame: &Frame,
-    params: &Params,
-    head: &Head,
-    block: &Block,
-) -> Result<bool, NoMemory>
+fn meets_difficulty(heads: &Heads, params: &Params, head: &Head, block: &Block) -> bool
     requires valid { IsInRange params.now }
     requires over { AreOver heads.now params.now }
     requires heads { AreHeads params.now heads.now.list }
-    requires frame { frame.now ≡ frame_issuers heads.now.list }
     requires hash { head.now.hash ≡ block_hash_of block.now }
-    ensures { IfOk result (λ right. IsTrue right ↔ Meets (block_hash_of block.now) (difficulty_for params.now heads.now.list block.now.pow_min block.now.issuer)) }
+    ensures { IsTrue result ↔ Meets (block_hash_of block.now) (difficulty_for params.now heads.now.list block.now.pow_min block.now.issuer) }
 {
-    let difficulty = difficulty_over(alloc, heads, frame, params, block.pow_min, &block.issuer)?;
-    Ok(meets(&head.hash, difficulty))
+    let difficulty = difficulty_over(heads, params, block.pow_min, &block.issuer);
+    meets(&head.hash, difficulty)
 }
