@@ -32,16 +32,16 @@ fn may_be_first(block: &Block) -> bool
 }
 
 // The rule on the header that the first block breaks where the chain has so many members with it. None where no answer comes.
-fn broken_with(alloc: Global, heads: &Heads, block: &Block, members: u64) -> Option<Option<Rule>>
+fn broken_with(heads: &Heads, block: &Block, members: u64) -> Option<Option<Rule>>
     requires block { IsBlock block.now }
     requires heads { heads.now.list ≡ [] }
     requires few { members < 2 ^ 21 }
 {
     let params = block.params?;
     if in_range(&params) && may_be_first(block) {
-        let head = augment(alloc, heads, &params, block, members).ok()?;
+        let head = augment(heads, &params, block, members).ok()?;
         if head.members == members {
-            return head_rules(alloc, heads, &params, &head, block).ok();
+            return head_rules(heads, &params, &head, block).ok();
         }
     }
     None
@@ -52,8 +52,8 @@ pub(crate) fn states_its_head(alloc: Global, block: &Block) -> bool
     requires { IsBlock block.now }
 {
     let heads = Heads::new(alloc);
-    let stated = broken_with(alloc, &heads, block, 0);
-    let not_stated = broken_with(alloc, &heads, block, 1);
+    let stated = broken_with(&heads, block, 0);
+    let not_stated = broken_with(&heads, block, 1);
     forget(heads);
     stated == Some(None) && not_stated == Some(Some(Rule::G60))
 }

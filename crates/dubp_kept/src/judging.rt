@@ -8,7 +8,6 @@ ghost use Rattle.dubp_chain.specs.Chains.{params as params_of};
 ghost use Rattle.dubp_validity.specs.Rules.{Holds, longest_block};
 ghost use Rattle.dubp_validity.specs.Drafts.{FirstBad};
 ghost use Rattle.dubp_head.specs.Following.{AreHeads, MayFollow, KeepsLimits, limit_rules};
-ghost use Rattle.dubp_head.specs.Frames.{frame_issuers};
 ghost use Rattle.dubp_head.specs.HeadsStates.{AreOver};
 ghost use Rattle.dubp_head.specs.NextHead.{HeaderHolds};
 ghost use Rattle.dubp_chain.specs.Members.{members};
@@ -30,7 +29,7 @@ use dubp_atoms::{Hash, Items, NoMemory};
 use dubp_block::Block;
 use dubp_chain::Head;
 use dubp_docs::TxHashes;
-use dubp_head::{Frame, Heads, augment_over, head_rules_over, stated_rules_over};
+use dubp_head::{Heads, augment_over, head_rules_over, stated_rules_over};
 use dubp_moving::Tables;
 use dubp_params::Params;
 use dubp_rules::{Rule, first_of};
@@ -245,12 +244,11 @@ fn judge_placed<T: Judges>(
     requires hashes { hashes ≡ all_hashes block.now }
     ensures { IfOk result (JudgedAsked asked verdicts.now (reverse blocks.now) block.now) }
 {
-    let frame = Frame::of(alloc, heads)?;
     let members = tables.members_with(alloc, block)?;
-    match augment_over(heads, &frame, params, block, members) {
+    match augment_over(heads, params, block, members) {
         Err(passed) => Ok(Judgement::Breaks(passed.rule)),
         Ok(head) => judge_headed(
-            alloc, tables, heads, &frame, blocks, block, params, &head, hashes, verdicts, asked,
+            alloc, tables, heads, blocks, block, params, &head, hashes, verdicts, asked,
         ),
     }
 }
@@ -260,7 +258,6 @@ fn judge_headed<T: Judges>(
     alloc: Global,
     tables: &T,
     heads: &Heads,
-    frame: &Frame,
     blocks: &[Block],
     block: &Block,
     params: &Params,
@@ -279,13 +276,12 @@ fn judge_headed<T: Judges>(
     requires hashes { hashes ≡ all_hashes block.now }
     requires limits { IsFirst (Holds verdicts.now (reverse blocks.now) block.now) limit_rules None }
     requires count { head.now.members ≡ length (members (block.now ∷ reverse blocks.now)) }
-    requires frame { frame.now ≡ frame_issuers heads.now.list }
     requires follows { MayFollow head.now.members heads.now.list block.now }
     requires within { KeepsLimits params.now head.now.members heads.now.list block.now }
     requires head { head.now ≡ next_head params.now head.now.members heads.now.list block.now }
     ensures { IfOk result (JudgedAsked asked verdicts.now (reverse blocks.now) block.now) }
 {
-    match first_of_header(alloc, heads, frame, params, head, block, asked)? {
+    match first_of_header(heads, params, head, block, asked) {
         Some(rule) => Ok(Judgement::Breaks(rule)),
         None => judge_tables(
             alloc, tables, blocks, block, params, head, hashes, verdicts, asked,
@@ -295,26 +291,23 @@ fn judge_headed<T: Judges>(
 
 // The first of the rules on the header that the block breaks, of those that it is asked.
 fn first_of_header(
-    alloc: Global,
     heads: &Heads,
-    frame: &Frame,
     params: &Params,
     head: &Head,
     block: &Block,
     asked: Asked,
-) -> Result<Option<Rule>, NoMemory>
+) -> Option<Rule>
     requires valid { IsInRange params.now }
     requires over { AreOver heads.now params.now }
     requires heads { AreHeads params.now heads.now.list }
     requires block { MayFollow head.now.members heads.now.list block.now }
     requires limits { KeepsLimits params.now head.now.members heads.now.list block.now }
     requires head { head.now ≡ next_head params.now head.now.members heads.now.list block.now }
-    requires frame { frame.now ≡ frame_issuers heads.now.list }
-    ensures { IfOk result (IsFirst (HeaderHolds params.now heads.now.list head.now block.now) (asked_header asked)) }
+    ensures { IsFirst (HeaderHolds params.now heads.now.list head.now block.now) (asked_header asked) result }
 {
     match asked {
-        Asked::Signed => head_rules_over(alloc, heads, frame, params, head, block),
-        Asked::Unsigned => Ok(stated_rules_over(heads, head, block)),
+        Asked::Signed => head_rules_over(heads, params, head, block),
+        Asked::Unsigned => stated_rules_over(heads, head, block),
     }
 }
 

@@ -59,7 +59,7 @@ impl<T: PeopleAndMoney> Ledger<T> {
         ensures range { IfOk result CanBeStated }
     {
         let members = self.tables().members_with(self.alloc(), block)?;
-        match augment(self.alloc(), self.heads(), params, block, members) {
+        match augment(self.heads(), params, block, members) {
             Ok(head) => Ok(head),
             Err(HeadRefusal::Refused { head, .. }) => Ok(head),
             Err(HeadRefusal::NoMemory) => Err(NoMemory),

@@ -162,7 +162,7 @@ impl<T: PeopleAndMoney> Ledger<T> {
         if !self.tables().is_member(key) {
             return Ok(None);
         }
-        let found = difficulty(self.alloc, self.kept.heads(), &first.params, key)?;
+        let found = difficulty(self.kept.heads(), &first.params, key)?;
         Ok(Some(found))
     }
 

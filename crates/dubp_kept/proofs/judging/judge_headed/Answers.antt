@@ -29,7 +29,7 @@ returns-in-Some g c =
     let b = c.args.block.now in
     let h = c.args.head.now in
     let r = c.requires in
-    let first = subst (IsFirst (HeaderHolds c.args.params.now c.args.heads.now.list h b) (asked_header asked)) c.in-Some.is c.in_ok-rule.ensures in
+    let first = subst (IsFirst (HeaderHolds c.args.params.now c.args.heads.now.list h b) (asked_header asked)) c.in-Some.is c.first_of_header.ensures in
     header_breaks (Asks asked v chain b) c.in-Some.rule r.opening r.place r.limits
     (header_found asked v chain b c.args.heads.now c.args.params.now r.known r.text r.opening r.params h.members r.count h (Some c.in-Some.rule) r.head first)
 
@@ -41,7 +41,7 @@ judge_tables-requires-clause-early g c =
     let b = c.args.block.now in
     let h = c.args.head.now in
     let r = c.requires in
-    let first = subst (IsFirst (HeaderHolds c.args.params.now c.args.heads.now.list h b) (asked_header asked)) c.in-None.is c.in_ok-rule.ensures in
+    let first = subst (IsFirst (HeaderHolds c.args.params.now c.args.heads.now.list h b) (asked_header asked)) c.in-None.is c.first_of_header.ensures in
     header_holds (Asks asked v chain b) r.opening r.place r.limits
     (header_found asked v chain b c.args.heads.now c.args.params.now r.known r.text r.opening r.params h.members r.count h None r.head first)
 
