@@ -1,5 +1,4 @@
-ghost use Rattle.std.specs.Prelude.{◌≡◌, ◌↔◌, true, false, not, Ok, [], ◌∷◌, IfOk, IsTrue, OnOk, OnErr};
-ghost use Rattle.std.specs.Bool.{MatchBool};
+ghost use Rattle.std.specs.Prelude.{◌≡◌, ◌↔◌, true, Ok, [], ◌∷◌, IsTrue, OnOk, OnErr};
 ghost use Rattle.std.specs.List.{list_any};
 ghost use Rattle.std.specs.List.Sorted.{IsPermutation};
 ghost use Rattle.dubp_verdict.specs.Verdicts.{HasHash, HasVerdict, same_verdict, verdict_of, with_verdict};
@@ -88,7 +87,7 @@ impl Verdicts {
     }
 }
 
-/// Puts an entry, the newest. One that is there already changes nothing. It is hashed once.
+/// Puts an entry, the newest. One that is there already leaves the whole set, its memory too, as it was.
 fn insert(
     entries: &mut HashSet<Entry, Secret>,
     order: &mut Snapshot<Order>,
@@ -96,22 +95,14 @@ fn insert(
 ) -> Result<(), NoMemory>
     requires { IsPermutation order.old.value entries.old.keys }
     ensures same { IsPermutation order.new.value entries.new.keys }
-    ensures there { IsTrue (list_any (same_verdict entry) entries.old.keys) → (result ≡ Ok tt) × (order.new.value ≡ order.old.value) }
+    ensures there { IsTrue (list_any (same_verdict entry) entries.old.keys) → (result ≡ Ok tt) × (entries.new ≡ entries.old) × (order.new.value ≡ order.old.value) }
     ensures added { OnOk result (order.new.value ≡ with_verdict entry order.old.value) }
     ensures refused { OnErr result (order.new.value ≡ order.old.value) }
 {
-    let is_new = put(entries, entry)?;
-    if is_new {
-        note(order, entry);
+    if entries.contains(&entry) {
+        return Ok(());
     }
+    entries.insert(entry).map_err(|_| NoMemory)?;
+    note(order, entry);
     Ok(())
-}
-
-/// Puts an entry among the others, and tells whether it is new.
-fn put(entries: &mut HashSet<Entry, Secret>, entry: Entry) -> Result<bool, NoMemory>
-    ensures is_new { IfOk result (λ is_new. list_any (same_verdict entry) entries.old.keys ≡ not is_new) }
-    ensures keys { IfOk result (λ is_new. MatchBool is_new (IsPermutation (entry ∷ entries.old.keys) entries.new.keys) (entries.new.keys ≡ entries.old.keys)) }
-    ensures refused { OnErr result ((list_any (same_verdict entry) entries.old.keys ≡ false) × (entries.new.keys ≡ entries.old.keys)) }
-{
-    entries.insert(entry).map_err(|_| NoMemory)
 }
