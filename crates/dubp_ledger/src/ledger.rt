@@ -150,8 +150,7 @@ impl<T: PeopleAndMoney> Ledger<T> {
         self.kept.blocks().get(number as usize)
     }
 
-    /// The difficulty of the key for the next block. None exactly where the key is no member of the chain. `NoMemory` where there is no room
-    /// to count the issuers of the last frame.
+    /// The difficulty of the key for the next block. None exactly where the key is no member of the chain. It takes no memory.
     pub fn difficulty(&self, key: Key) -> Result<Option<u128>, NoMemory>
         ensures { IfOk result (IsDifficulty self.now.chain key) }
     {

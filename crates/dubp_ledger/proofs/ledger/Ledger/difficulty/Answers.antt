@@ -23,7 +23,7 @@ pub returns : goal.returns
 returns g c =
     let chain = c.args.self.now.chain in (
       sym (c.is_member.ensures chain c.tables-2.ensures c.laws.ensures.sound) ∙ c.if-not-is_member.false,
-      sym (difficulty_is chain c.heads.result.now c.in-Some.first c.args.key (subst (λ s. IsKnown s.chain c.heads.result.now) c.self.view_is c.heads.ensures) (c.in-Some.ensures chain c.tables.ensures)) ∙ ap Some (sym c.in_ok-found.ensures),
+      sym (difficulty_is chain c.heads.result.now c.in-Some.first c.args.key (subst (λ s. IsKnown s.chain c.heads.result.now) c.self.view_is c.heads.ensures) (c.in-Some.ensures chain c.tables.ensures)) ∙ ap Some (sym c.in_ok-found.ensures.value),
     )
 
 pub returns-in_default : goal.returns-in_default
