@@ -4,6 +4,7 @@ pub mod Exists
 pub mod Gatherings
 pub mod Lines
 pub mod Questions
+pub mod Remembering
 pub mod RunSteps
 pub mod Serves
 pub mod Sessions

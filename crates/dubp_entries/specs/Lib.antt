@@ -8,3 +8,4 @@ pub mod Gathering
 pub mod Run
 pub mod Ends
 pub mod Reading
+pub mod Remembered

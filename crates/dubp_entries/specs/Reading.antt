@@ -45,6 +45,14 @@ Shows (item.Frame framed payload last) entry =
     (head : List ℕ) × (entry ≡ Frame head payload.now last) × Says head (framed_command framed) × (framed_len framed ≡ length payload.now) × (length payload.now ≤ longest_block)
 Shows (item.LongFrame last) entry = (head : List ℕ) × (payload : List ℕ) × (entry ≡ Frame head payload last) × HeadsFrame head (length payload) × (longest_block < length payload)
 
+-- there is such an entry
+abbrev pub IsShown : Item → Type 0
+IsShown item = (entry : Entry) × IsWhole entry × Shows item entry
+
+-- there are such bytes
+abbrev pub StandsSomewhere : Phase → List ℕ → Type 0
+StandsSomewhere phase hand = (bytes : List ℕ) × Stands phase hand bytes
+
 -- the bytes begin with the entry that the item shows
 pub record TakesOne (bytes rest : List ℕ) (item : Item) : Type 0 where
   pub command : Entry

@@ -1,3 +1,6 @@
+ghost use Rattle.std.specs.Prelude.{◌≡◌, IfSome};
+ghost use Rattle.dubp_entries.specs.declared.item.Item.TheVariants as item;
+
 use dubp_script::Framed;
 
 /// An entry of the input as it stands in the bytes at hand, or what is left of one that was read past.
@@ -11,4 +14,16 @@ pub enum Item<'a> {
     Frame(Framed, &'a [u8], u8),
     /// The byte behind a frame that is longer than frames are read.
     LongFrame(u8),
+}
+
+impl<'a> Item<'a> {
+    /// The line, where it is one that is not too long to be read.
+    pub fn line(&self) -> Option<&'a [u8]>
+        ensures { IfSome result (λ line. self.now ≡ item.Line line) }
+    {
+        match self {
+            Item::Line(line) => Some(*line),
+            _ => None,
+        }
+    }
 }

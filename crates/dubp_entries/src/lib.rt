@@ -18,6 +18,7 @@ mod gathered;
 mod item;
 mod laws;
 mod reading;
+mod remembered;
 
 pub use asking::is_question;
 pub use buffer::Buffer;
@@ -26,3 +27,4 @@ pub use gathered::{Gathered, flush, keep};
 pub use item::Item;
 pub use laws::cutting;
 pub use reading::{Found, LONGEST_LINE, Phase, frame_head, line_end, take_one};
+pub use remembered::Remembered;

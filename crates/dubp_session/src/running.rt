@@ -6,7 +6,8 @@ ghost use Rattle.dubp_entries.specs.Ends.{Ends, Faults, LastEnds};
 ghost use Rattle.dubp_entries.specs.Run.{at, AnsweredSome, AnsweredMost, AnsweredToEnd, BrokeOff, IsRun};
 ghost use Rattle.dubp_entries.specs.Cut.{BeginsNone};
 ghost use Rattle.dubp_entries.specs.Session.{Broke};
-ghost use Rattle.dubp_entries.specs.Reading.{Stands, most_at_hand};
+ghost use Rattle.dubp_entries.specs.Reading.{Stands, StandsSomewhere, most_at_hand};
+ghost use Rattle.dubp_entries.specs.Remembered.{AreReplies};
 ghost use Rattle.dubp_entries.specs.Serving.{ServedAll};
 ghost use Rattle.dubp_session.specs.Statuses.{GenStatus, IsStatus, StatusFaults};
 ghost use Rattle.dubp_session.specs.Forms.{GenEnds, GenFaults};
@@ -15,7 +16,7 @@ ghost use Rattle.dubp_entries.specs.declared.ends.InputEnd.TheVariants.{OnBounda
 
 use crate::form::{Form, form_of};
 use crate::generating::{GenEnding, generate};
-use crate::serving::{finish, serve};
+use crate::serving::{Desk, finish, serve};
 use dubp_atoms::Steps;
 use dubp_entries::{Buffer, Ending, InputEnd, Phase};
 use dubp_gen::PeopleAndMoney;
@@ -131,7 +132,15 @@ fn run_words<T: PeopleAndMoney, S: Source, K: Sink>(
             let Ok(mut buffer) = Buffer::new(alloc) else {
                 return NO_ROOM;
             };
-            match session_from::<T, S, K, Brand>(Blank::new(1), &mut buffer, source, sink, node) {
+            let mut desk = Desk::new(alloc);
+            match session_from::<T, S, K, Brand>(
+                Blank::new(1),
+                &mut buffer,
+                &mut desk,
+                source,
+                sink,
+                node,
+            ) {
                 Ending::Ended(InputEnd::OnBoundary) => ENDED,
                 Ending::Ended(InputEnd::InsideFrame) => CUT_SHORT,
                 Ending::ReadFault => READ_FAULT,
@@ -164,6 +173,7 @@ fn generate_from<T: PeopleAndMoney, K: Sink, L: StepBook>(
 fn session_from<T: PeopleAndMoney, S: Source, K: Sink, L: StepBook>(
     blank: Blank,
     buffer: &mut Buffer,
+    desk: &mut Desk,
     source: &mut S,
     sink: &mut K,
     node: &mut Node<T>,
@@ -172,23 +182,28 @@ fn session_from<T: PeopleAndMoney, S: Source, K: Sink, L: StepBook>(
     requires parts { blank.parts ≡ L.parts }
     requires some { 0 < blank.parts }
     requires empty { buffer.old ≡ [] }
+    requires gathered { desk.old.gathered ≡ [] }
+    requires replies { AreReplies node.old desk.old.remembered }
     ensures ends { Ends (at node.old (S.left source.old) (K.held sink.old)) (at node.new (S.left source.new) (K.held sink.new)) result }
     ensures faults { Faults (S.faults source.old) (S.faults source.new) (K.faults sink.old) (K.faults sink.new) result }
     ensures last_read { result ≡ Ending.ReadFault → S.failing source.new ≡ true }
 {
     let mut steps = Steps::<L>::open(blank);
-    session(buffer, source, sink, node, &mut steps)
+    session(buffer, desk, source, sink, node, &mut steps)
 }
 
 /// Reads entries and answers them, to the end of the input or the first fault.
 pub fn session<T: PeopleAndMoney, S: Source, K: Sink, L: StepBook>(
     buffer: &mut Buffer,
+    desk: &mut Desk,
     source: &mut S,
     sink: &mut K,
     node: &mut Node<T>,
     steps: &mut Steps<L>,
 ) -> Ending
-    requires { buffer.old ≡ [] }
+    requires empty { buffer.old ≡ [] }
+    requires gathered { desk.old.gathered ≡ [] }
+    requires replies { AreReplies node.old desk.old.remembered }
     ensures ends { Ends (at node.old (S.left source.old) (K.held sink.old)) (at node.new (S.left source.new) (K.held sink.new)) result }
     ensures faults { Faults (S.faults source.old) (S.faults source.new) (K.faults sink.old) (K.faults sink.new) result }
     ensures last_read { result ≡ Ending.ReadFault → S.failing source.new ≡ true }
@@ -196,7 +211,7 @@ pub fn session<T: PeopleAndMoney, S: Source, K: Sink, L: StepBook>(
     let mut phase = Phase::Start;
     let mut taken = 0;
     'reads: loop {
-        match answer_at_hand(buffer, sink, node, phase, steps) {
+        match answer_at_hand(buffer, desk, sink, node, phase, steps) {
             Ok(next) => phase = next,
             Err(_) => return Ending::WriteFault,
         }
@@ -214,11 +229,17 @@ pub fn session<T: PeopleAndMoney, S: Source, K: Sink, L: StepBook>(
 /// Answers each whole entry at hand, and keeps what is left.
 fn answer_at_hand<T: PeopleAndMoney, K: Sink, L: StepBook>(
     buffer: &mut Buffer,
+    desk: &mut Desk,
     sink: &mut K,
     node: &mut Node<T>,
     phase: Phase,
     steps: &mut Steps<L>,
 ) -> Result<Phase, Failed>
+    requires stands { StandsSomewhere phase buffer.old }
+    requires gathered { desk.old.gathered ≡ [] }
+    requires replies { AreReplies node.old desk.old.remembered }
+    ensures gathered { OnOk result (desk.new.gathered ≡ []) }
+    ensures replies { OnOk result (AreReplies node.new desk.new.remembered) }
     ensures served { IfOk result (λ next. (bytes : List ℕ) → Stands phase buffer.old bytes →
         ServedAll node.old node.new (K.held sink.old) (K.held sink.new) bytes next buffer.new) }
     ensures left { OnOk result (length buffer.new ≤ most_at_hand) }
@@ -226,7 +247,7 @@ fn answer_at_hand<T: PeopleAndMoney, K: Sink, L: StepBook>(
         Broke node.old node.new (K.held sink.old) (K.held sink.new) bytes) }
     ensures cause { HasCause (K.faults sink.old) (K.faults sink.new) result }
 {
-    match serve(node, sink, phase, buffer.bytes(), steps) {
+    match serve(node, sink, desk, phase, buffer.bytes(), steps) {
         Ok((next, left)) => {
             buffer.keep_last(left);
             Ok(next)

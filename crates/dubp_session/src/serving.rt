@@ -9,89 +9,129 @@ ghost use Rattle.dubp_script.specs.Spelling.{Says};
 ghost use Rattle.dubp_replay.specs.Turns.{State};
 ghost use Rattle.dubp_turns.specs.Told.{told_text};
 ghost use Rattle.dubp_entries.specs.Session.{Broke};
-ghost use Rattle.dubp_entries.specs.Reading.{Shows, Stands, most_at_hand};
+ghost use Rattle.dubp_entries.specs.Reading.{IsShown, Shows, Stands, StandsSomewhere, most_at_hand};
 ghost use Rattle.dubp_entries.specs.Asking.{ShowsQuestion};
 ghost use Rattle.dubp_entries.specs.Gathering.{TurnOwed, TurnOwedBroke};
+ghost use Rattle.dubp_entries.specs.Remembered.{AreReplies};
 ghost use Rattle.dubp_entries.specs.Serving.{TurnWritten, TurnBroke, ServedAll, Finished};
 
 use crate::texts::put_bad;
 use arrayvec::ArrayVec;
 use dubp_atoms::{Line, Steps};
 use dubp_entries::{
-    Found, Gathered, InputEnd, Item, LONGEST_LINE, Phase, flush, frame_head, is_question, keep,
-    line_end, take_one,
+    Found, Gathered, InputEnd, Item, LONGEST_LINE, Phase, Remembered, flush, frame_head,
+    is_question, keep, line_end, take_one,
 };
 use dubp_gen::PeopleAndMoney;
 use dubp_laws::conserved;
 use dubp_outside::{Failed, Sink, write_whole};
 use dubp_script::{Framed, begins_command, read_asked, read_command};
 use dubp_turns::{Node, Told, put_refused};
+use std::alloc::Global;
 use std::sync::ledger::Ledger as StepBook;
 
-// An entry takes its turn. The answer of one that is sure to change nothing is gathered; before any other, what was gathered is written, and
-// its own answer behind its turn.
+/// What a run answers with: a place for an answer of one line, since such a place is cleared whole where it is made; the answers that are still to be
+/// written; and what lines were answered since the state last changed.
+#[derive(Drop)]
+pub struct Desk {
+    gathered: Gathered,
+    line: Line,
+    remembered: Remembered,
+}
+
+impl Desk {
+    /// Nothing is to be written, and nothing is remembered. It takes no memory.
+    pub fn new(alloc: Global) -> Desk
+        ensures gathered { result.gathered ≡ [] }
+        ensures remembered { result.remembered ≡ [] }
+    {
+        Desk {
+            gathered: Gathered::new(),
+            line: ArrayVec::new(),
+            remembered: Remembered::new(alloc),
+        }
+    }
+}
+
+// An entry takes its turn. The answer of one that is sure to change nothing is gathered; before any other, what was gathered is written and what was
+// remembered is forgotten, and its own answer is written behind its turn.
 fn take_turn<T: PeopleAndMoney, K: Sink, L: StepBook>(
     node: &mut Node<T>,
     sink: &mut K,
-    gathered: &mut Gathered,
-    line: &mut Line,
+    desk: &mut Desk,
     item: Item<'_>,
     steps: &mut Steps<L>,
 ) -> Result<(), Failed>
-    ensures owed { OnOk result (TurnOwed node.old node.new (K.held sink.old) (K.held sink.new) gathered.old gathered.new item.entry) }
-    ensures broke { OnErr result (TurnOwedBroke node.old node.new (K.held sink.old) (K.held sink.new) gathered.old item.entry) }
+    requires shown { IsShown item }
+    requires replies { AreReplies node.old desk.old.remembered }
+    ensures owed { OnOk result (TurnOwed node.old node.new (K.held sink.old) (K.held sink.new) desk.old.gathered desk.new.gathered item.entry) }
+    ensures replies { OnOk result (AreReplies node.new desk.new.remembered) }
+    ensures broke { OnErr result (TurnOwedBroke node.old node.new (K.held sink.old) (K.held sink.new) desk.old.gathered item.entry) }
     ensures cause { HasCause (K.faults sink.old) (K.faults sink.new) result }
 {
-    line.clear();
+    desk.line.clear();
     if is_question(&item) {
-        return gather_turn(node, sink, gathered, line, item, steps);
+        return gather_turn(node, sink, desk, item, steps);
     }
-    if let Err(failed) = flush(sink, gathered) {
+    desk.remembered.clear();
+    if let Err(failed) = flush(sink, &mut desk.gathered) {
         return Err(failed);
     }
-    write_turn(node, sink, line, item, steps)
+    write_turn(node, sink, &mut desk.line, item, steps)
 }
 
-// An entry that is sure to change nothing takes its turn, and its answer is gathered. Most are answered in one line, and for all of these there is one
-// place, `line`, since a place for a line is cleared whole where it is made.
+// An entry that is sure to change nothing takes its turn, and its answer is gathered: that which is remembered, or else it is asked for. Most are answered
+// in one line.
 fn gather_turn<T: PeopleAndMoney, K: Sink, L: StepBook>(
     node: &mut Node<T>,
     sink: &mut K,
-    gathered: &mut Gathered,
-    line: &mut Line,
+    desk: &mut Desk,
     item: Item<'_>,
     steps: &mut Steps<L>,
 ) -> Result<(), Failed>
+    requires shown { IsShown item }
     requires question { ShowsQuestion item }
-    requires empty { line.old.items ≡ [] }
-    ensures owed { OnOk result (TurnOwed node.old node.new (K.held sink.old) (K.held sink.new) gathered.old gathered.new item.entry) }
-    ensures broke { OnErr result (TurnOwedBroke node.old node.new (K.held sink.old) (K.held sink.new) gathered.old item.entry) }
+    requires empty { desk.old.line.items ≡ [] }
+    requires replies { AreReplies node.old desk.old.remembered }
+    ensures owed { OnOk result (TurnOwed node.old node.new (K.held sink.old) (K.held sink.new) desk.old.gathered desk.new.gathered item.entry) }
+    ensures replies { OnOk result (AreReplies node.new desk.new.remembered) }
+    ensures broke { OnErr result (TurnOwedBroke node.old node.new (K.held sink.old) (K.held sink.new) desk.old.gathered item.entry) }
     ensures cause { HasCause (K.faults sink.old) (K.faults sink.new) result }
 {
-    if tell_entry(node, &item, line) {
-        return keep(sink, gathered, line.as_slice());
+    let asked = item.line();
+    if let Some(answer) = desk.remembered.answer_to(asked) {
+        return keep(sink, &mut desk.gathered, answer);
     }
-    gather_answer(node, sink, gathered, line, item, steps)
+    if tell_entry(node, &item, &mut desk.line) {
+        desk.remembered.put(asked, desk.line.as_slice());
+        return keep(sink, &mut desk.gathered, desk.line.as_slice());
+    }
+    gather_answer(node, sink, desk, item, steps)
 }
 
 // The same of an entry whose answer may be of many lines.
 fn gather_answer<T: PeopleAndMoney, K: Sink, L: StepBook>(
     node: &mut Node<T>,
     sink: &mut K,
-    gathered: &mut Gathered,
-    line: &mut Line,
+    desk: &mut Desk,
     item: Item<'_>,
     steps: &mut Steps<L>,
 ) -> Result<(), Failed>
+    requires shown { IsShown item }
     requires question { ShowsQuestion item }
-    requires empty { line.old.items ≡ [] }
-    ensures owed { OnOk result (TurnOwed node.old node.new (K.held sink.old) (K.held sink.new) gathered.old gathered.new item.entry) }
-    ensures broke { OnErr result (TurnOwedBroke node.old node.new (K.held sink.old) (K.held sink.new) gathered.old item.entry) }
+    requires empty { desk.old.line.items ≡ [] }
+    requires replies { AreReplies node.old desk.old.remembered }
+    ensures owed { OnOk result (TurnOwed node.old node.new (K.held sink.old) (K.held sink.new) desk.old.gathered desk.new.gathered item.entry) }
+    ensures replies { OnOk result (AreReplies node.new desk.new.remembered) }
+    ensures broke { OnErr result (TurnOwedBroke node.old node.new (K.held sink.old) (K.held sink.new) desk.old.gathered item.entry) }
     ensures cause { HasCause (K.faults sink.old) (K.faults sink.new) result }
 {
     node.laws();
-    let told = answer_item(node, item, line, steps);
-    keep(sink, gathered, told.bytes(line))
+    let asked = item.line();
+    let told = answer_item(node, item, &mut desk.line, steps);
+    let answer = told.bytes(&desk.line);
+    desk.remembered.put(asked, answer);
+    keep(sink, &mut desk.gathered, answer)
 }
 
 // Puts the answer to an entry into the line, where it is a query that is answered in one line, or a line that is sure to be no command; and behind it
@@ -276,10 +316,16 @@ fn skip(bytes: &[u8], count: usize) -> &[u8]
 pub fn serve<T: PeopleAndMoney, K: Sink, L: StepBook>(
     node: &mut Node<T>,
     sink: &mut K,
+    desk: &mut Desk,
     phase: Phase,
     hand: &[u8],
     steps: &mut Steps<L>,
 ) -> Result<(Phase, usize), Failed>
+    requires stands { StandsSomewhere phase hand.now }
+    requires gathered { desk.old.gathered ≡ [] }
+    requires replies { AreReplies node.old desk.old.remembered }
+    ensures gathered { OnOk result (desk.new.gathered ≡ []) }
+    ensures replies { OnOk result (AreReplies node.new desk.new.remembered) }
     ensures served { IfOk result (λ r. (bytes : List ℕ) → Stands phase hand.now bytes →
         ServedAll node.old node.new (K.held sink.old) (K.held sink.new) bytes r.0 (drop (length hand.now - r.1) hand.now)) }
     ensures left { IfOk result (λ r. (r.1 ≤ length hand.now) × (r.1 ≤ most_at_hand)) }
@@ -287,14 +333,12 @@ pub fn serve<T: PeopleAndMoney, K: Sink, L: StepBook>(
         Broke node.old node.new (K.held sink.old) (K.held sink.new) bytes) }
     ensures cause { HasCause (K.faults sink.old) (K.faults sink.new) result }
 {
-    let mut gathered = Gathered::new();
-    let mut line: Line = ArrayVec::new();
     let mut phase = phase;
     let mut rest = hand;
     'commands: loop {
         match take_one(phase, rest) {
             Found::Wait => {
-                if let Err(failed) = flush(sink, &mut gathered) {
+                if let Err(failed) = flush(sink, &mut desk.gathered) {
                     return Err(failed);
                 }
                 return Ok((phase, rest.len()));
@@ -304,7 +348,7 @@ pub fn serve<T: PeopleAndMoney, K: Sink, L: StepBook>(
                 rest = skip(rest, used);
             }
             Found::Got(used, item) => {
-                if let Err(failed) = take_turn(node, sink, &mut gathered, &mut line, item, steps) {
+                if let Err(failed) = take_turn(node, sink, desk, item, steps) {
                     return Err(failed);
                 }
                 phase = Phase::Start;

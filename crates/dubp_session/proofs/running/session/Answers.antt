@@ -7,8 +7,13 @@ reads-init g c = record {
   read_same = refl;
   write_same = refl;
   within = omega arith;
-  so_far = so_far_nothing _ _ _ _ c.requires;
+  gathered = c.requires.gathered;
+  replies = c.requires.replies;
+  so_far = so_far_nothing _ _ _ _ c.requires.empty;
 }
+
+pub answer_at_hand-requires-clause-stands : goal.answer_at_hand-requires-clause-stands
+answer_at_hand-requires-clause-stands g c = (c.reads.invariant.so_far.rest, c.reads.invariant.so_far.stands)
 
 pub returns-in-Err-clause-ends : goal.returns-in-Err-clause-ends
 returns-in-Err-clause-ends g c = breaks _ _ _ _ _ _ _ _ _ _ _ c.reads.invariant.so_far c.reads.invariant.within c.in-Err.ensures.broke
@@ -44,5 +49,7 @@ reads-preserved g c =
       read_same = c.reads.invariant.read_same ∙ sym c.in-Ok-read_from.ensures.cause.same;
       write_same = c.reads.invariant.write_same ∙ sym c.in-Ok.ensures.cause.same;
       within = omega (arith, c.in-Ok-read_from.ensures.most);
+      gathered = c.in-Ok.ensures.gathered;
+      replies = c.in-Ok.ensures.replies;
       so_far = reads_on _ _ _ _ _ _ _ _ _ _ _ _ _ p piece.3 piece.1 piece.2;
     }

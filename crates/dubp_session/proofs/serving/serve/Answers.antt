@@ -9,8 +9,16 @@ commands-init g c =
       same = refl;
       is_rest = ap (λ n. drop n c.args.hand.now) none;
       shorter = omega arith;
-      so_far = λ bytes s. owed_nothing _ _ bytes _ _ _ c.new-gathered.ensures s;
+      stands = c.requires.stands;
+      replies = c.requires.replies;
+      so_far = λ bytes s. owed_nothing _ _ bytes _ _ _ c.requires.gathered s;
     }
+
+pub take_turn-requires-clause-shown : goal.take_turn-requires-clause-shown
+take_turn-requires-clause-shown g c =
+    let begun = c.commands.invariant.stands in
+    let one = c.in-Got.ensures.2 begun.0 begun.1 in
+    (one.command, one.whole, one.shows)
 
 pub returns-in-Err-take_turn-clause-broke : goal.returns-in-Err-take_turn-clause-broke
 returns-in-Err-take_turn-clause-broke g c = λ bytes s.
@@ -21,5 +29,7 @@ commands-preserved g c = record {
   same = c.commands.invariant.same ∙ sym c.in_default-take_turn.ensures.cause.same;
   is_rest = rest_more _ _ _ c.in-Got.used c.commands.invariant.is_rest c.commands.invariant.shorter c.in-Got.ensures.1 c.skip-rest-in-Got.ensures;
   shorter = omega (arith, ap length c.skip-rest-in-Got.ensures, length-drop c.in-Got.used c.commands.rest.now);
+  stands = (_, refl);
+  replies = c.in_default-take_turn.ensures.replies;
   so_far = λ bytes s. owed_got _ _ _ _ _ _ bytes _ _ _ _ _ _ _ (c.commands.invariant.so_far bytes s) c.in-Got.ensures c.in_default-take_turn.ensures.owed c.skip-rest-in-Got.ensures;
 }

@@ -1,6 +1,7 @@
 use Rattle.std.proofs.Common.{◌≡◌, ◌-◌, ◌≤◌, ℕ, List, length, drop}
 use Rattle.dubp_entries.specs.Gathering.{OwedTo}
-use Rattle.dubp_entries.specs.Reading.{Stands}
+use Rattle.dubp_entries.specs.Reading.{Stands, StandsSomewhere}
+use Rattle.dubp_entries.specs.Remembered.{AreReplies}
 use Rattle.dubp_session.proofs.serving.serve.Given as goal
 
 abbrev pub invariant-commands : goal.invariant-commands
@@ -8,7 +9,9 @@ invariant-commands g l = record {
   same : g.K.Sink.faults l.initial.sink ≡ g.K.Sink.faults l.sink;
   is_rest : l.rest ≡ drop (length l.hand - length l.rest) l.hand;
   shorter : length l.rest ≤ length l.hand;
-  so_far : (bytes : List ℕ) → Stands l.initial.phase l.hand bytes → OwedTo l.initial.node l.node (g.K.Sink.held l.initial.sink) (g.K.Sink.held l.sink) bytes l.phase l.rest l.gathered;
+  stands : StandsSomewhere l.phase l.rest;
+  replies : AreReplies l.node l.desk.remembered;
+  so_far : (bytes : List ℕ) → Stands l.initial.phase l.hand bytes → OwedTo l.initial.node l.node (g.K.Sink.held l.initial.sink) (g.K.Sink.held l.sink) bytes l.phase l.rest l.desk.gathered;
 }
 
 abbrev pub decreases-commands : goal.decreases-commands

@@ -1,0 +1,30 @@
+-- Answers that are remembered while the state stays as it is. Protocol: commands and answers.
+use Rattle.std.specs.Prelude.{◌≡◌, ◌⊎◌, ◌++◌, ◌∷◌, [], ℕ, List}
+use Rattle.std.specs.List.{All}
+use Rattle.dubp_replay.specs.Answers.{no_memory_answer}
+use Rattle.dubp_replay.specs.Turns.{State}
+use Rattle.dubp_entries.specs.Entries.{Line, IsWhole}
+use Rattle.dubp_entries.specs.Turns.{EntryTurn}
+
+-- a line, and what it was answered
+pub record Reply : Type 0 where
+  pub asked : List ℕ
+  pub answer : List ℕ
+
+abbrev pub reply : List ℕ → List ℕ → Reply
+reply asked answer = record { asked = asked; answer = answer }
+
+-- in this state the line is answered so, and the state stays
+abbrev pub IsReply : State → Reply → Type 0
+IsReply state one = IsWhole (Line one.asked) → EntryTurn state (Line one.asked) one.answer state
+
+abbrev pub AreReplies : State → List Reply → Type 0
+AreReplies state replies = All (IsReply state) replies
+
+-- what is remembered with a reply more: there may be no room for it, and where as many are remembered as may be, the others are forgotten
+abbrev pub Remembers : List Reply → Reply → List Reply → Type 0
+Remembers old one new = (new ≡ old) ⊎ (new ≡ old ++ one ∷ []) ⊎ (new ≡ one ∷ [])
+
+-- the answer says that there was no room
+abbrev pub SaysNoRoom : List ℕ → Type 0
+SaysNoRoom answer = answer ≡ no_memory_answer
