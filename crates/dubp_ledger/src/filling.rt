@@ -12,7 +12,7 @@ use crate::ledger::Ledger;
 use dubp_atoms::{Currency, Items, Key, NoMemory, Sig};
 use dubp_block::{Block, inner_hash_of};
 use dubp_chain::Head;
-use dubp_head::{HeadRefusal, augment};
+use dubp_head::augment_over;
 use dubp_params::Params;
 use dubp_people_and_money::PeopleAndMoney;
 
@@ -59,10 +59,9 @@ impl<T: PeopleAndMoney> Ledger<T> {
         ensures range { IfOk result CanBeStated }
     {
         let members = self.tables().members_with(self.alloc(), block)?;
-        match augment(self.heads(), params, block, members) {
+        match augment_over(self.heads(), params, block, members) {
             Ok(head) => Ok(head),
-            Err(HeadRefusal::Refused { head, .. }) => Ok(head),
-            Err(HeadRefusal::NoMemory) => Err(NoMemory),
+            Err(passed) => Ok(passed.head),
         }
     }
 }
