@@ -1,4 +1,4 @@
-ghost use Rattle.std.specs.Prelude.{◌≡◌, ◌↔◌, ◌+◌, ◌≤◌, ◌<◌, ◌∷◌, [], IsTrue, IfOk, IfErr, OnOk, OnErr, MatchOption, None, Some, drop, length, min, option_map, position, reverse, slice_get, take};
+ghost use Rattle.std.specs.Prelude.{◌≡◌, ◌↔◌, ◌+◌, ◌≤◌, ◌<◌, ◌∷◌, [], IsTrue, IfOk, IfErr, IsOk, OnOk, OnErr, MatchOption, None, Some, drop, length, min, option_map, position, reverse, slice_get, take};
 ghost use Rattle.std.specs.List.{AllByRecursion};
 ghost use Rattle.dubp_atoms.specs.Same.{same_stamp};
 ghost use Rattle.dubp_atoms.specs.Hashing.{hash_of};
@@ -152,7 +152,8 @@ impl<T: PeopleAndMoney> Ledger<T> {
 
     /// The difficulty of the key for the next block. None exactly where the key is no member of the chain. It takes no memory.
     pub fn difficulty(&self, key: Key) -> Result<Option<u128>, NoMemory>
-        ensures { IfOk result (IsDifficulty self.now.chain key) }
+        ensures value { IfOk result (IsDifficulty self.now.chain key) }
+        ensures always { IsOk result }
     {
         self.laws();
         let Some(first) = self.tables().first() else {

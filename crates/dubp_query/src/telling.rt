@@ -1,4 +1,4 @@
-ghost use Rattle.std.specs.Prelude.{◌≡◌, ◌≤◌, [], OnErr, OnOk, length};
+ghost use Rattle.std.specs.Prelude.{◌≡◌, ◌≤◌, [], IsOk, OnErr, OnOk, length};
 ghost use Rattle.dubp_replay.specs.Answers.{IsAnswered, diff_answer};
 ghost use Rattle.dubp_replay.specs.OneLine.{IsShort, query_of};
 ghost use Rattle.dubp_replay.specs.declared.query.Query.TheVariants as asked;
@@ -114,14 +114,14 @@ fn put_difficulty<T: PeopleAndMoney>(
     requires { line.old.items ≡ [] }
     ensures told { IsTold ledger.now.chain (asked.Diff key) line.new.items result }
     ensures refused { OnErr result (line.new.items ≡ []) }
+    ensures always { IsOk result }
 {
     put_difficulty_line(ledger, key, line)?;
     Ok(())
 }
 
 /// Puts the answer to DIFF into an empty line: the difficulty that the key would have for the next block, or `NONE` where it is no member.
-///
-/// `NoMemory` where there is no room to count the issuers of the last frame, and leaves the line empty.
+/// It takes no memory, and is never refused.
 pub fn put_difficulty_line<T: PeopleAndMoney>(
     ledger: &Ledger<T>,
     key: Key,
@@ -130,6 +130,7 @@ pub fn put_difficulty_line<T: PeopleAndMoney>(
     requires { line.old.items ≡ [] }
     ensures told { OnOk result (line.new.items ≡ diff_answer ledger.now.chain key) }
     ensures refused { OnErr result (line.new.items ≡ []) }
+    ensures always { IsOk result }
 {
     let difficulty = ledger.difficulty(key)?;
     put_diff_line(difficulty, line);
