@@ -225,11 +225,11 @@ pub fn put<L: StepBook>(
     ensures no_step { OnErr result (steps.new ≡ steps.old) }
 {
     let named = named_place(change);
-    tables.first.ready(name, 1)?;
     ready_rows(&mut tables.second, change)?;
     tables.third.ready(change.account, 1)?;
+    // The name needs no `ready`, since its set is the first, and may be refused while nothing has changed.
+    tables.first.set(name, named, steps)?;
     tables.third.set(change.account, change.balance, steps)?;
     set_rows(&mut tables.second, change, steps)?;
-    tables.first.set(name, named, steps)?;
     Ok(())
 }
