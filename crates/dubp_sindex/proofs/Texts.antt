@@ -1,61 +1,13 @@
 -- The texts of keys in a set that keeps the order in which they came.
-use Rattle.std.proofs.Common.{◌≡◌, ℕ, suc, zero, ◌+◌, ◌<◌, IfSome, Bool, true, false, cond, not, ◌||◌, List, [], ◌∷◌, ◌++◌, map, length, slice_get, Some, None, option_map, refl, ap, sym, subst, ◌∙◌, true≢false, nat_lt, arith, position}
-use Rattle.std.specs.List.{list_any, position_or_len, AllByRecursion, IsDistinct}
+use Rattle.std.proofs.Common.{◌≡◌, ℕ, ◌+◌, ◌<◌, IfSome, true, false, cond, not, ◌||◌, List, [], ◌∷◌, ◌++◌, length, Some, None, refl, ap, sym, subst, ◌∙◌, true≢false, nat_lt, arith}
+use Rattle.std.specs.List.{list_any, position_or_len}
 use Rattle.std.proofs.lemmas.Option.{none-some}
 use Rattle.std.proofs.lemmas.Bool.{lt-ltb, ltb-true}
 use Rattle.dubp_atoms.specs.Same.{Text, same_text}
 use Rattle.indexmap.specs.IndexMap.{IndexMap, get}
-use Rattle.dubp_sindex.specs.Numbering.{AreApart, AreNumbers, number_of, signed_text, with_text}
+use Rattle.dubp_sindex.specs.Numbering.{AreNumbers, number_of, signed_text, with_text}
 use Rattle.dubp_sindex.proofs.Sources.{same_text_is}
-use Rattle.dubp_sindex.proofs.Elements.{list_any-map, is_false, or_left, or_right}
-
-module _ {V : Type 0} (text : V → Text) where
-  length-map : (keys : List V) → length (map text keys) ≡ length keys
-  length-map [] = refl
-  length-map (v ∷ keys) = ap suc (length-map keys)
-
-  position_or_len-map : (p : Text → Bool) (keys : List V) → position_or_len p (map text keys) ≡ position_or_len (λ v. p (text v)) keys
-  position_or_len-map p [] = refl
-  position_or_len-map p (v ∷ keys) = ap (λ n. cond (not (p (text v))) (1 + n) 0) (position_or_len-map p keys)
-
-  -- the number of a text is the place of its key
-  pub position-map : (p : Text → Bool) (keys : List V) → position p (map text keys) ≡ position (λ v. p (text v)) keys
-  position-map p keys = λ i. cond (nat_lt (position_or_len-map p keys i) (length-map keys i)) (Some (position_or_len-map p keys i)) None
-
-  pub get-map : (keys : List V) (n : ℕ) → slice_get (map text keys) n ≡ option_map text (slice_get keys n)
-  get-map [] n = refl
-  get-map (v ∷ keys) zero = refl
-  get-map (v ∷ keys) (suc n) = get-map keys n
-
-  all-map : (P : Text → Type 0) (keys : List V) → AllByRecursion (λ v. P (text v)) keys → AllByRecursion P (map text keys)
-  all-map P [] all = tt
-  all-map P (v ∷ keys) all = (all.0, all-map P keys all.1)
-
-  pub apart-map : (keys : List V) → IsDistinct (λ x y. same_text (text x) (text y)) keys → AreApart (map text keys)
-  unfolding IsDistinct
-  apart-map [] apart = tt
-  apart-map (v ∷ keys) apart = (all-map (λ t. same_text (text v) t ≡ false) keys apart.0, apart-map keys apart.1)
-
-  -- the text of a key that is put last
-  map-push : (keys : List V) (v : V) → map text (keys ++ v ∷ []) ≡ map text keys ++ text v ∷ []
-  map-push [] v = refl
-  map-push (x ∷ keys) v = ap (λ l. text x ∷ l) (map-push keys v)
-
-  with_text-map : (keys : List V) (v : V) → map text (cond (list_any (λ x. same_text (text v) (text x)) keys) keys (keys ++ v ∷ [])) ≡ with_text (map text keys) (text v)
-  with_text-map keys v =
-      elim (list_any (λ x. same_text (text v) (text x)) keys) as (λ r. list_any (λ x. same_text (text v) (text x)) keys ≡ r → map text (cond r keys (keys ++ v ∷ [])) ≡ with_text (map text keys) (text v)) [
-        | true ↦ λ is. sym (ap (λ r. cond r (map text keys) (map text keys ++ text v ∷ [])) (list_any-map (same_text (text v)) text keys ∙ is))
-        | false ↦ λ is. map-push keys v ∙ sym (ap (λ r. cond r (map text keys) (map text keys ++ text v ∷ [])) (list_any-map (same_text (text v)) text keys ∙ is))
-      ] refl
-
-  -- what the set holds when a key was put last where it was new
-  pub put_is : (keys keys' : List V) (v : V) (texts : List Text) (t : Text) → keys' ≡ cond (list_any (λ x. same_text (text v) (text x)) keys) keys (keys ++ v ∷ [])
-      → map text keys ≡ texts → text v ≡ t → map text keys' ≡ with_text texts t
-  put_is keys keys' v texts t put view is = ap (map text) put ∙ with_text-map keys v ∙ (λ i. with_text (view i) (is i))
-
-  pub place_is : (keys : List V) (v : V) (texts : List Text) (t : Text) (n : ℕ) → n ≡ position_or_len (λ x. same_text (text v) (text x)) keys → map text keys ≡ texts → text v ≡ t
-      → n ≡ position_or_len (same_text t) texts
-  place_is keys v texts t n at view is = at ∙ sym (position_or_len-map (same_text (text v)) keys) ∙ (λ i. position_or_len (same_text (is i)) (view i))
+use Rattle.dubp_sindex.proofs.Elements.{is_false, or_left, or_right}
 
 -- the number of a text that is there, and that one with a number is there
 module _ (t : Text) where

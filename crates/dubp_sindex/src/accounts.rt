@@ -1,8 +1,9 @@
-ghost use Rattle.std.specs.Prelude.{◌≡◌, ◌<◌, ◌++◌, ◌∷◌, if◌then◌else◌, [], List, Some, length, slice_get, IfOk, IfSome, OnOk, OnErr};
-ghost use Rattle.std.specs.List.{list_any, position_or_len};
+ghost use Rattle.std.specs.Prelude.{◌≡◌, ◌<◌, [], List, Some, length, slice_get, IfOk, IfSome, OnOk, OnErr};
+ghost use Rattle.std.specs.List.{position_or_len};
 ghost use Rattle.dubp_atoms.specs.Same.{Text, same_text};
 ghost use Rattle.dubp_sindex.specs.Numbering.{AreApart, AreNumbers, number_of, signed_text, with_text};
 
+use crate::text::{AccountText, Sought};
 use arrayvec::ArrayVec;
 use dubp_atoms::{Key, NoMemory, Secret};
 use indexmap::{IndexMap, IndexSet};
@@ -19,21 +20,21 @@ const SIGNED_ROOM: usize = 64;
 #[derive(Drop)]
 pub struct Accounts {
     alloc: Global,
-    texts: IndexSet<Vec<u8>, Secret>,
+    texts: IndexSet<AccountText, Secret>,
     signed: IndexMap<Key, usize, Secret>,
 }
 
 impl Model for Accounts {
-    ghost use Rattle.std.specs.Prelude.{List, map};
+    ghost use Rattle.std.specs.Prelude.{List};
     ghost use Rattle.dubp_atoms.specs.Same.{Text};
 
     ghost Value = { List Text };
 
-    ghost view = { λ a. map (λ v. v.items) a.texts.keys };
+    ghost view = { λ a. a.texts.keys };
 
     ghost use Rattle.dubp_sindex.specs.Numbering.{AreNumbers};
 
-    ghost invariant = { λ a. AreNumbers a.signed (map (λ v. v.items) a.texts.keys) };
+    ghost invariant = { λ a. AreNumbers a.signed a.texts.keys };
 }
 
 impl Accounts {
@@ -60,7 +61,7 @@ impl Accounts {
     pub fn find(&self, text: &[u8]) -> Option<usize>
         ensures { result ≡ number_of self.now text.now }
     {
-        self.texts.get_index_of(text)
+        self.texts.get_index_of(Sought { text })
     }
 
     /// The text of this number. It takes no memory.
@@ -68,7 +69,7 @@ impl Accounts {
         requires { number < length self.now }
         ensures { slice_get self.now number ≡ Some result.now }
     {
-        self.texts.as_slice()[number].as_slice()
+        self.texts.as_slice()[number].as_bytes()
     }
 
     /// The number of the text, which goes last where it is new.
@@ -82,7 +83,7 @@ impl Accounts {
         if let Some(number) = self.find(text) {
             return Ok(number);
         }
-        let text = copy(self.alloc, text)?;
+        let text = AccountText::of(self.alloc, text)?;
         let number = put_last(&mut self.texts, text)?;
         Ok(number)
     }
@@ -130,17 +131,10 @@ fn text_of_signed(key: &Key) -> ArrayVec<u8, SIGNED_ROOM>
     text
 }
 
-// The text in memory of its own length.
-fn copy(alloc: Global, text: &[u8]) -> Result<Vec<u8>, NoMemory>
-    ensures { IfOk result (λ copied. copied.items ≡ text.now) }
-{
-    Vec::from_slice(alloc, text).map_err(|_| NoMemory)
-}
-
 // The place of the text, which goes last where it is new.
-fn put_last(texts: &mut IndexSet<Vec<u8>, Secret>, text: Vec<u8>) -> Result<usize, NoMemory>
-    ensures place { IfOk result (λ n. n ≡ position_or_len (λ v. same_text text.items v.items) texts.old.keys) }
-    ensures keys { OnOk result (texts.new.keys ≡ (if list_any (λ v. same_text text.items v.items) texts.old.keys then texts.old.keys else texts.old.keys ++ text ∷ [])) }
+fn put_last(texts: &mut IndexSet<AccountText, Secret>, text: AccountText) -> Result<usize, NoMemory>
+    ensures place { IfOk result (λ n. n ≡ position_or_len (same_text text) texts.old.keys) }
+    ensures keys { OnOk result (texts.new.keys ≡ with_text texts.old.keys text) }
     ensures refused { OnErr result (texts.new.keys ≡ texts.old.keys) }
 {
     match texts.insert_full(text) {

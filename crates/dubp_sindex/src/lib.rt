@@ -29,6 +29,7 @@ mod origins;
 mod reading;
 mod rows;
 mod sindex;
+mod text;
 mod writing;
 
 pub use laws::rows_stay;
