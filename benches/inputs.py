@@ -21,6 +21,8 @@ QUERIES = ["HEAD", "MONEY", "IDENTITY", "UID", "CERTS", "BALANCE", "SOURCES", "D
 QUERY_COUNT, STATEMENT_COUNT, SWITCH_COUNT = 100_000, 10_000, 200
 GENERATED_BLOCKS, GENERATED_ISSUERS = 5_000, 40
 EXCLUDED_KEYS = 23_000
+# a command that might change something, and changes nothing where a node does not choose by itself
+CHANGE = b"AUTO OFF\n"
 # where what was crafted is kept, if anywhere
 KEPT: pathlib.Path | None = None
 WEB_MEMBERS, WEB_CERTIFICATIONS, JOINERS = 2_000, 50, 100
@@ -77,6 +79,11 @@ def asked(chain: bytes, word: str, count: int = QUERY_COUNT) -> bytes:
         return "".join(f"{word} {place * 7919 % len(texts)}\n" for place in range(count)).encode()
     named = words.get(word, keys)
     return "".join(f"{word} {named[place % len(named)]}\n" for place in range(count)).encode()
+
+
+def anew(queries: bytes) -> bytes:
+    """The same queries, before each of which a command stands that might change something, and changes nothing."""
+    return queries.replace(b"\n", b"\n" + CHANGE)
 
 
 def offered(given: str) -> bytes:
@@ -301,6 +308,8 @@ def behind_a_chain(file: pathlib.Path | None) -> list[Workload]:
 
     found = [Workload(name, lambda: [chain()]), Workload("switches", lambda: [given := chain(), switched(given)], name)]
     found += [Workload(word.lower(), lambda word=word: [given := chain(), asked(given, word)], name) for word in QUERIES]
+    found.append(Workload("changes", lambda: [chain(), CHANGE * QUERY_COUNT], name))
+    found += [Workload(f"{word.lower()}_anew", lambda word=word: [given := chain(), anew(asked(given, word))], "changes") for word in QUERIES]
     return [*found, Workload("statement", lambda: [given := chain(), asked(given, "STATEMENT", STATEMENT_COUNT)], name)]
 
 

@@ -16,7 +16,7 @@ ghost use Rattle.dubp_entries.specs.declared.ends.InputEnd.TheVariants.{OnBounda
 
 use crate::form::{Form, form_of};
 use crate::generating::{GenEnding, generate};
-use crate::serving::{Desk, finish, serve};
+use crate::serving::{AnswerBuffers, finish, serve};
 use dubp_atoms::Steps;
 use dubp_entries::{Buffer, Ending, InputEnd, Phase};
 use dubp_gen::PeopleAndMoney;
@@ -132,11 +132,11 @@ fn run_words<T: PeopleAndMoney, S: Source, K: Sink>(
             let Ok(mut buffer) = Buffer::new(alloc) else {
                 return NO_ROOM;
             };
-            let mut desk = Desk::new(alloc);
+            let mut answers = AnswerBuffers::new(alloc);
             match session_from::<T, S, K, Brand>(
                 Blank::new(1),
                 &mut buffer,
-                &mut desk,
+                &mut answers,
                 source,
                 sink,
                 node,
@@ -173,7 +173,7 @@ fn generate_from<T: PeopleAndMoney, K: Sink, L: StepBook>(
 fn session_from<T: PeopleAndMoney, S: Source, K: Sink, L: StepBook>(
     blank: Blank,
     buffer: &mut Buffer,
-    desk: &mut Desk,
+    answers: &mut AnswerBuffers,
     source: &mut S,
     sink: &mut K,
     node: &mut Node<T>,
@@ -182,28 +182,28 @@ fn session_from<T: PeopleAndMoney, S: Source, K: Sink, L: StepBook>(
     requires parts { blank.parts ≡ L.parts }
     requires some { 0 < blank.parts }
     requires empty { buffer.old ≡ [] }
-    requires gathered { desk.old.gathered ≡ [] }
-    requires replies { AreReplies node.old desk.old.remembered }
+    requires gathered { answers.old.gathered ≡ [] }
+    requires replies { AreReplies node.old answers.old.remembered }
     ensures ends { Ends (at node.old (S.left source.old) (K.held sink.old)) (at node.new (S.left source.new) (K.held sink.new)) result }
     ensures faults { Faults (S.faults source.old) (S.faults source.new) (K.faults sink.old) (K.faults sink.new) result }
     ensures last_read { result ≡ Ending.ReadFault → S.failing source.new ≡ true }
 {
     let mut steps = Steps::<L>::open(blank);
-    session(buffer, desk, source, sink, node, &mut steps)
+    session(buffer, answers, source, sink, node, &mut steps)
 }
 
 /// Reads entries and answers them, to the end of the input or the first fault.
 pub fn session<T: PeopleAndMoney, S: Source, K: Sink, L: StepBook>(
     buffer: &mut Buffer,
-    desk: &mut Desk,
+    answers: &mut AnswerBuffers,
     source: &mut S,
     sink: &mut K,
     node: &mut Node<T>,
     steps: &mut Steps<L>,
 ) -> Ending
     requires empty { buffer.old ≡ [] }
-    requires gathered { desk.old.gathered ≡ [] }
-    requires replies { AreReplies node.old desk.old.remembered }
+    requires gathered { answers.old.gathered ≡ [] }
+    requires replies { AreReplies node.old answers.old.remembered }
     ensures ends { Ends (at node.old (S.left source.old) (K.held sink.old)) (at node.new (S.left source.new) (K.held sink.new)) result }
     ensures faults { Faults (S.faults source.old) (S.faults source.new) (K.faults sink.old) (K.faults sink.new) result }
     ensures last_read { result ≡ Ending.ReadFault → S.failing source.new ≡ true }
@@ -211,7 +211,7 @@ pub fn session<T: PeopleAndMoney, S: Source, K: Sink, L: StepBook>(
     let mut phase = Phase::Start;
     let mut taken = 0;
     'reads: loop {
-        match answer_at_hand(buffer, desk, sink, node, phase, steps) {
+        match answer_at_hand(buffer, answers, sink, node, phase, steps) {
             Ok(next) => phase = next,
             Err(_) => return Ending::WriteFault,
         }
@@ -229,17 +229,17 @@ pub fn session<T: PeopleAndMoney, S: Source, K: Sink, L: StepBook>(
 /// Answers each whole entry at hand, and keeps what is left.
 fn answer_at_hand<T: PeopleAndMoney, K: Sink, L: StepBook>(
     buffer: &mut Buffer,
-    desk: &mut Desk,
+    answers: &mut AnswerBuffers,
     sink: &mut K,
     node: &mut Node<T>,
     phase: Phase,
     steps: &mut Steps<L>,
 ) -> Result<Phase, Failed>
     requires stands { StandsSomewhere phase buffer.old }
-    requires gathered { desk.old.gathered ≡ [] }
-    requires replies { AreReplies node.old desk.old.remembered }
-    ensures gathered { OnOk result (desk.new.gathered ≡ []) }
-    ensures replies { OnOk result (AreReplies node.new desk.new.remembered) }
+    requires gathered { answers.old.gathered ≡ [] }
+    requires replies { AreReplies node.old answers.old.remembered }
+    ensures gathered { OnOk result (answers.new.gathered ≡ []) }
+    ensures replies { OnOk result (AreReplies node.new answers.new.remembered) }
     ensures served { IfOk result (λ next. (bytes : List ℕ) → Stands phase buffer.old bytes →
         ServedAll node.old node.new (K.held sink.old) (K.held sink.new) bytes next buffer.new) }
     ensures left { OnOk result (length buffer.new ≤ most_at_hand) }
@@ -247,7 +247,7 @@ fn answer_at_hand<T: PeopleAndMoney, K: Sink, L: StepBook>(
         Broke node.old node.new (K.held sink.old) (K.held sink.new) bytes) }
     ensures cause { HasCause (K.faults sink.old) (K.faults sink.new) result }
 {
-    match serve(node, sink, desk, phase, buffer.bytes(), steps) {
+    match serve(node, sink, answers, phase, buffer.bytes(), steps) {
         Ok((next, left)) => {
             buffer.keep_last(left);
             Ok(next)

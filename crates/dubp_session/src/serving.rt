@@ -33,19 +33,19 @@ use std::sync::ledger::Ledger as StepBook;
 /// What a run answers with: a place for an answer of one line, since such a place is cleared whole where it is made; the answers that are still to be
 /// written; and what lines were answered since the state last changed.
 #[derive(Drop)]
-pub struct Desk {
+pub struct AnswerBuffers {
     gathered: Gathered,
     line: Line,
     remembered: Remembered,
 }
 
-impl Desk {
+impl AnswerBuffers {
     /// Nothing is to be written, and nothing is remembered. It takes no memory.
-    pub fn new(alloc: Global) -> Desk
+    pub fn new(alloc: Global) -> AnswerBuffers
         ensures gathered { result.gathered ≡ [] }
         ensures remembered { result.remembered ≡ [] }
     {
-        Desk {
+        AnswerBuffers {
             gathered: Gathered::new(),
             line: ArrayVec::new(),
             remembered: Remembered::new(alloc),
@@ -58,26 +58,26 @@ impl Desk {
 fn take_turn<T: PeopleAndMoney, K: Sink, L: StepBook>(
     node: &mut Node<T>,
     sink: &mut K,
-    desk: &mut Desk,
+    answers: &mut AnswerBuffers,
     item: Item<'_>,
     steps: &mut Steps<L>,
 ) -> Result<(), Failed>
     requires shown { IsShown item }
-    requires replies { AreReplies node.old desk.old.remembered }
-    ensures owed { OnOk result (TurnOwed node.old node.new (K.held sink.old) (K.held sink.new) desk.old.gathered desk.new.gathered item.entry) }
-    ensures replies { OnOk result (AreReplies node.new desk.new.remembered) }
-    ensures broke { OnErr result (TurnOwedBroke node.old node.new (K.held sink.old) (K.held sink.new) desk.old.gathered item.entry) }
+    requires replies { AreReplies node.old answers.old.remembered }
+    ensures owed { OnOk result (TurnOwed node.old node.new (K.held sink.old) (K.held sink.new) answers.old.gathered answers.new.gathered item.entry) }
+    ensures replies { OnOk result (AreReplies node.new answers.new.remembered) }
+    ensures broke { OnErr result (TurnOwedBroke node.old node.new (K.held sink.old) (K.held sink.new) answers.old.gathered item.entry) }
     ensures cause { HasCause (K.faults sink.old) (K.faults sink.new) result }
 {
-    desk.line.clear();
+    answers.line.clear();
     if is_question(&item) {
-        return gather_turn(node, sink, desk, item, steps);
+        return gather_turn(node, sink, answers, item, steps);
     }
-    desk.remembered.clear();
-    if let Err(failed) = flush(sink, &mut desk.gathered) {
+    answers.remembered.clear();
+    if let Err(failed) = flush(sink, &mut answers.gathered) {
         return Err(failed);
     }
-    write_turn(node, sink, &mut desk.line, item, steps)
+    write_turn(node, sink, &mut answers.line, item, steps)
 }
 
 // An entry that is sure to change nothing takes its turn, and its answer is gathered: that which is remembered, or else it is asked for. Most are answered
@@ -85,53 +85,53 @@ fn take_turn<T: PeopleAndMoney, K: Sink, L: StepBook>(
 fn gather_turn<T: PeopleAndMoney, K: Sink, L: StepBook>(
     node: &mut Node<T>,
     sink: &mut K,
-    desk: &mut Desk,
+    answers: &mut AnswerBuffers,
     item: Item<'_>,
     steps: &mut Steps<L>,
 ) -> Result<(), Failed>
     requires shown { IsShown item }
     requires question { ShowsQuestion item }
-    requires empty { desk.old.line.items ≡ [] }
-    requires replies { AreReplies node.old desk.old.remembered }
-    ensures owed { OnOk result (TurnOwed node.old node.new (K.held sink.old) (K.held sink.new) desk.old.gathered desk.new.gathered item.entry) }
-    ensures replies { OnOk result (AreReplies node.new desk.new.remembered) }
-    ensures broke { OnErr result (TurnOwedBroke node.old node.new (K.held sink.old) (K.held sink.new) desk.old.gathered item.entry) }
+    requires empty { answers.old.line.items ≡ [] }
+    requires replies { AreReplies node.old answers.old.remembered }
+    ensures owed { OnOk result (TurnOwed node.old node.new (K.held sink.old) (K.held sink.new) answers.old.gathered answers.new.gathered item.entry) }
+    ensures replies { OnOk result (AreReplies node.new answers.new.remembered) }
+    ensures broke { OnErr result (TurnOwedBroke node.old node.new (K.held sink.old) (K.held sink.new) answers.old.gathered item.entry) }
     ensures cause { HasCause (K.faults sink.old) (K.faults sink.new) result }
 {
     let asked = item.line();
-    if let Some(answer) = desk.remembered.answer_to(asked) {
-        return keep(sink, &mut desk.gathered, answer);
+    if let Some(answer) = answers.remembered.answer_to(asked) {
+        return keep(sink, &mut answers.gathered, answer);
     }
-    if tell_entry(node, &item, &mut desk.line) {
-        desk.remembered.put(asked, desk.line.as_slice());
-        return keep(sink, &mut desk.gathered, desk.line.as_slice());
+    if tell_entry(node, &item, &mut answers.line) {
+        answers.remembered.put(asked, answers.line.as_slice());
+        return keep(sink, &mut answers.gathered, answers.line.as_slice());
     }
-    gather_answer(node, sink, desk, item, steps)
+    gather_answer(node, sink, answers, item, steps)
 }
 
 // The same of an entry whose answer may be of many lines.
 fn gather_answer<T: PeopleAndMoney, K: Sink, L: StepBook>(
     node: &mut Node<T>,
     sink: &mut K,
-    desk: &mut Desk,
+    answers: &mut AnswerBuffers,
     item: Item<'_>,
     steps: &mut Steps<L>,
 ) -> Result<(), Failed>
     requires shown { IsShown item }
     requires question { ShowsQuestion item }
-    requires empty { desk.old.line.items ≡ [] }
-    requires replies { AreReplies node.old desk.old.remembered }
-    ensures owed { OnOk result (TurnOwed node.old node.new (K.held sink.old) (K.held sink.new) desk.old.gathered desk.new.gathered item.entry) }
-    ensures replies { OnOk result (AreReplies node.new desk.new.remembered) }
-    ensures broke { OnErr result (TurnOwedBroke node.old node.new (K.held sink.old) (K.held sink.new) desk.old.gathered item.entry) }
+    requires empty { answers.old.line.items ≡ [] }
+    requires replies { AreReplies node.old answers.old.remembered }
+    ensures owed { OnOk result (TurnOwed node.old node.new (K.held sink.old) (K.held sink.new) answers.old.gathered answers.new.gathered item.entry) }
+    ensures replies { OnOk result (AreReplies node.new answers.new.remembered) }
+    ensures broke { OnErr result (TurnOwedBroke node.old node.new (K.held sink.old) (K.held sink.new) answers.old.gathered item.entry) }
     ensures cause { HasCause (K.faults sink.old) (K.faults sink.new) result }
 {
     node.laws();
     let asked = item.line();
-    let told = answer_item(node, item, &mut desk.line, steps);
-    let answer = told.bytes(&desk.line);
-    desk.remembered.put(asked, answer);
-    keep(sink, &mut desk.gathered, answer)
+    let told = answer_item(node, item, &mut answers.line, steps);
+    let answer = told.bytes(&answers.line);
+    answers.remembered.put(asked, answer);
+    keep(sink, &mut answers.gathered, answer)
 }
 
 // Puts the answer to an entry into the line, where it is a query that is answered in one line, or a line that is sure to be no command; and behind it
@@ -316,16 +316,16 @@ fn skip(bytes: &[u8], count: usize) -> &[u8]
 pub fn serve<T: PeopleAndMoney, K: Sink, L: StepBook>(
     node: &mut Node<T>,
     sink: &mut K,
-    desk: &mut Desk,
+    answers: &mut AnswerBuffers,
     phase: Phase,
     hand: &[u8],
     steps: &mut Steps<L>,
 ) -> Result<(Phase, usize), Failed>
     requires stands { StandsSomewhere phase hand.now }
-    requires gathered { desk.old.gathered ≡ [] }
-    requires replies { AreReplies node.old desk.old.remembered }
-    ensures gathered { OnOk result (desk.new.gathered ≡ []) }
-    ensures replies { OnOk result (AreReplies node.new desk.new.remembered) }
+    requires gathered { answers.old.gathered ≡ [] }
+    requires replies { AreReplies node.old answers.old.remembered }
+    ensures gathered { OnOk result (answers.new.gathered ≡ []) }
+    ensures replies { OnOk result (AreReplies node.new answers.new.remembered) }
     ensures served { IfOk result (λ r. (bytes : List ℕ) → Stands phase hand.now bytes →
         ServedAll node.old node.new (K.held sink.old) (K.held sink.new) bytes r.0 (drop (length hand.now - r.1) hand.now)) }
     ensures left { IfOk result (λ r. (r.1 ≤ length hand.now) × (r.1 ≤ most_at_hand)) }
@@ -338,7 +338,7 @@ pub fn serve<T: PeopleAndMoney, K: Sink, L: StepBook>(
     'commands: loop {
         match take_one(phase, rest) {
             Found::Wait => {
-                if let Err(failed) = flush(sink, &mut desk.gathered) {
+                if let Err(failed) = flush(sink, &mut answers.gathered) {
                     return Err(failed);
                 }
                 return Ok((phase, rest.len()));
@@ -348,7 +348,7 @@ pub fn serve<T: PeopleAndMoney, K: Sink, L: StepBook>(
                 rest = skip(rest, used);
             }
             Found::Got(used, item) => {
-                if let Err(failed) = take_turn(node, sink, desk, item, steps) {
+                if let Err(failed) = take_turn(node, sink, answers, item, steps) {
                     return Err(failed);
                 }
                 phase = Phase::Start;

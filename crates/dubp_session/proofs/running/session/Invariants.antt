@@ -8,8 +8,8 @@ invariant-reads g l = record {
   read_same : g.S.Source.faults l.initial.source ≡ g.S.Source.faults l.source;
   write_same : g.K.Sink.faults l.initial.sink ≡ g.K.Sink.faults l.sink;
   within : l.taken ≤ 2 ^ 40;
-  gathered : l.desk.gathered ≡ [];
-  replies : AreReplies l.node l.desk.remembered;
+  gathered : l.answers.gathered ≡ [];
+  replies : AreReplies l.node l.answers.remembered;
   so_far : SoFar l.initial.node l.node (g.S.Source.left l.initial.source) (g.S.Source.left l.source) (g.K.Sink.held l.initial.sink) (g.K.Sink.held l.sink) l.taken l.phase l.buffer;
 }
 

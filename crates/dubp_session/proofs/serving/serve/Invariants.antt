@@ -10,8 +10,8 @@ invariant-commands g l = record {
   is_rest : l.rest ≡ drop (length l.hand - length l.rest) l.hand;
   shorter : length l.rest ≤ length l.hand;
   stands : StandsSomewhere l.phase l.rest;
-  replies : AreReplies l.node l.desk.remembered;
-  so_far : (bytes : List ℕ) → Stands l.initial.phase l.hand bytes → OwedTo l.initial.node l.node (g.K.Sink.held l.initial.sink) (g.K.Sink.held l.sink) bytes l.phase l.rest l.desk.gathered;
+  replies : AreReplies l.node l.answers.remembered;
+  so_far : (bytes : List ℕ) → Stands l.initial.phase l.hand bytes → OwedTo l.initial.node l.node (g.K.Sink.held l.initial.sink) (g.K.Sink.held l.sink) bytes l.phase l.rest l.answers.gathered;
 }
 
 abbrev pub decreases-commands : goal.decreases-commands
