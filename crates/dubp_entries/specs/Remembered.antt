@@ -21,6 +21,10 @@ IsReply state one = IsWhole (Line one.asked) → EntryTurn state (Line one.asked
 abbrev pub AreReplies : State → List Reply → Type 0
 AreReplies state replies = All (IsReply state) replies
 
+-- no answer is still to be written, and what is remembered is answered so in this state
+abbrev pub IsSettled : State → List ℕ → List Reply → Type 0
+IsSettled state gathered replies = (gathered ≡ []) × AreReplies state replies
+
 -- what is remembered with a reply more: there may be no room for it, and where as many are remembered as may be, the others are forgotten
 abbrev pub Remembers : List Reply → Reply → List Reply → Type 0
 Remembers old one new = (new ≡ old) ⊎ (new ≡ old ++ one ∷ []) ⊎ (new ≡ one ∷ [])

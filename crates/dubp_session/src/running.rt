@@ -7,7 +7,7 @@ ghost use Rattle.dubp_entries.specs.Run.{at, AnsweredSome, AnsweredMost, Answere
 ghost use Rattle.dubp_entries.specs.Cut.{BeginsNone};
 ghost use Rattle.dubp_entries.specs.Session.{Broke};
 ghost use Rattle.dubp_entries.specs.Reading.{Stands, StandsSomewhere, most_at_hand};
-ghost use Rattle.dubp_entries.specs.Remembered.{AreReplies};
+ghost use Rattle.dubp_entries.specs.Remembered.{IsSettled};
 ghost use Rattle.dubp_entries.specs.Serving.{ServedAll};
 ghost use Rattle.dubp_session.specs.Statuses.{GenStatus, IsStatus, StatusFaults};
 ghost use Rattle.dubp_session.specs.Forms.{GenEnds, GenFaults};
@@ -182,8 +182,7 @@ fn session_from<T: PeopleAndMoney, S: Source, K: Sink, L: StepBook>(
     requires parts { blank.parts ≡ L.parts }
     requires some { 0 < blank.parts }
     requires empty { buffer.old ≡ [] }
-    requires gathered { answers.old.gathered ≡ [] }
-    requires replies { AreReplies node.old answers.old.remembered }
+    requires settled { IsSettled node.old answers.old.gathered answers.old.remembered }
     ensures ends { Ends (at node.old (S.left source.old) (K.held sink.old)) (at node.new (S.left source.new) (K.held sink.new)) result }
     ensures faults { Faults (S.faults source.old) (S.faults source.new) (K.faults sink.old) (K.faults sink.new) result }
     ensures last_read { result ≡ Ending.ReadFault → S.failing source.new ≡ true }
@@ -202,8 +201,7 @@ pub fn session<T: PeopleAndMoney, S: Source, K: Sink, L: StepBook>(
     steps: &mut Steps<L>,
 ) -> Ending
     requires empty { buffer.old ≡ [] }
-    requires gathered { answers.old.gathered ≡ [] }
-    requires replies { AreReplies node.old answers.old.remembered }
+    requires settled { IsSettled node.old answers.old.gathered answers.old.remembered }
     ensures ends { Ends (at node.old (S.left source.old) (K.held sink.old)) (at node.new (S.left source.new) (K.held sink.new)) result }
     ensures faults { Faults (S.faults source.old) (S.faults source.new) (K.faults sink.old) (K.faults sink.new) result }
     ensures last_read { result ≡ Ending.ReadFault → S.failing source.new ≡ true }
@@ -236,10 +234,8 @@ fn answer_at_hand<T: PeopleAndMoney, K: Sink, L: StepBook>(
     steps: &mut Steps<L>,
 ) -> Result<Phase, Failed>
     requires stands { StandsSomewhere phase buffer.old }
-    requires gathered { answers.old.gathered ≡ [] }
-    requires replies { AreReplies node.old answers.old.remembered }
-    ensures gathered { OnOk result (answers.new.gathered ≡ []) }
-    ensures replies { OnOk result (AreReplies node.new answers.new.remembered) }
+    requires settled { IsSettled node.old answers.old.gathered answers.old.remembered }
+    ensures settled { OnOk result (IsSettled node.new answers.new.gathered answers.new.remembered) }
     ensures served { IfOk result (λ next. (bytes : List ℕ) → Stands phase buffer.old bytes →
         ServedAll node.old node.new (K.held sink.old) (K.held sink.new) bytes next buffer.new) }
     ensures left { OnOk result (length buffer.new ≤ most_at_hand) }

@@ -12,7 +12,7 @@ ghost use Rattle.dubp_entries.specs.Session.{Broke};
 ghost use Rattle.dubp_entries.specs.Reading.{IsShown, Shows, Stands, StandsSomewhere, most_at_hand};
 ghost use Rattle.dubp_entries.specs.Asking.{ShowsQuestion};
 ghost use Rattle.dubp_entries.specs.Gathering.{TurnOwed, TurnOwedBroke};
-ghost use Rattle.dubp_entries.specs.Remembered.{AreReplies};
+ghost use Rattle.dubp_entries.specs.Remembered.{AreReplies, IsSettled};
 ghost use Rattle.dubp_entries.specs.Serving.{TurnWritten, TurnBroke, ServedAll, Finished};
 
 use crate::texts::put_bad;
@@ -42,8 +42,7 @@ pub struct AnswerBuffers {
 impl AnswerBuffers {
     /// Nothing is to be written, and nothing is remembered. It takes no memory.
     pub fn new(alloc: Global) -> AnswerBuffers
-        ensures gathered { result.gathered ≡ [] }
-        ensures remembered { result.remembered ≡ [] }
+        ensures { (state : State) → IsSettled state result.gathered result.remembered }
     {
         AnswerBuffers {
             gathered: Gathered::new(),
@@ -322,10 +321,8 @@ pub fn serve<T: PeopleAndMoney, K: Sink, L: StepBook>(
     steps: &mut Steps<L>,
 ) -> Result<(Phase, usize), Failed>
     requires stands { StandsSomewhere phase hand.now }
-    requires gathered { answers.old.gathered ≡ [] }
-    requires replies { AreReplies node.old answers.old.remembered }
-    ensures gathered { OnOk result (answers.new.gathered ≡ []) }
-    ensures replies { OnOk result (AreReplies node.new answers.new.remembered) }
+    requires settled { IsSettled node.old answers.old.gathered answers.old.remembered }
+    ensures settled { OnOk result (IsSettled node.new answers.new.gathered answers.new.remembered) }
     ensures served { IfOk result (λ r. (bytes : List ℕ) → Stands phase hand.now bytes →
         ServedAll node.old node.new (K.held sink.old) (K.held sink.new) bytes r.0 (drop (length hand.now - r.1) hand.now)) }
     ensures left { IfOk result (λ r. (r.1 ≤ length hand.now) × (r.1 ≤ most_at_hand)) }

@@ -4,3 +4,6 @@ pub returns-in-Gen-clause-generated_none : goal.returns-in-Gen-clause-generated_
 returns-in-Gen-clause-generated_none g c = λ n start asks status.
     let same = c.in-Gen.ensures.only n start asks in
     rw (same.0, same.1) (c.in-NoRoom.ensures.ends (g.S.Source.left c.args.source.now))
+
+pub session_from-requires-clause-settled : goal.session_from-requires-clause-settled
+session_from-requires-clause-settled g c = c.new-answers.ensures c.args.node.now

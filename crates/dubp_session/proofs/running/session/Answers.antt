@@ -7,8 +7,7 @@ reads-init g c = record {
   read_same = refl;
   write_same = refl;
   within = omega arith;
-  gathered = c.requires.gathered;
-  replies = c.requires.replies;
+  settled = c.requires.settled;
   so_far = so_far_nothing _ _ _ _ c.requires.empty;
 }
 
@@ -49,7 +48,6 @@ reads-preserved g c =
       read_same = c.reads.invariant.read_same ∙ sym c.in-Ok-read_from.ensures.cause.same;
       write_same = c.reads.invariant.write_same ∙ sym c.in-Ok.ensures.cause.same;
       within = omega (arith, c.in-Ok-read_from.ensures.most);
-      gathered = c.in-Ok.ensures.gathered;
-      replies = c.in-Ok.ensures.replies;
+      settled = c.in-Ok.ensures.settled;
       so_far = reads_on _ _ _ _ _ _ _ _ _ _ _ _ _ p piece.3 piece.1 piece.2;
     }

@@ -1,5 +1,5 @@
-use Rattle.std.proofs.Common.{◌≡◌, ◌≤◌, ◌-◌, ◌^◌, []}
-use Rattle.dubp_entries.specs.Remembered.{AreReplies}
+use Rattle.std.proofs.Common.{◌≡◌, ◌≤◌, ◌-◌, ◌^◌}
+use Rattle.dubp_entries.specs.Remembered.{IsSettled}
 use Rattle.dubp_entries.specs.Run.{SoFar}
 use Rattle.dubp_session.proofs.running.session.Given as goal
 
@@ -8,8 +8,7 @@ invariant-reads g l = record {
   read_same : g.S.Source.faults l.initial.source ≡ g.S.Source.faults l.source;
   write_same : g.K.Sink.faults l.initial.sink ≡ g.K.Sink.faults l.sink;
   within : l.taken ≤ 2 ^ 40;
-  gathered : l.answers.gathered ≡ [];
-  replies : AreReplies l.node l.answers.remembered;
+  settled : IsSettled l.node l.answers.gathered l.answers.remembered;
   so_far : SoFar l.initial.node l.node (g.S.Source.left l.initial.source) (g.S.Source.left l.source) (g.K.Sink.held l.initial.sink) (g.K.Sink.held l.sink) l.taken l.phase l.buffer;
 }
 

@@ -10,8 +10,8 @@ commands-init g c =
       is_rest = ap (λ n. drop n c.args.hand.now) none;
       shorter = omega arith;
       stands = c.requires.stands;
-      replies = c.requires.replies;
-      so_far = λ bytes s. owed_nothing _ _ bytes _ _ _ c.requires.gathered s;
+      replies = c.requires.settled.1;
+      so_far = λ bytes s. owed_nothing _ _ bytes _ _ _ c.requires.settled.0 s;
     }
 
 pub take_turn-requires-clause-shown : goal.take_turn-requires-clause-shown
