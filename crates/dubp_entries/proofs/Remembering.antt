@@ -1,9 +1,9 @@
 -- Replies that are remembered while the state stays as it is.
-use Rattle.std.proofs.Common.{◌≡◌, ◌++◌, ◌∷◌, [], ℕ, zero, suc, List, Option, Some, None, MatchOption, IfSome, Result, Ok, Err, OnOk, inl, inr, refl, sym, subst, arith}
+use Rattle.std.proofs.Common.{◌≡◌, ◌∷◌, [], ℕ, zero, suc, List, Option, Some, None, MatchOption, IfSome, Result, Ok, Err, OnOk, inl, inr, refl, sym, subst, arith}
 use Rattle.std.specs.Borrow.{Bor}
 use Rattle.std.specs.Option.{IsSomeAnd}
 use Rattle.std.specs.List.{Contains}
-use Rattle.std.proofs.lemmas.List.Elements.{All-append}
+use Rattle.std.proofs.lemmas.List.Elements.{All-append, All-nil}
 use Rattle.dubp_replay.specs.Turns.{State}
 use Rattle.dubp_entries.specs.Entries.{Entry, Line, IsWhole}
 use Rattle.dubp_entries.specs.Reading.{Shows}
@@ -43,7 +43,8 @@ remembered state old new shown (Some line) answer is all grown answers =
     by_kind : IsReply state (reply line.now answer) → Remembers old (reply line.now answer) new → AreReplies state new
     by_kind this (inl same) = subst (AreReplies state) (sym same) all
     by_kind this (inr (inl more)) = subst (AreReplies state) (sym more) (All-append (IsReply state) old (reply line.now answer ∷ []) all (one_reply state (reply line.now answer) this))
-    by_kind this (inr (inr only)) = subst (AreReplies state) (sym only) (one_reply state (reply line.now answer) this)
+    by_kind this (inr (inr (inl only))) = subst (AreReplies state) (sym only) (one_reply state (reply line.now answer) this)
+    by_kind this (inr (inr (inr none))) = subst (AreReplies state) (sym none) (All-nil (IsReply state))
 
 -- what holds in each case holds where the result is right
 pub is_ok : {T E : Type 0} (r : Result T E) (P : Type 0) → P → OnOk r P

@@ -27,7 +27,7 @@ IsSettled state gathered replies = (gathered ≡ []) × AreReplies state replies
 
 -- what is remembered with a reply more: there may be no room for it, and where as many are remembered as may be, the others are forgotten
 abbrev pub Remembers : List Reply → Reply → List Reply → Type 0
-Remembers old one new = (new ≡ old) ⊎ (new ≡ old ++ one ∷ []) ⊎ (new ≡ one ∷ [])
+Remembers old one new = (new ≡ old) ⊎ (new ≡ old ++ one ∷ []) ⊎ (new ≡ one ∷ []) ⊎ (new ≡ [])
 
 -- the answer says that there was no room
 abbrev pub SaysNoRoom : List ℕ → Type 0

@@ -12,8 +12,11 @@ const MOST: usize = 1_024;
 /// How many letters a line has at most whose answer is remembered.
 const LONGEST_ASKED: usize = 128;
 
-/// How many letters an answer has at most that is remembered.
-const LONGEST_ANSWER: usize = 4_096;
+/// How many bytes an answer has at most that is remembered.
+const LONGEST_ANSWER: usize = 65_536;
+
+/// How many bytes are remembered at most, of lines and answers together.
+const MOST_HELD: usize = 4_194_304;
 
 /// How many letters at the end of a line decide its place.
 const TELLING: usize = 16;
@@ -61,13 +64,16 @@ impl Kept {
     }
 }
 
-/// What lines were answered since the state last changed: at most 1,024 lines of at most 128 letters, with answers of at most 4,096.
+/// What lines were answered since the state last changed: at most 1,024 lines of at most 128 letters, with answers of at most 64 KiB, and 4 MiB of
+/// both together.
 ///
 /// Contracts see it as the list of replies, the oldest first. It is a help alone: whether an answer is found again is not promised.
 #[derive(Drop)]
 pub struct Remembered {
     alloc: Global,
     replies: Vec<Kept>,
+    // how many bytes they have; nothing rests on it but how much is kept
+    held: usize,
     // where in the list the last reply stands whose line has this place; nothing rests on it, since the line is compared
     places: [u16; MOST],
 }
@@ -89,6 +95,7 @@ impl Remembered {
         Remembered {
             alloc,
             replies: Vec::new(alloc),
+            held: 0,
             places: [0; MOST],
         }
     }
@@ -98,6 +105,7 @@ impl Remembered {
         ensures { self.new ≡ [] }
     {
         self.replies.clear();
+        self.held = 0;
     }
 
     /// The answer that is remembered for this line, where there is one. It takes no memory, and never says that there was no room.
@@ -134,12 +142,14 @@ impl Remembered {
         let Some(kept) = Kept::new(self.alloc, asked, answer) else {
             return;
         };
-        if self.replies.len() >= MOST {
-            self.replies.clear();
+        let size = asked.len().saturating_add(answer.len());
+        if self.replies.len() >= MOST || self.held.saturating_add(size) > MOST_HELD {
+            self.clear();
         }
         let place = self.replies.len();
         if let Ok(()) = self.replies.push(kept) {
             self.places[place_of(asked)] = place as u16;
+            self.held = self.held.saturating_add(size);
         }
     }
 }
