@@ -1,8 +1,8 @@
 -- What is kept beside the heads, as a head comes and goes.
-use Rattle.std.proofs.Common.{◌≡◌, ℕ, suc, ◌+◌, ◌-◌, ◌<◌, ◌≤◌, List, [], ◌∷◌, ◌++◌, length, take, map, min, Option, Some, None, IfSome, reverse, drop, get_or, Bool, true, false, cond, if◌then◌else◌, refl, sym, ap, subst, ◌∙◌, arith}
-use Rattle.std.proofs.Math.Seq.{drop-append_seam, get_or-append_seam}
+use Rattle.std.proofs.Common.{◌≡◌, ℕ, suc, ◌+◌, ◌-◌, ◌<◌, ◌≤◌, List, [], ◌∷◌, ◌++◌, length, take, map, min, Option, Some, None, IfSome, reverse, get_or, Bool, true, false, cond, if◌then◌else◌, refl, sym, ap, subst, ◌∙◌, arith}
+use Rattle.std.proofs.Math.Seq.{get_or-append_seam}
 use Rattle.std.proofs.Math.ListN.{get_or-append}
-use Rattle.std.proofs.lemmas.List.{reverse-append, length-reverse, length-drop, length-map, take-append-drop, take_min, take-map}
+use Rattle.std.proofs.lemmas.List.{reverse-append, length-reverse, length-map, take_min, take-map}
 use Rattle.std.proofs.lemmas.Option.{none-some, same_Some}
 use Rattle.dubp_atoms.specs.Same.{Text, same_text}
 use Rattle.dubp_chain.specs.Heads.{last_issued}
@@ -14,6 +14,7 @@ use Rattle.dubp_head.specs.LastTimes.{TimesState}
 use Rattle.dubp_head.specs.Counts.{CountsState, AreCounted}
 use Rattle.dubp_head.specs.Frames.{frame_of, frame_issuers}
 use Rattle.dubp_head.specs.KeptHeads.{AreKept, IsFrameKept}
+use Rattle.dubp_head.specs.Totals.{SizesState, AreTotals}
 use Rattle.dubp_head.proofs.Counting.{length-kept}
 use Rattle.dubp_head.proofs.LastTimes.{time_at, times_of, SameTimes-wider, SameTimes-narrower, length-time_at, length-one, count-among}
 
@@ -22,7 +23,7 @@ issuers_of list = map (λ h. h.issuer) list
 
 -- A head comes: the time at the last place of the window goes.
 
-module _ (list : List Head) (is : IssuersState) (cs : CountsState) (ts : TimesState) (span m : ℕ) (kept : AreKept list is cs ts span) (more : span ≡ suc m) where
+module _ (list : List Head) (is : IssuersState) (cs : CountsState) (ss : SizesState) (ts : TimesState) (span m : ℕ) (kept : AreKept list is cs ss ts span) (more : span ≡ suc m) where
   with_last : SameTimes ts.times (option_to_list (time_at list m) ++ times_of m list)
   with_last = SameTimes-narrower ts.times list m (subst (λ n. SameTimes ts.times (times_of n list)) more kept.times)
 
@@ -32,15 +33,17 @@ module _ (list : List Head) (is : IssuersState) (cs : CountsState) (ts : TimesSt
   pub room-push : length ts.times + 1 ≤ ts.width + length (option_to_list (time_at list m))
   room-push = omega (arith, kept.count, kept.width, length-time_at list m)
 
-  pub AreKept-push : (h : Head) (is' : IssuersState) (cs' : CountsState) (ts' : TimesState) → AreIssuers is' (h.issuer ∷ issuers_of list)
+  pub AreKept-push : (h : Head) (is' : IssuersState) (cs' : CountsState) (ss' : SizesState) (ts' : TimesState) → AreIssuers is' (h.issuer ∷ issuers_of list)
       → IsFrameKept (h ∷ list) cs'
+      → AreTotals ss' (h ∷ list)
       → ((others : List ℕ) → SameTimes ts.times (option_to_list (time_at list m) ++ others) → SameTimes ts'.times (h.time ∷ others))
       → length ts'.times + length (option_to_list (time_at list m)) ≡ length ts.times + 1
       → ts'.width ≡ ts.width
-      → AreKept (h ∷ list) is' cs' ts' span
-  AreKept-push h is' cs' ts' issuers frame exchanged len width = record {
+      → AreKept (h ∷ list) is' cs' ss' ts' span
+  AreKept-push h is' cs' ss' ts' issuers frame sizes exchanged len width = record {
     issuers = issuers;
     frame = frame;
+    sizes = sizes;
     times = subst (λ n. SameTimes ts'.times (times_of n (h ∷ list))) (sym more) (exchanged (times_of m list) with_last);
     count = omega (arith, kept.count, length-time_at list m);
     width = omega (arith, kept.width);
@@ -49,7 +52,7 @@ module _ (list : List Head) (is : IssuersState) (cs : CountsState) (ts : TimesSt
 
 -- A head goes: the time behind the window comes back.
 
-module _ (h : Head) (list : List Head) (is : IssuersState) (cs : CountsState) (ts : TimesState) (span : ℕ) (kept : AreKept (h ∷ list) is cs ts span) where
+module _ (h : Head) (list : List Head) (is : IssuersState) (cs : CountsState) (ss : SizesState) (ts : TimesState) (span : ℕ) (kept : AreKept (h ∷ list) is cs ss ts span) where
   more : span ≡ suc (span - 1)
   more = omega (arith, kept.span (omega arith))
 
@@ -65,15 +68,17 @@ module _ (h : Head) (list : List Head) (is : IssuersState) (cs : CountsState) (t
   time_behind : time_at (h ∷ list) span ≡ time_at list (span - 1)
   time_behind = ap (time_at (h ∷ list)) more
 
-  pub AreKept-pop : (is' : IssuersState) (cs' : CountsState) (ts' : TimesState) → AreIssuers is' (issuers_of list)
+  pub AreKept-pop : (is' : IssuersState) (cs' : CountsState) (ss' : SizesState) (ts' : TimesState) → AreIssuers is' (issuers_of list)
       → IsFrameKept list cs'
+      → AreTotals ss' list
       → ((others : List ℕ) → SameTimes ts.times (h.time ∷ others) → SameTimes ts'.times (option_to_list (time_at (h ∷ list) span) ++ others))
       → length ts'.times + 1 ≡ length ts.times + length (option_to_list (time_at (h ∷ list) span))
       → ts'.width ≡ ts.width
-      → AreKept list is' cs' ts' span
-  AreKept-pop is' cs' ts' issuers frame exchanged len width = record {
+      → AreKept list is' cs' ss' ts' span
+  AreKept-pop is' cs' ss' ts' issuers frame sizes exchanged len width = record {
     issuers = issuers;
     frame = frame;
+    sizes = sizes;
     times = subst (λ n. SameTimes ts'.times (times_of n list)) (sym more) (SameTimes-wider ts'.times list (span - 1) (subst (λ o. SameTimes ts'.times (option_to_list o ++ times_of (span - 1) list)) time_behind (exchanged (times_of (span - 1) list) with_first)));
     count = omega (arith, kept.count, length-time_at list (span - 1), ap (λ o. length (option_to_list o)) time_behind, more, len);
     width = omega (arith, kept.width);
@@ -100,13 +105,6 @@ frame_is list cs kept =
     by (h ∷ hs) = take-map (λ g. g.issuer) h.frame (h ∷ hs)
 
 -- Reads.
-
--- the last n of a list, from its reverse
-pub drop-reverse : {X : Type 0} → (n : ℕ) (r : List X) → drop (length r - n) (reverse r) ≡ reverse (take n r)
-drop-reverse n r =
-    let parts : reverse r ≡ reverse (drop n r) ++ reverse (take n r) = sym (ap reverse (take-append-drop n r)) ∙ reverse-append (take n r) (drop n r) in
-    let behind : length r - n ≡ length (reverse (drop n r)) = omega (arith, length-reverse (drop n r), length-drop n r) in
-    rw (parts, behind) (drop-append_seam (reverse (drop n r)) (reverse (take n r)))
 
 pub reverse-push : (items : List Head) (h : Head) → reverse (items ++ h ∷ []) ≡ h ∷ reverse items
 reverse-push items h = reverse-append items (h ∷ [])

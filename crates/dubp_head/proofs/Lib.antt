@@ -9,5 +9,5 @@ pub mod NextHeads
 pub mod Powers
 pub mod Ranking
 pub mod SameRules
-pub mod Sizes
 pub mod Stated
+pub mod Totals

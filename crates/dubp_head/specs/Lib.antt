@@ -11,3 +11,4 @@ pub mod Laws
 pub mod Money
 pub mod NextHead
 pub mod OfValidity
+pub mod Totals

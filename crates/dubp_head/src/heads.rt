@@ -7,9 +7,11 @@ ghost use Rattle.dubp_atoms.specs.Same.{Text, same_text};
 ghost use Rattle.dubp_head.specs.Frames.{frame_issuers, frame_of};
 ghost use Rattle.dubp_head.specs.LastBlocks.{last_place, IsLastOfSome};
 ghost use Rattle.dubp_head.specs.HeadsStates.{AreOver, KeepsRoom, median_over};
+ghost use Rattle.dubp_head.specs.Totals.{total_of};
 
 use crate::counts::Counts;
 use crate::issuers::Issuers;
+use crate::sizes::Sizes;
 use crate::times::Times;
 use dubp_atoms::{Key, NoMemory};
 use dubp_chain::Head;
@@ -27,6 +29,7 @@ pub struct Heads {
     heads: Vec<Head>,
     issuers: Issuers,
     counts: Counts,
+    sizes: Sizes,
     // Those of the last `span` heads.
     times: Times,
     span: u64,
@@ -41,12 +44,12 @@ impl Model for Heads {
 
     ghost view = { λ h. record {
       list = reverse h.heads.items;
-      room = min (vec_capacity h.heads) (min h.issuers.room h.counts.room);
+      room = min (vec_capacity h.heads) (min h.issuers.room (min h.counts.room h.sizes.room));
       width = h.times.width;
       span = h.span;
     } };
 
-    ghost invariant = { λ h. AreKept (reverse h.heads.items) h.issuers h.counts h.times h.span };
+    ghost invariant = { λ h. AreKept (reverse h.heads.items) h.issuers h.counts h.sizes h.times h.span };
 }
 
 impl Heads {
@@ -58,6 +61,7 @@ impl Heads {
             heads: Vec::new(alloc),
             issuers: Issuers::new(alloc),
             counts: Counts::new(alloc),
+            sizes: Sizes::new(alloc),
             times: Times::new(),
             span: 0,
         }
@@ -95,6 +99,7 @@ impl Heads {
         let earlier = self.issuers.pop(&head.issuer);
         self.counts.pop(earlier);
         self.counts.settle(last_frame(&self.heads));
+        self.sizes.pop();
         self.times.exchange(Some(head.time), come);
         head
     }
@@ -136,12 +141,11 @@ impl Heads {
         from_last(&self.heads, count)
     }
 
-    /// The last so many heads, or all where there are fewer, oldest first. It takes no memory.
-    pub fn newest(&self, count: u64) -> &[Head]
-        ensures { result.now ≡ reverse (take count self.now.list) }
+    /// The size of the last so many blocks together, or of all where there are fewer. It takes no memory, and looks at no head.
+    pub(crate) fn size_of_last(&self, count: u64) -> u128
+        ensures { result ≡ total_of (take count self.now.list) }
     {
-        let len = self.heads.len();
-        &self.heads[len.saturating_sub(count as usize)..]
+        self.sizes.of_last(count)
     }
 
     /// The median of the times of the last medianTimeBlocks blocks. None exactly where there is no head. It takes no memory, and
@@ -213,7 +217,8 @@ impl Heads {
         self.heads.reserve(1).map_err(|_| NoMemory)?;
         let count = self.heads.len() + 1;
         self.issuers.reserve(count)?;
-        self.counts.reserve(count)
+        self.counts.reserve(count)?;
+        self.sizes.reserve(count)
     }
 
     // Takes memory for as many times as these parameters ask for, where there is no head yet.
@@ -260,6 +265,7 @@ impl Heads {
         let earlier = self.issuers.push(head.issuer);
         self.counts.push(earlier);
         self.counts.settle(head.frame);
+        self.sizes.push(head.size);
         self.heads.push_reserved(head);
     }
 

@@ -23,6 +23,7 @@ mod money;
 mod places;
 mod refusal;
 mod rules;
+mod sizes;
 mod times;
 
 pub use augmenting::{augment, augment_over};

@@ -1,4 +1,6 @@
-ghost use Rattle.std.specs.Prelude.{◌≡◌, ◌^◌, ◌<◌, ◌≤◌, ◌↔◌, IsTrue, IfOk, IsOk, length, sum_by};
+ghost use Rattle.std.specs.Prelude.{◌≡◌, ◌^◌, ◌<◌, ◌≤◌, ◌↔◌, IsTrue, List, IfOk, IsOk, length, take};
+ghost use Rattle.dubp_chain.specs.declared.head.Head.{Head as HeadValue};
+ghost use Rattle.dubp_head.specs.Totals.{total_of};
 ghost use Rattle.std.specs.List.{AllByRecursion};
 ghost use Rattle.dubp_params.specs.declared.params.Params.{Params as ParamsValue};
 ghost use Rattle.dubp_params.specs.Ranges.{IsInRange};
@@ -107,35 +109,22 @@ fn is_small_enough(heads: &Heads, head: &Head, block: &Block) -> bool
     let Some(_last) = heads.last() else {
         return true;
     };
-    (size(block) as u128) < greatest_size(heads.newest(head.issuers))
+    let count = head.issuers.min(heads.len() as u64);
+    (size(block) as u128) < greatest_size(heads.size_of_last(count), count)
 }
 
-// Below what a size must stay behind these blocks: eleven tenths of their mean size, rounded up, or what is always allowed.
-fn greatest_size(heads: &[Head]) -> u128
-    requires small { AllByRecursion IsSmall heads.now }
-    requires short { length heads.now ≤ 2 ^ 40 }
-    ensures { result ≡ greatest_size (length heads.now) heads.now }
+// Below what a size must stay behind so many blocks of this size together: eleven tenths of their mean size, rounded up, or what is always
+// allowed.
+fn greatest_size(total: u128, count: u64) -> u128
+    requires { total < 2 ^ 94 }
+    ensures { (hs : List HeadValue) → count ≤ length hs → total ≡ total_of (take count hs) → result ≡ greatest_size count hs }
 {
-    if heads.is_empty() {
+    if count == 0 {
         return ALWAYS_ALLOWED;
     }
-    let count = heads.len() as u128;
-    (11 * total_size(heads))
-        .div_ceil(10 * count)
+    (11 * total)
+        .div_ceil(10 * count as u128)
         .max(ALWAYS_ALLOWED)
-}
-
-fn total_size(heads: &[Head]) -> u128
-    requires small { AllByRecursion IsSmall heads.now }
-    requires short { length heads.now ≤ 2 ^ 40 }
-    ensures value { result ≡ sum_by (λ h. h.size) heads.now }
-    ensures small { result < 2 ^ 94 }
-{
-    let mut total = 0;
-    for head in heads {
-        total += head.size as u128;
-    }
-    total
 }
 
 fn meets_difficulty(heads: &Heads, params: &Params, head: &Head, block: &Block) -> bool
