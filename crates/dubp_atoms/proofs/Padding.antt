@@ -1,9 +1,10 @@
 -- Texts with zeros behind them are ordered as the texts are: the arrays first, and where these are equal the lengths.
-use Rattle.std.proofs.Common.{◌≡◌, ℕ, zero, suc, ◌+◌, ◌-◌, Bool, true, false, nat_eq, List, [], ◌∷◌, ◌++◌, length, take, replicate, Ordering, Less, Equal, Greater, refl, ap, sym, ◌∙◌, arith}
+use Rattle.std.proofs.Common.{◌≡◌, ℕ, zero, suc, ◌+◌, ◌-◌, ◌≤◌, Bool, true, false, nat_eq, List, [], ◌∷◌, ◌++◌, length, take, drop, replicate, Ordering, Less, Equal, Greater, refl, ap, sym, ◌∙◌, append_assoc, arith}
 use Rattle.std.specs.Ordering.{nat_cmp, ordering_then}
 use Rattle.std.specs.Cmp.Lexicographic.{pointwise, slice_cmp, bytes_decides}
 use Rattle.std.proofs.lemmas.Bool.Decides.{nat_tests}
 use Rattle.std.proofs.lemmas.Cmp.{nat_list_cmp_total, tied_itself}
+use Rattle.std.proofs.lemmas.List.{drop-replicate, replicate-append-replicate}
 use Rattle.dubp_atoms.specs.Padded.{IsPadded, padded, array_of_text, length_padded}
 
 abbrev zeros : ℕ → List ℕ
@@ -73,3 +74,13 @@ same_padded room xs ys n m p q e =
     agree _ _
     (λ h. (bytes_decides (take n xs) (take m ys)).1 (rw (e, (bytes_decides xs ys).0 h) refl))
     (λ h. (bytes_decides xs ys).1 (sym (array_of_text room xs n p) ∙ ap (padded room) ((bytes_decides (take n xs) (take m ys)).0 h) ∙ array_of_text room ys m q))
+
+zeros_behind : (t : List ℕ) (a b c : ℕ) → a + b ≡ c → (t ++ zeros a) ++ zeros b ≡ t ++ zeros c
+zeros_behind t a b c e = append_assoc t (zeros a) (zeros b) ∙ ap (λ z. t ++ z) (replicate-append-replicate a b 0 ∙ ap zeros e)
+
+-- zeros behind the array are more zeros behind the text
+pub more_zeros : (room size : ℕ) (xs : List ℕ) (n : ℕ) → IsPadded room xs n → room ≤ size → xs ++ drop room (zeros size) ≡ padded size (take n xs)
+more_zeros room size xs n h le =
+    let ns : length (take n xs) ≡ n = length_padded room xs n h in
+    (λ i. sym (array_of_text room xs n h) i ++ drop-replicate room size 0 i)
+    ∙ zeros_behind (take n xs) (room - length (take n xs)) (size - room) (size - length (take n xs)) (omega (arith, ns, h.fits))

@@ -1,17 +1,21 @@
-ghost use Rattle.std.specs.Prelude.{◌≡◌, ◌+◌, ◌≤◌, ◌++◌, length, true};
+ghost use Rattle.std.specs.Prelude.{◌≡◌, ◌+◌, ◌≤◌, [], ◌∷◌, ◌++◌, length, true};
+ghost use Rattle.std.proofs.Common.{rules};
+ghost use Rattle.std.specs.Cmp.Rules.{comparing};
 ghost use Rattle.arrayvec.specs.ArrayVec.{array_vec_len};
 ghost use Rattle.dubp_atoms.specs.Letters.{is_key};
+ghost use Rattle.dubp_atoms.specs.Padded.{padded};
 ghost use Rattle.dubp_atoms.specs.Reading.{text_if};
 
 use crate::letters::all_base58;
 use crate::line::{Line, put_bytes};
 use crate::text::Text;
+use std::hash::{Hash, Hasher};
 use std::marker::Model;
 
 /// A public key: 43 or 44 characters of Base58.
 ///
 /// Contracts see it as its text. Two are ordered by their bytes.
-#[derive(Clone, Copy, Debug, PartialEq, Eq, PartialOrd, Ord, Hash)]
+#[derive(Clone, Copy, Debug, PartialEq, Eq, PartialOrd, Ord)]
 pub struct Key {
     text: Text<44>,
 }
@@ -59,6 +63,17 @@ impl Key {
         ensures room { array_vec_len out.new ≤ array_vec_len out.old + 44 }
     {
         put_bytes(out, self.as_bytes());
+    }
+}
+
+// It is hashed as 48 bytes, the last of them zeros: six whole words of eight bytes, so that what follows begins with a whole word too.
+impl Hash for Key {
+    ghost hash_input = { λ k. padded 48 k ∷ [] };
+
+    ghost respects_eq = { Prim.search (comparing, rules) };
+
+    fn hash<H: Hasher>(&self, state: &mut H) {
+        state.write(&self.text.with_zeros::<48>());
     }
 }
 

@@ -52,6 +52,16 @@ impl<const CAP: usize> Text<CAP> {
     {
         &self.bytes[..self.len as usize]
     }
+
+    /// Its bytes with zeros behind them, `SIZE` bytes in all.
+    pub fn with_zeros<const SIZE: usize>(&self) -> [u8; SIZE]
+        requires { CAP ≤ SIZE }
+        ensures { result ≡ padded SIZE self.now }
+    {
+        let mut bytes = [0u8; SIZE];
+        bytes[..CAP].copy_from_slice(&self.bytes);
+        bytes
+    }
 }
 
 impl<const CAP: usize> PartialEq for Text<CAP> {
