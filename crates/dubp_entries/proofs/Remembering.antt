@@ -1,9 +1,9 @@
 -- Replies that are remembered while the state stays as it is.
-use Rattle.std.proofs.Common.{◌≡◌, ◌∷◌, [], ℕ, zero, suc, List, Option, Some, None, MatchOption, Result, Ok, Err, OnOk, inl, inr, refl, sym, subst, arith}
+use Rattle.std.proofs.Common.{◌≡◌, ◌⊎◌, ℕ, List, Option, Some, None, MatchOption, Result, Ok, Err, OnOk, inl, inr, refl, sym, subst}
 use Rattle.std.specs.Borrow.{Bor}
 use Rattle.std.specs.Option.{IsSomeAnd}
 use Rattle.std.specs.List.{Contains}
-use Rattle.std.proofs.lemmas.List.Elements.{All-append, All-nil}
+use Rattle.std.proofs.lemmas.List.Elements.{All-contains, All-weaker}
 use Rattle.dubp_replay.specs.Turns.{State}
 use Rattle.dubp_entries.specs.Entries.{Entry, Line, IsWhole}
 use Rattle.dubp_entries.specs.Reading.{IsNoLine, Shows}
@@ -23,10 +23,6 @@ recalled state replies shown (Some line) answer is all at = λ entry whole shows
     let s = subst (λ (i : Item). Shows i entry) is shows in
     subst (λ (x : Entry). EntryTurn state x answer state) (sym s) (subst (IsReply state) at.2 (all at.0 (reply line.now answer) at.1) (subst IsWhole s whole))
 
-one_reply : (state : State) (one : Reply) → IsReply state one → AreReplies state (one ∷ [])
-one_reply state one is zero d within = is
-one_reply state one is (suc k) d within = absurd (omega (arith, within))
-
 -- an entry that asks is answered so, and the state stays
 pub answers_of : (old new : State) (shown : Item) (told answer : List ℕ) → told ≡ answer → ((entry : Entry) → IsWhole entry → Shows shown entry → EntryTurn old entry answer new × (new ≡ old)) → Answers old shown told
 answers_of old new shown told answer is turn = λ entry whole shows.
@@ -38,13 +34,11 @@ pub remembered : (state : State) (old new : List Reply) (shown : Item) (asked : 
 remembered state old new shown None answer is all same answers = subst (AreReplies state) (sym same) all
 remembered state old new shown (Some line) answer is all grown answers =
     let this : IsReply state (reply line.now answer) = λ whole. answers (Line line.now) whole (subst (λ (i : Item). Shows i (Line line.now)) (sym is) refl) in
-    by_kind this grown
+    All-weaker (λ r. Contains old r ⊎ (r ≡ reply line.now answer)) (IsReply state) (by_kind this) new grown
   where
-    by_kind : IsReply state (reply line.now answer) → Remembers old (reply line.now answer) new → AreReplies state new
-    by_kind this (inl same) = subst (AreReplies state) (sym same) all
-    by_kind this (inr (inl more)) = subst (AreReplies state) (sym more) (All-append (IsReply state) old (reply line.now answer ∷ []) all (one_reply state (reply line.now answer) this))
-    by_kind this (inr (inr (inl only))) = subst (AreReplies state) (sym only) (one_reply state (reply line.now answer) this)
-    by_kind this (inr (inr (inr none))) = subst (AreReplies state) (sym none) (All-nil (IsReply state))
+    by_kind : IsReply state (reply line.now answer) → (r : Reply) → Contains old r ⊎ (r ≡ reply line.now answer) → IsReply state r
+    by_kind this r (inl before) = All-contains (IsReply state) old r all before
+    by_kind this r (inr is_this) = subst (IsReply state) (sym is_this) this
 
 -- what holds in each case holds where the result is right
 pub is_ok : {T E : Type 0} (r : Result T E) (P : Type 0) → P → OnOk r P
