@@ -46,6 +46,7 @@ def test_the_answers_of_the_examples_are_allowed(name):
         (b"HEAD\n", b"NOMEM\n"),
         (b"HEAD\n", b""),
         (b"MONEY\n", b"NONE\n"),
+        (b"DIFF 1\n", b"NOMEM\n"),
         (b"BLOCK 0\n\n", b"REFUSED D01\n"),
         (b"BLOCK 0\n\n", b"REFUSED P01\n"),
         (b"BLOCK 0\n\n", b"ACCEPTED 0-ab\n"),

@@ -1,5 +1,5 @@
 -- What the bytes at hand are of the bytes of the input.
-use Rattle.std.specs.Prelude.{◌≡◌, ℕ, ◌+◌, ◌<◌, ◌≤◌, List, ◌∷◌, ◌++◌, length, drop}
+use Rattle.std.specs.Prelude.{◌≡◌, ℕ, ◌+◌, ◌<◌, ◌≤◌, List, ◌∷◌, ◌++◌, length, drop, ⊤}
 use Rattle.dubp_atoms.specs.Letters.{LF}
 use Rattle.dubp_validity.specs.Rules.{longest_block}
 use Rattle.dubp_entries.specs.Entries.{Entry, Line, Frame, text_of, IsWhole, IsText, HeadsFrame, longest_line}
@@ -44,6 +44,13 @@ Shows (item.Line text) entry = entry ≡ Line text.now
 Shows (item.Frame framed payload last) entry =
     (head : List ℕ) × (entry ≡ Frame head payload.now last) × Says head (framed_command framed) × (framed_len framed ≡ length payload.now) × (length payload.now ≤ longest_block)
 Shows (item.LongFrame last) entry = (head : List ℕ) × (payload : List ℕ) × (entry ≡ Frame head payload last) × HeadsFrame head (length payload) × (longest_block < length payload)
+
+-- what is at hand is no line: the end of one that was read past, a frame, or the byte behind one that was read past
+abbrev pub IsNoLine : Item → Type 0
+IsNoLine item.LongLine = ⊤
+IsNoLine (item.Line text) = ⊥
+IsNoLine (item.Frame framed payload last) = ⊤
+IsNoLine (item.LongFrame last) = ⊤
 
 -- there is such an entry
 abbrev pub IsShown : Item → Type 0

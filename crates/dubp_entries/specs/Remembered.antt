@@ -1,6 +1,6 @@
 -- Answers that are remembered while the state stays as it is. Protocol: commands and answers.
-use Rattle.std.specs.Prelude.{◌≡◌, ◌⊎◌, ◌++◌, ◌∷◌, [], ℕ, List}
-use Rattle.std.specs.List.{All}
+use Rattle.std.specs.Prelude.{◌≡◌, ◌⊎◌, [], ℕ, List}
+use Rattle.std.specs.List.{All, Contains}
 use Rattle.dubp_replay.specs.Answers.{no_memory_answer}
 use Rattle.dubp_replay.specs.Turns.{State}
 use Rattle.dubp_entries.specs.Entries.{Line, IsWhole}
@@ -25,9 +25,9 @@ AreReplies state replies = All (IsReply state) replies
 abbrev pub IsSettled : State → List ℕ → List Reply → Type 0
 IsSettled state gathered replies = (gathered ≡ []) × AreReplies state replies
 
--- what is remembered with a reply more: there may be no room for it, and where as many are remembered as may be, the others are forgotten
+-- what is remembered where a reply may have come: each stood there before, or is this one
 abbrev pub Remembers : List Reply → Reply → List Reply → Type 0
-Remembers old one new = (new ≡ old) ⊎ (new ≡ old ++ one ∷ []) ⊎ (new ≡ one ∷ []) ⊎ (new ≡ [])
+Remembers old one new = All (λ r. Contains old r ⊎ (r ≡ one)) new
 
 -- the answer says that there was no room
 abbrev pub SaysNoRoom : List ℕ → Type 0

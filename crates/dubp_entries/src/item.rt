@@ -1,4 +1,5 @@
-ghost use Rattle.std.specs.Prelude.{◌≡◌, IfSome};
+ghost use Rattle.std.specs.Prelude.{◌≡◌, MatchOption};
+ghost use Rattle.dubp_entries.specs.Reading.{IsNoLine};
 ghost use Rattle.dubp_entries.specs.declared.item.Item.TheVariants as item;
 
 use dubp_script::Framed;
@@ -17,9 +18,9 @@ pub enum Item<'a> {
 }
 
 impl<'a> Item<'a> {
-    /// The line, where it is one that is not too long to be read.
+    /// The line, where one is at hand. None exactly where a line was read past, or there is a frame.
     pub fn line(&self) -> Option<&'a [u8]>
-        ensures { IfSome result (λ line. self.now ≡ item.Line line) }
+        ensures { MatchOption result (IsNoLine self.now) (λ line. self.now ≡ item.Line line) }
     {
         match self {
             Item::Line(line) => Some(*line),

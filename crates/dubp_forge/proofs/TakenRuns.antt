@@ -1,6 +1,5 @@
 -- Transactions that are taken together are those that a pass takes one after another.
-use Rattle.std.proofs.Common.{◌≡◌, Bool, true, false, not, cond, List, [], ◌∷◌, ◌++◌, append-nil, Option, None, refl, sym, ap, subst, ◌∙◌, append_assoc}
-use Rattle.std.specs.Prelude.{filter}
+use Rattle.std.proofs.Common.{◌≡◌, Bool, true, false, not, cond, List, [], ◌∷◌, ◌++◌, append-nil, None, refl, sym, ap, subst, ◌∙◌, append_assoc}
 use Rattle.std.specs.List.{AllByRecursion, list_any}
 use Rattle.dubp_docs.specs.declared.doc.Doc.{Doc}
 use Rattle.dubp_docs.specs.declared.doc.Doc.TheVariants.{Transaction}

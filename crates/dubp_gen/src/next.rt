@@ -1,8 +1,8 @@
-ghost use Rattle.std.specs.Prelude.{◌≡◌, ◌^◌, ◌<◌, ◌≤◌, ◌∷◌, ◌++◌, [], ℕ, length, IfOk, IfErr, OnOk};
+ghost use Rattle.std.specs.Prelude.{◌≡◌, ◌^◌, ◌<◌, ◌≤◌, ◌∷◌, ◌++◌, [], ℕ, length, Err, IfOk, IfErr, OnOk};
 ghost use Rattle.dubp_block.specs.Text.{IsBlock, size_of};
 ghost use Rattle.dubp_block.specs.declared.block.Block.{Block as BlockValue};
 ghost use Rattle.dubp_drafts.specs.Drafting.{with_parameters};
-ghost use Rattle.dubp_drafts.specs.Sealing.{IsSealed};
+ghost use Rattle.dubp_drafts.specs.Sealing.{IsSealed, IsSealing};
 ghost use Rattle.dubp_gen.specs.declared.chain.GenRefusal.TheVariants.{NoNonce};
 ghost use Rattle.dubp_gen.specs.Generated.{EndsWith, HasNoNonce, HasNoSeal, IsMadeNext, IsRefused, next_draft, next_given, number_at, with_given};
 ghost use Rattle.dubp_gen.specs.Making.{IsOfMade, IsSealedBlock, Joins, made_of};
@@ -118,10 +118,7 @@ fn seal_first<T: PeopleAndMoney>(ledger: &Ledger<T>, draft: Block) -> Result<Sea
 {
     match seal(draft, 0) {
         Ok(sealed) => Ok(sealed),
-        Err(SealRefusal::NoNonce) => Err(GenRefusal::NoNonce {
-            block: ledger.len() as u64,
-        }),
-        Err(SealRefusal::NoMemory) => Err(GenRefusal::NoMemory),
+        Err(refusal) => Err(unsealed(refusal, ledger.len() as u64)),
     }
 }
 
@@ -159,8 +156,17 @@ fn seal_for(block: Block, difficulty: u128, number: u64) -> Result<Sealed, GenRe
 {
     match seal_hashed(block, difficulty) {
         Ok(sealed) => Ok(sealed),
-        Err(SealRefusal::NoNonce) => Err(GenRefusal::NoNonce { block: number }),
-        Err(SealRefusal::NoMemory) => Err(GenRefusal::NoMemory),
+        Err(refusal) => Err(unsealed(refusal, number)),
+    }
+}
+
+/// The refusal of the chain, where the block of this number got no seal.
+fn unsealed(refusal: SealRefusal, number: u64) -> GenRefusal
+    ensures { (draft : BlockValue) (d : ℕ) → IsSealing draft d (Err refusal) → (result ≡ NoNonce number) × HasNoNonce draft d }
+{
+    match refusal {
+        SealRefusal::NoNonce => GenRefusal::NoNonce { block: number },
+        SealRefusal::NoMemory => GenRefusal::NoMemory,
     }
 }
 

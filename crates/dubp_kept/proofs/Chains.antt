@@ -1,14 +1,11 @@
 -- Facts on the chain of blocks that stand oldest first, and on its heads.
-use Rattle.std.proofs.Common.{◌≡◌, ◌↔◌, ◌≤◌, ℕ, suc, List, [], ◌∷◌, ◌++◌, length, reverse, slice_get, Some, None, refl, ap, sym, ◌∙◌, subst}
+use Rattle.std.proofs.Common.{◌≡◌, ℕ, suc, List, [], ◌∷◌, ◌++◌, length, reverse, slice_get, Some, None, refl, ap, ◌∙◌}
 use Rattle.std.proofs.lemmas.List.{reverse-append}
-use Rattle.std.specs.Option.{option_map_or}
 use Rattle.dubp_block.specs.declared.block.Block.{Block}
-use Rattle.dubp_chain.specs.Chains.{Chain, currency, first_block, params}
-use Rattle.dubp_chain.specs.Members.{members}
-use Rattle.dubp_chain.specs.Heads.{heads_of, newest, next_head}
+use Rattle.dubp_chain.specs.Chains.{Chain, first_block}
+use Rattle.dubp_chain.specs.Heads.{heads_of, next_head}
 use Rattle.dubp_chain.specs.declared.head.Head.{Head}
 use Rattle.dubp_params.specs.declared.params.Params.{Params}
-use Rattle.dubp_validity.specs.HeadRules.{CurrencyAndVersionFit}
 
 -- as many heads as blocks
 pub length_heads : (c : Chain) → length (heads_of c) ≡ length c

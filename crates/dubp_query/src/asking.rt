@@ -12,7 +12,7 @@ use dubp_replay::{Answer, Asked, Query};
 use dubp_statement::{CondText, Ledger, PeopleAndMoney};
 use std::alloc::Global;
 
-/// The answer to a query. HEAD, MONEY, IDENTITY, UID and BALANCE take no memory.
+/// The answer to a query. HEAD, MONEY, IDENTITY, UID, BALANCE and DIFF take no memory.
 pub fn answer<T: PeopleAndMoney>(
     alloc: Global,
     ledger: &Ledger<T>,

@@ -11,7 +11,8 @@ use dubp_replay::{Asked, filled};
 use dubp_statement::{Ledger, PeopleAndMoney};
 use std::alloc::Global;
 
-/// Puts the answer to a query that is answered in one line into an empty line. HEAD, MONEY, IDENTITY, UID and BALANCE take no memory.
+/// Puts the answer to a query that is answered in one line into an empty line. HEAD, MONEY, IDENTITY, UID, BALANCE and DIFF take no memory
+/// and are never refused.
 ///
 /// `NoMemory` leaves the line empty.
 pub fn put_answer<T: PeopleAndMoney>(

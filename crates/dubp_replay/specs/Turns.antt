@@ -367,6 +367,7 @@ AskingTakesMemory query.Money = ⊥
 AskingTakesMemory (query.Identity key) = ⊥
 AskingTakesMemory (query.Uid uid) = ⊥
 AskingTakesMemory (query.Balance cond) = ⊥
+AskingTakesMemory (query.Diff key) = ⊥
 AskingTakesMemory q = ⊤
 
 -- The commands that take memory, and may be answered NOMEM. A frame that is longer than frames are read takes none.

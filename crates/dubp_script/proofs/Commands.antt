@@ -14,7 +14,7 @@ use Rattle.dubp_cond.specs.Tree.{CondTree}
 use Rattle.dubp_cond.specs.Reading.{cond_of_text}
 use Rattle.dubp_cond.proofs.Conditions.{cond_found, cond_again}
 use Rattle.dubp_lines.specs.Taking.{named}
-use Rattle.dubp_lines.proofs.Taken.{named_found, named_again}
+use Rattle.dubp_lines.proofs.Taken.{named_found}
 use Rattle.dubp_replay.specs.declared.query.Query.{Query}
 use Rattle.dubp_replay.specs.declared.query.Query.TheVariants as query
 use Rattle.dubp_replay.specs.declared.command.Command.{Command}

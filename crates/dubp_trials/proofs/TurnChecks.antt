@@ -159,6 +159,9 @@ name_in_place uid takes = takes
 balance_in_place : (cond : Text) → ¬ TakesMemory (Ask (query.Balance (record { items = cond })))
 balance_in_place cond takes = takes
 
+difficulty_in_place : (key : Text) → ¬ TakesMemory (Ask (query.Diff key))
+difficulty_in_place key takes = takes
+
 certs_need_room : (key : Text) → TakesMemory (Ask (query.Certs key))
 certs_need_room key = tt
 

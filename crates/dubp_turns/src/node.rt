@@ -174,8 +174,8 @@ impl<T: PeopleAndMoney> Node<T> {
         let _ = &self.failures;
     }
 
-    /// Puts the answer to a query that is answered in one line into an empty line, as `act` answers it: nothing changes. HEAD, MONEY, IDENTITY, UID
-    /// and BALANCE take no memory.
+    /// Puts the answer to a query that is answered in one line into an empty line, as `act` answers it: nothing changes. HEAD, MONEY, IDENTITY,
+    /// UID, BALANCE and DIFF take no memory and are never answered `NOMEM`.
     pub fn tell(&self, asked: &Asked<'_>, line: &mut Line)
         requires short { IsShort asked.now }
         requires empty { line.old.items ≡ [] }

@@ -1,9 +1,8 @@
 use Rattle.std.proofs.Common.{◌≡◌, ◌∷◌, ◌++◌, [], Some, ◌∙◌, ap, append-nil, append_assoc, arith, false, length, subst, sym, true}
 use Rattle.std.specs.List.{slice_get}
 use Rattle.std.proofs.lemmas.List.{length-map}
-use Rattle.dubp_docs.specs.declared.doc.Doc.{Doc}
 use Rattle.dubp_pool.specs.Pools.{AreApart, ArePending}
-use Rattle.dubp_forging.specs.Forged.{Forging, is_in}
+use Rattle.dubp_forging.specs.Forged.{is_in}
 use Rattle.dubp_forge.specs.Runs.{run_of}
 use Rattle.dubp_forge.specs.Steps.{Stands, docs_of}
 use Rattle.dubp_forge.proofs.Marks.{mark_at}

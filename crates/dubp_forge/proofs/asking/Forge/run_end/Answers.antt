@@ -1,4 +1,4 @@
-use Rattle.std.proofs.Common.{◌≡◌, ◌<◌, ap, arith, length, subst, sym}
+use Rattle.std.proofs.Common.{◌≡◌, ap, arith, length, subst, sym}
 use Rattle.std.specs.List.{AllByRecursion}
 use Rattle.dubp_forging_laws.specs.Laws.{IsTransaction}
 use Rattle.dubp_forge.specs.Runs.{run_of}
