@@ -1,6 +1,6 @@
 ghost use Rattle.std.specs.Prelude.{◌≡◌, ◌^◌, ◌<◌, ◌≤◌, Some, IfOk, IfErr, length};
 ghost use Rattle.dubp_params.specs.Ranges.{IsInRange};
-ghost use Rattle.dubp_block.specs.Text.{size_of};
+ghost use Rattle.dubp_block.specs.Text.{block_hash_of, size_of};
 ghost use Rattle.dubp_chain.specs.Heads.{newest, next_head, first_head, next_median_time, next_least_difficulty, moved_on, elapsed_over};
 ghost use Rattle.dubp_head.specs.Bounds.{InBounds};
 ghost use Rattle.dubp_head.specs.HeadsStates.{AreOver};
@@ -11,6 +11,7 @@ ghost use Rattle.dubp_head.specs.Money.{later_without};
 use crate::heads::Heads;
 use crate::money::{money_at, with_money};
 use crate::refusal::{HeadRefusal, Passed};
+use dubp_atoms::Hash;
 use dubp_block::{Block, block_hash, size};
 use dubp_chain::Head;
 use dubp_params::Params;
@@ -32,7 +33,7 @@ pub fn augment(
     ensures refused { IfErr result (IsRefusal params.now members heads.now.list block.now) }
     ensures always { IfErr result IsOfLimit }
 {
-    match augment_over(heads, params, block, members) {
+    match augment_over(heads, params, block, &block_hash(block), members) {
         Ok(head) => Ok(head),
         Err(passed) => Err(HeadRefusal::Refused {
             rule: passed.rule,
@@ -41,24 +42,26 @@ pub fn augment(
     }
 }
 
-/// The same, where a limit that is passed is told without an error of memory.
+/// The same for a block whose hash is at hand, where a limit that is passed is told without an error of memory.
 pub fn augment_over(
     heads: &Heads,
     params: &Params,
     block: &Block,
+    hash: &Hash,
     members: u64,
 ) -> Result<Head, Passed>
     requires valid { IsInRange params.now }
     requires over { AreOver heads.now params.now }
     requires heads { AreHeads params.now heads.now.list }
+    requires hash { hash.now ≡ block_hash_of block.now }
     requires block { MayFollow members heads.now.list block.now }
     ensures head { IfOk result (λ h. (h ≡ next_head params.now members heads.now.list block.now) × KeepsLimits params.now members heads.now.list block.now) }
     ensures passed { IfErr result (λ passed. PassesLimit params.now members heads.now.list block.now passed.rule passed.head) }
 {
     let Some(before) = heads.last() else {
-        return Ok(first_head(params, block, members));
+        return Ok(first_head(params, block, hash, members));
     };
-    let head = without_dividend(heads, before, params, block, members);
+    let head = without_dividend(heads, before, params, block, hash, members);
     match money_at(before, params, head.median_time, members) {
         Ok(money) => Ok(with_money(head, money)),
         Err(rule) => Err(Passed { rule, head }),
@@ -66,14 +69,15 @@ pub fn augment_over(
 }
 
 // The values at the first block.
-fn first_head(params: &Params, block: &Block, members: u64) -> Head
-    requires { size_of block.now < 2 ^ 53 }
+fn first_head(params: &Params, block: &Block, hash: &Hash, members: u64) -> Head
+    requires hash { hash.now ≡ block_hash_of block.now }
+    requires size { size_of block.now < 2 ^ 53 }
     ensures { result ≡ first_head params.now members block.now }
 {
     Head {
         version: block.version,
         number: block.number,
-        hash: block_hash(block),
+        hash: *hash,
         issuer: block.issuer,
         time: block.time,
         median_time: block.time,
@@ -100,9 +104,11 @@ fn without_dividend(
     before: &Head,
     params: &Params,
     block: &Block,
+    hash: &Hash,
     members: u64,
 ) -> Head
     requires valid { IsInRange params.now }
+    requires hash { hash.now ≡ block_hash_of block.now }
     requires over { AreOver heads.now params.now }
     requires before { newest heads.now.list ≡ Some before.now }
     requires bounds { InBounds params.now (length heads.now.list) before.now }
@@ -114,7 +120,7 @@ fn without_dividend(
     Head {
         version: block.version,
         number: block.number,
-        hash: block_hash(block),
+        hash: *hash,
         issuer: block.issuer,
         time: block.time,
         median_time: time,

@@ -13,7 +13,7 @@ use Rattle.dubp_chain.specs.Chains.{Chain, params}
 use Rattle.dubp_chain.specs.Heads.{head_of, heads_of}
 use Rattle.dubp_validity.specs.Rules.{Holds, FirstBroken, IsSound, reads_verdicts}
 use Rattle.dubp_rules.specs.First.{IsFirst}
-use Rattle.dubp_kept.specs.OfLocal.{AreParamsOf, all_hashes}
+use Rattle.dubp_kept.specs.OfLocal.{AreParamsOf, all_hashes, made_hashes}
 use Rattle.dubp_kept.specs.OfLocal.{Asked, Checked}
 use Rattle.dubp_kept.specs.OfLocal.checked_variants as checked
 use Rattle.dubp_kept.specs.Parts.{opening_rules}
@@ -38,10 +38,10 @@ pub record HeadFits (c : Chain) (b : Block) (h : Head) : Type 0 where
   pub steered : IsInRange (params (b ∷ c))
   pub stated : AreParamsOf (stated_params (b ∷ c)) (b ∷ c)
 
--- what the rules up to G51 say of the block, as they are asked, and the hashes of its transactions where it breaks none
+-- what the rules up to G51 say of the block, as they are asked, and its hashes where it breaks none
 abbrev pub Opened : Asked → Verdicts → Chain → Block → Checked → Type 0
 Opened asked v c b (checked.Breaks rule) = IsFirst (Asks asked v c b) opening_rules (Some rule)
-Opened asked v c b (checked.Keeps hashes) = IsFirst (Asks asked v c b) opening_rules None × (hashes ≡ all_hashes b)
+Opened asked v c b (checked.Keeps hashes) = IsFirst (Asks asked v c b) opening_rules None × (hashes ≡ made_hashes b)
 
 -- the first rule of the table that the block breaks, as they are asked, or none; and then it may join the chain where it is signed
 abbrev pub JudgedAsked : Asked → Verdicts → Chain → Block → Judgement → Type 0

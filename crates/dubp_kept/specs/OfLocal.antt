@@ -5,4 +5,4 @@ pub use Rattle.dubp_local.specs.declared.check.Checked.TheVariants as checked_va
 pub use Rattle.dubp_local.specs.declared.check.Asked.{Asked}
 pub use Rattle.dubp_local.specs.declared.check.Asked.TheVariants.{Signed, Unsigned}
 pub use Rattle.dubp_local.specs.Asking.{asked_rules}
-pub use Rattle.dubp_local.specs.Checking.{IsChecked}
+pub use Rattle.dubp_local.specs.Checking.{IsChecked, made_hashes}

@@ -13,7 +13,7 @@ ghost use Rattle.dubp_head.specs.NextHead.{HeaderHolds};
 ghost use Rattle.dubp_chain.specs.Members.{members};
 ghost use Rattle.dubp_chain.specs.Heads.{next_head};
 ghost use Rattle.dubp_kept.specs.KeptChain.{IsKnown, stated_params as stated};
-ghost use Rattle.dubp_kept.specs.OfLocal.{all_hashes};
+ghost use Rattle.dubp_kept.specs.OfLocal.{all_hashes, made_hashes};
 ghost use Rattle.dubp_kept.specs.Parts.{early_rules, link_rules, opening_rules, place_rules, table_parts};
 ghost use Rattle.dubp_kept.specs.Asking.{Asks, asked_header};
 ghost use Rattle.dubp_kept.specs.Judged.{HeadFits, IsToJudge, Judged, JudgedAsked, Opened};
@@ -24,7 +24,7 @@ use crate::checks::{
 };
 use crate::judgement::Judgement;
 use crate::judges::Judges;
-use crate::{Asked, Checked, Kept, Written, check_local_hashed};
+use crate::{Asked, Checked, Kept, MadeHashes, Written, check_local_hashed};
 use dubp_atoms::{Hash, Items, NoMemory};
 use dubp_block::Block;
 use dubp_chain::Head;
@@ -120,14 +120,14 @@ fn judge_over<T: Judges>(
     }
 }
 
-// What the rules behind `G51` say, where those up to it that are asked hold. `hashes` are those of the transactions of the block.
+// What the rules behind `G51` say, where those up to it that are asked hold. `hashes` are those of the block.
 fn judge_opened<T: Judges>(
     alloc: Global,
     tables: &T,
     heads: &Heads,
     blocks: &[Block],
     block: &Block,
-    hashes: Items<TxHashes>,
+    hashes: MadeHashes,
     verdicts: &Verdicts,
     asked: Asked,
 ) -> Result<Judgement, NoMemory>
@@ -136,7 +136,7 @@ fn judge_opened<T: Judges>(
     requires text { IsBlock block.now }
     requires short { length (block_text block.now) ≤ longest_block }
     requires opening { IsFirst (Asks asked verdicts.now (reverse blocks.now) block.now) opening_rules None }
-    requires hashes { hashes ≡ all_hashes block.now }
+    requires hashes { hashes ≡ made_hashes block.now }
     ensures { IfOk result (JudgedAsked asked verdicts.now (reverse blocks.now) block.now) }
 {
     if let Some(rule) = first_of_place(tables, heads, blocks, block) {
@@ -230,7 +230,7 @@ fn judge_placed<T: Judges>(
     blocks: &[Block],
     block: &Block,
     params: &Params,
-    hashes: Items<TxHashes>,
+    hashes: MadeHashes,
     verdicts: &Verdicts,
     asked: Asked,
 ) -> Result<Judgement, NoMemory>
@@ -241,14 +241,23 @@ fn judge_placed<T: Judges>(
     requires params { Some params.now ≡ stated (block.now ∷ reverse blocks.now) }
     requires opening { IsFirst (Asks asked verdicts.now (reverse blocks.now) block.now) opening_rules None }
     requires place { IsFirst (Holds verdicts.now (reverse blocks.now) block.now) place_rules None }
-    requires hashes { hashes ≡ all_hashes block.now }
+    requires hashes { hashes ≡ made_hashes block.now }
     ensures { IfOk result (JudgedAsked asked verdicts.now (reverse blocks.now) block.now) }
 {
     let members = tables.members_with(alloc, block)?;
-    match augment_over(heads, params, block, members) {
+    match augment_over(heads, params, block, &hashes.block, members) {
         Err(passed) => Ok(Judgement::Breaks(passed.rule)),
         Ok(head) => judge_headed(
-            alloc, tables, heads, blocks, block, params, &head, hashes, verdicts, asked,
+            alloc,
+            tables,
+            heads,
+            blocks,
+            block,
+            params,
+            &head,
+            hashes.transactions,
+            verdicts,
+            asked,
         ),
     }
 }

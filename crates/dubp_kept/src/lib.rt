@@ -40,7 +40,7 @@ mod moves;
 mod switch;
 mod written;
 
-pub use dubp_local::{Asked, Checked, check_local_hashed, check_local_read};
+pub use dubp_local::{Asked, Checked, MadeHashes, check_local_hashed, check_local_read};
 pub use held::Held;
 pub use judgement::Judgement;
 pub use judges::Judges;

@@ -10,7 +10,7 @@ ghost use Rattle.dubp_ledger.specs.Filling.{CanBeStated, IsStated, hashed, place
 
 use crate::ledger::Ledger;
 use dubp_atoms::{Currency, Items, Key, NoMemory, Sig};
-use dubp_block::{Block, inner_hash_of};
+use dubp_block::{Block, block_hash, inner_hash_of};
 use dubp_chain::Head;
 use dubp_head::augment_over;
 use dubp_params::Params;
@@ -59,7 +59,7 @@ impl<T: PeopleAndMoney> Ledger<T> {
         ensures range { IfOk result CanBeStated }
     {
         let members = self.tables().members_with(self.alloc(), block)?;
-        match augment_over(self.heads(), params, block, members) {
+        match augment_over(self.heads(), params, block, &block_hash(block), members) {
             Ok(head) => Ok(head),
             Err(passed) => Ok(passed.head),
         }

@@ -5,6 +5,7 @@ pub mod SignedTxs
 pub mod Firsts
 pub mod Repeats
 pub mod Checking
+pub mod Sealed
 pub mod Counts
 pub mod Unlocked
 pub mod Lines

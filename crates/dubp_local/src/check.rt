@@ -1,12 +1,13 @@
 //! The local rules in the order of the table, and the first that a block breaks.
 ghost use Rattle.std.specs.Prelude.{◌≡◌, ◌↔◌, IsTrue, IfOk, MatchOption, option_copied, ⊤};
 ghost use Rattle.dubp_atoms.specs.Hashing.{hash_of};
-ghost use Rattle.dubp_block.specs.Text.{IsBlock, inner_text};
+ghost use Rattle.dubp_block.specs.Text.{IsBlock, inner_text, signed_text};
 ghost use Rattle.dubp_params.specs.Ranges.{IsInRange};
 ghost use Rattle.dubp_local.specs.Local.{FirstLocal, local_rules, unsigned_rules, all_hashes};
 ghost use Rattle.dubp_local.specs.Asking.{FirstAsked, IsSignedWhereAsked, asked_rules, rules_before_l24};
 ghost use Rattle.dubp_local.specs.Checking.{IsChecked, broken_rule};
 
+use crate::closing::{begin_closing, end_closing};
 use crate::numbers::{
     certifications_are_of_earlier_blocks, first_stamps_are_empty, first_times_are_equal,
     numbers_are_small, params_are_in_range, time_is_near,
@@ -24,7 +25,7 @@ use crate::transactions::{
     amounts_are_not_zero, transactions_are_balanced, transactions_are_short,
 };
 use crate::unlocks::{inputs_are_unlocked_once, senders_stand_once, sources_stand_once};
-use dubp_atoms::{Hash, Items, NoMemory};
+use dubp_atoms::{Hash, Hashing, Items, NoMemory, TextSink};
 use dubp_block::{Block, inner_hash_of};
 use dubp_docs::{TxHashes, all_tx_hashes};
 use dubp_params::Params;
@@ -37,8 +38,17 @@ use std::alloc::Global;
 pub enum Checked {
     /// The first local rule that the block breaks.
     Breaks(Rule),
-    /// It breaks none, and these are the hashes of its transactions, in order.
-    Keeps(Items<TxHashes>),
+    /// It breaks none, and these are its hashes.
+    Keeps(MadeHashes),
+}
+
+/// The hashes that were made of a block while it was checked.
+#[derive(Debug, Drop)]
+pub struct MadeHashes {
+    /// Those of its transactions, in order.
+    pub transactions: Items<TxHashes>,
+    /// Its own.
+    pub block: Hash,
 }
 
 impl Checked {
@@ -114,7 +124,7 @@ pub fn check_unsigned(
 }
 
 /// As `check_local` of a block that is signed, and as `check_unsigned` of one that is not, whose inner hash is at hand; and hands on the
-/// hashes of the transactions of a block that keeps the rules. They are made once, when rule `L24` is read.
+/// hashes of a block that keeps the rules, its own and those of its transactions. Each is made once.
 pub fn check_local_hashed(
     alloc: Global,
     block: &Block,
@@ -145,27 +155,33 @@ fn check_asked(
     requires params { MatchOption params ⊤ (λ p. IsInRange p.now) }
     ensures { IfOk result (IsChecked (FirstAsked local_rules asked verdicts.now (option_copied params.entry) block.now) block.now) }
 {
-    if let Some(rule) = first_before_l24(alloc, block, inner, verdicts, params, asked)? {
+    let closing = begin_closing(block);
+    if let Some(rule) = first_before_l24(alloc, block, inner, &closing, verdicts, params, asked)? {
         return Ok(Checked::Breaks(rule));
     }
     let hashes = all_tx_hashes(alloc, &block.currency, block.transactions.as_slice())?;
     if !transactions_are_signed(block, hashes.as_slice(), verdicts) {
         return Ok(Checked::Breaks(Rule::L24));
     }
-    Ok(Checked::Keeps(Items::from_vec(hashes)))
+    Ok(Checked::Keeps(MadeHashes {
+        transactions: Items::from_vec(hashes),
+        block: end_closing(closing, block),
+    }))
 }
 
-// The first rule before L24 that the block breaks.
+// The first rule before L24 that the block breaks. What its issuer signs was put into `closing`.
 fn first_before_l24(
     alloc: Global,
     block: &Block,
     inner: &Hash,
+    closing: &Hashing,
     verdicts: &Verdicts,
     params: Option<&Params>,
     asked: Asked,
 ) -> Result<Option<Rule>, NoMemory>
     requires block { IsBlock block.now }
     requires inner { inner.now ≡ hash_of (inner_text block.now) }
+    requires closing { ⟦<Hashing as TextSink>⟧.has closing.now (signed_text block.now) }
     requires params { MatchOption params ⊤ (λ p. IsInRange p.now) }
     ensures { IfOk result (FirstAsked rules_before_l24 asked verdicts.now (option_copied params.entry) block.now) }
 {
@@ -177,7 +193,7 @@ fn first_before_l24(
         Rule::L02 => first_times_are_equal(block),
         Rule::L03 => certifications_are_of_earlier_blocks(block),
         Rule::L04 => first_stamps_are_empty(block),
-        Rule::L05 => is_signed_where_asked(asked, block, verdicts),
+        Rule::L05 => is_signed_where_asked(asked, block, closing, verdicts),
         Rule::L06 => time_is_near(block, params),
         Rule::L07 => identities_are_signed(block, verdicts),
         Rule::L08 => uids_stand_once(alloc, secret, block)?,
@@ -199,11 +215,17 @@ fn first_before_l24(
     ))
 }
 
-fn is_signed_where_asked(asked: Asked, block: &Block, verdicts: &Verdicts) -> bool
+fn is_signed_where_asked(
+    asked: Asked,
+    block: &Block,
+    closing: &Hashing,
+    verdicts: &Verdicts,
+) -> bool
+    requires { ⟦<Hashing as TextSink>⟧.has closing.now (signed_text block.now) }
     ensures { IsTrue result ↔ IsSignedWhereAsked asked verdicts.now block.now }
 {
     match asked {
-        Asked::Signed => block_is_signed(block, verdicts),
+        Asked::Signed => block_is_signed(block, closing, verdicts),
         Asked::Unsigned => true,
     }
 }

@@ -10,6 +10,7 @@
 #![tactic(auto)]
 
 mod check;
+mod closing;
 mod numbers;
 mod once;
 mod signatures;
@@ -17,5 +18,5 @@ mod transactions;
 mod unlocks;
 
 pub use check::{
-    Asked, Checked, check_local, check_local_hashed, check_local_read, check_unsigned,
+    Asked, Checked, MadeHashes, check_local, check_local_hashed, check_local_read, check_unsigned,
 };

@@ -1,4 +1,4 @@
-//! Rules on hashes and signatures. No text is made to be hashed, but for the two lines that the issuer of a block signs.
+//! Rules on hashes and signatures. No text is made to be hashed.
 ghost use Rattle.std.specs.Prelude.{◌≡◌, ◌↔◌, ◌++◌, IsTrue, true};
 ghost use Rattle.dubp_atoms.specs.Hashing.{hash_of};
 ghost use Rattle.dubp_block.specs.Text.{inner_text, signed_text};
@@ -7,8 +7,7 @@ ghost use Rattle.dubp_local.specs.Local.{all_hashes};
 ghost use Rattle.dubp_local.specs.Directions.{comes_in};
 ghost use Rattle.dubp_local.specs.Parts.{IsSignedIdentity, IsSignedMembership, IsSignedOver};
 
-use arrayvec::ArrayVec;
-use dubp_atoms::{Currency, Hash, Line, put_bytes, put_number};
+use dubp_atoms::{Currency, Hash, Hashing, TextSink};
 use dubp_block::{Block, IdentityLine, MemberLine};
 use dubp_cond::Tx;
 use dubp_docs::{TxHashes, identity_hash, membership_hash};
@@ -22,24 +21,12 @@ pub(crate) fn inner_hash_is_right(block: &Block, inner: &Hash) -> bool
     block.inner_hash == *inner
 }
 
-/// The signature of the block has a verdict by Issuer: rule `L05`.
-pub(crate) fn block_is_signed(block: &Block, verdicts: &Verdicts) -> bool
+/// The signature of the block has a verdict by Issuer, over the text that was put: rule `L05`.
+pub(crate) fn block_is_signed(block: &Block, closing: &Hashing, verdicts: &Verdicts) -> bool
+    requires { ⟦<Hashing as TextSink>⟧.has closing.now (signed_text block.now) }
     ensures { IsTrue result ↔ BlockIsSigned verdicts.now block.now }
 {
-    verdicts.has_hash(&block.issuer, &signed_hash(block), &block.sig)
-}
-
-/// The SHA-256 of the InnerHash and Nonce lines, which the issuer signs.
-fn signed_hash(block: &Block) -> Hash
-    ensures { result ≡ hash_of (signed_text block.now) }
-{
-    let mut line: Line = ArrayVec::new();
-    put_bytes(&mut line, b"InnerHash: ");
-    block.inner_hash.put(&mut line);
-    put_bytes(&mut line, b"\nNonce: ");
-    put_number(block.nonce as u128, &mut line);
-    put_bytes(&mut line, b"\n");
-    Hash::of(line.as_slice())
+    verdicts.has_hash(&block.issuer, &closing.copy().hash(), &block.sig)
 }
 
 /// Each signature in Identities has a verdict by its key over the identity document: rule `L07`.
