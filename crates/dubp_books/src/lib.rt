@@ -2,8 +2,9 @@
 //!
 //! `Books` moves people and money together, as one pair of tables. It judges a block by the rules on people and then by those on money,
 //! and writes one into both: the records of people come first. Of the records it hands out those that tell what ended and what was
-//! cleared, and beside them who was paid. Which type has the rules on people is a parameter (`RulesOnPeople`): `PeopleRules` of
-//! `dubp_people_checks` are those that there are. Contracts see the chain that the tables stand for.
+//! cleared, and beside them who was paid and by which hashes the transactions are named. Which type has the rules on people is a
+//! parameter (`RulesOnPeople`): `PeopleRules` of `dubp_people_checks` are those that there are. Contracts see the chain that the tables
+//! stand for.
 //!
 //! ```text
 //! let mut books = Books::<PeopleRules>::new(alloc);

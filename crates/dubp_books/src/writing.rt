@@ -4,7 +4,7 @@ ghost use Rattle.dubp_validity.specs.Rules.{IsSound};
 ghost use Rattle.dubp_books.specs.Paid.{paid_keys};
 
 use crate::books::Books;
-use crate::leaving::left_of;
+use crate::leaving::{left_of, names_of};
 use dubp_atoms::{Key, NoMemory, Steps};
 use dubp_block::Block;
 use dubp_chain::Head;
@@ -26,13 +26,14 @@ impl<R> Written for Books<R> {
         steps: &mut Steps<L>,
     ) -> Result<LeftBehind, NoMemory> {
         let mut of_people = Vec::new(alloc);
+        let names = names_of(alloc, hashes)?;
         let tables = &mut self.tables;
         apply(alloc, &mut tables.first, block, head, &mut of_people, steps)?;
         let members = paid_members(alloc, &tables.first, head)?;
         let cleared = tables
             .second
             .write(alloc, block, head, members.as_slice(), hashes, steps)?;
-        Ok(left_of(of_people, members, cleared))
+        Ok(left_of(of_people, members, cleared, names))
     }
 }
 

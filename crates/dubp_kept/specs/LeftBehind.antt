@@ -1,8 +1,9 @@
--- What a block leaves behind that its lines do not tell: with its fields and its head, its records are put together from it. Protocol:
--- records.
-use Rattle.std.specs.Prelude.{List, [], ◌∷◌, ◌++◌}
+-- What a block leaves behind that its lines do not tell, or tell only to who hashes them: with its fields and its head, its records are put
+-- together from it. Protocol: records.
+use Rattle.std.specs.Prelude.{List, [], ◌∷◌, ◌++◌, map}
 use Rattle.std.specs.Option.{option_map_or}
 use Rattle.dubp_atoms.specs.Same.{Text}
+use Rattle.dubp_docs.specs.Spelling.{tx_hash}
 use Rattle.dubp_block.specs.declared.block.Block.{Block}
 use Rattle.dubp_chain.specs.Chains.{Chain}
 use Rattle.dubp_chain.specs.Heads.{head_of}
@@ -20,4 +21,5 @@ left_behind c b = record {
   ended = expiry_records c b ++ (revocation_records c b ++ ended_records c b);
   paid = paid_by c b;
   cleared = clearing_records c b;
+  transactions = map (tx_hash b.currency) b.transactions;
 }

@@ -1,8 +1,8 @@
-use dubp_atoms::{Items, Key};
+use dubp_atoms::{Hash, Items, Key};
 use dubp_head::Record;
 
-/// What a block leaves behind that its lines do not tell. With its fields and its head, its records are put together from it.
-/// Protocol: records.
+/// What a block leaves behind that its lines do not tell, or tell only to who hashes them. With its fields and its head, its records are
+/// put together from it. Protocol: records.
 #[derive(Debug, Drop)]
 pub struct LeftBehind {
     /// What ended with it, as records: memberships that expired, keys revoked by time, certifications that came to their end.
@@ -11,4 +11,6 @@ pub struct LeftBehind {
     pub paid: Items<Key>,
     /// The sources that were cleared, as records, in the order of making.
     pub cleared: Items<Record>,
+    /// The hashes by which its transactions are named, in order.
+    pub transactions: Items<Hash>,
 }

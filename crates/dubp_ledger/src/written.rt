@@ -9,6 +9,6 @@ pub struct WrittenBlock<'a> {
     pub block: &'a Block,
     /// Its head.
     pub head: &'a Head,
-    /// What it left behind that its lines do not tell.
+    /// What it left behind that its lines do not tell, or tell only to who hashes them.
     pub left: &'a LeftBehind,
 }

@@ -1,8 +1,8 @@
 //! The records of a block, put together again where they are asked for: no chain keeps them.
 //!
 //! Most follow from the lines of the block, from its head and from the facts of a chain that it is a block of. What does not is what the
-//! block left behind (`dubp_kept::LeftBehind`): what ended with it, whom it paid and what it cleared. The chapter on records in
-//! `docs/protocol` says the same in words.
+//! block left behind (`dubp_kept::LeftBehind`): what ended with it, whom it paid and what it cleared. There stand the hashes by which its
+//! transactions are named too, so none is hashed again. The chapter on records in `docs/protocol` says the same in words.
 //!
 //! ```text
 //! let mut records = Vec::new(alloc);

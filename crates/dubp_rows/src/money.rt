@@ -1,54 +1,52 @@
 //! The records of transactions and of dividends.
 ghost use Rattle.std.specs.Prelude.{◌≡◌, ◌++◌, Some, map, take, length, OnOk};
 ghost use Rattle.std.specs.List.{flat_map};
-ghost use Rattle.dubp_block.specs.Text.{IsBlock};
-ghost use Rattle.dubp_cond.specs.Transactions.{IsTx};
+ghost use Rattle.dubp_block.specs.declared.block.Block.{Block as BlockValue};
 ghost use Rattle.dubp_chain.specs.Chains.{Chain};
-ghost use Rattle.dubp_chain.specs.Money.{dividends_at};
+ghost use Rattle.dubp_chain.specs.OfDocs.{tx_hash};
+ghost use Rattle.dubp_chain.specs.Money.{dividends_at, hashes_in};
 ghost use Rattle.dubp_validity.specs.Records.{input_of, transaction_records};
 ghost use Rattle.dubp_validity.specs.declared.record.Record.TheVariants.{Dividend};
 
-use dubp_atoms::{Key, NoMemory};
+use dubp_atoms::{Hash, Key, NoMemory};
 use dubp_block::Block;
 use dubp_chain::Head;
 use dubp_cond::Tx;
-use dubp_docs::tx_hashes;
 use dubp_money::{Payment, put_dividends, put_makes, put_spends};
 use dubp_validity::Record;
 use std::alloc::Global;
 
-// What a transaction of the block spends, and then what it makes.
+// What a transaction of this hash spends, and then what it makes.
 #[tactic(auto, using(dubp_money::proofs::Begins::begins_on))]
 fn put_transaction(
     alloc: Global,
-    block: &Block,
     tx: &Tx,
+    hash: &Hash,
     out: &mut Vec<Record>,
 ) -> Result<(), NoMemory>
-    requires { IsTx tx.now }
-    ensures appended { OnOk result ((c : Chain) → out.new.items ≡ out.old.items ++ transaction_records c block.now tx.now) }
+    ensures appended { OnOk result ((c : Chain) (b : BlockValue) → hash.now ≡ tx_hash b.currency tx.now → out.new.items ≡ out.old.items ++ transaction_records c b tx.now) }
     ensures begins { take (length out.old.items) out.new.items ≡ out.old.items }
 {
-    let hash = tx_hashes(&block.currency, tx).whole;
     put_spends(tx, out)?;
-    put_makes(alloc, tx, &hash, out)
+    put_makes(alloc, tx, hash, out)
 }
 
-/// Appends the records of the transactions of the block, one after the other.
+/// Appends the records of the transactions of the block, which have these hashes, one after the other.
 ///
 /// `NoMemory` where there is no room for them; some may have been appended then, behind what was there.
 #[tactic(auto, using(dubp_money::proofs::Begins::begins_on))]
 pub(crate) fn put_transactions(
     alloc: Global,
     block: &Block,
+    hashes: &[Hash],
     out: &mut Vec<Record>,
 ) -> Result<(), NoMemory>
-    requires { IsBlock block.now }
-    ensures appended { OnOk result ((c : Chain) → out.new.items ≡ out.old.items ++ flat_map (transaction_records c block.now) block.now.transactions) }
+    ensures appended { OnOk result ((c : Chain) → hashes.now ≡ hashes_in block.now → out.new.items ≡ out.old.items ++ flat_map (transaction_records c block.now) block.now.transactions) }
     ensures begins { take (length out.old.items) out.new.items ≡ out.old.items }
 {
-    for tx in block.transactions.as_slice() {
-        put_transaction(alloc, block, tx, out)?;
+    let txs = block.transactions.as_slice();
+    for (tx, hash) in txs.iter().zip(hashes) {
+        put_transaction(alloc, tx, hash, out)?;
     }
     Ok(())
 }

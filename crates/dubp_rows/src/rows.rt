@@ -40,7 +40,7 @@ pub fn put_records(
 {
     put_lines(alloc, block, facts, out)?;
     put_copies(alloc, left.ended.as_slice(), out)?;
-    put_transactions(alloc, block, out)?;
+    put_transactions(alloc, block, left.transactions.as_slice(), out)?;
     put_payments(block, head, left.paid.as_slice(), out)?;
     put_copies(alloc, left.cleared.as_slice(), out)
 }

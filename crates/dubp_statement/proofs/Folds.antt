@@ -1,25 +1,11 @@
--- What is made by a transaction or paid by a block, where nothing of it is of the condition.
-use Rattle.std.proofs.Common.{◌≡◌, ℕ, ◌+◌, Bool, true, false, ◌||◌, List, [], ◌∷◌, map, fold, Option, Some, None, refl, ap, sym, ◌∙◌}
-use Rattle.std.specs.List.{list_any, enumerate_from}
+-- What is paid by a block, where nothing of it is of the condition.
+use Rattle.std.proofs.Common.{◌≡◌, ℕ, false, List, [], ◌∷◌, map, fold, Option, Some, None, refl, ap, sym, ◌∙◌}
 use Rattle.std.specs.Option.{option_map_or}
 use Rattle.dubp_atoms.specs.Same.{Text, same_text}
-use Rattle.dubp_chain.specs.OfCond.{Output, cond_text}
+use Rattle.dubp_chain.specs.OfCond.{cond_text}
 use Rattle.dubp_chain.specs.declared.head.Head.{Head}
-use Rattle.dubp_chain.specs.Money.{dividend_source, dividends_at, dividends_made, output_source, signed_by}
+use Rattle.dubp_chain.specs.Money.{dividend_source, dividends_at, dividends_made, signed_by}
 use Rattle.dubp_replay.specs.OfMoves.{Account, with_made}
-
-or_false : (a b : Bool) → (a || b) ≡ false → (a ≡ false) × (b ≡ false)
-or_false true b e = absurd cc
-or_false false b e = (refl, e)
-
-pub none_made : (text : Text) (number time : ℕ) (hash : Text) (n : ℕ) (a : Account) (outputs : List Output) → list_any (λ o. same_text text (cond_text o.cond)) outputs ≡ false
-    → fold (with_made text number) a (map (output_source time hash) (enumerate_from n outputs)) ≡ a
-none_made text number time hash n a [] e = refl
-none_made text number time hash n a (o ∷ outputs) e =
-    let other = or_false (same_text text (cond_text o.cond)) (list_any (λ o. same_text text (cond_text o.cond)) outputs) e in
-    let same : with_made text number a (output_source time hash (n, o)) ≡ a = rw other.0 refl in
-    ap (λ x. fold (with_made text number) x (map (output_source time hash) (enumerate_from (n + 1) outputs))) same
-    ∙ none_made text number time hash (n + 1) a outputs other.1
 
 pub none_paid : (text : Text) (number time amount base : ℕ) (a : Account) (keys : List Text) → ((k : Text) → same_text text (cond_text (signed_by k)) ≡ false)
     → fold (with_made text number) a (map (dividend_source time number amount base) keys) ≡ a

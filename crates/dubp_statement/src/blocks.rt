@@ -5,22 +5,21 @@ ghost use Rattle.dubp_block.specs.Text.{IsBlock};
 ghost use Rattle.dubp_chain.specs.Chains.{Chain};
 ghost use Rattle.dubp_chain.specs.Heads.{head_of};
 ghost use Rattle.dubp_atoms.specs.Same.{Text, same_text};
-ghost use Rattle.dubp_chain.specs.Money.{Source, dividends_at, dividend_source, output_source, outputs_made, signed_by};
-ghost use Rattle.dubp_chain.specs.OfCond.{cond_text};
-ghost use Rattle.dubp_cond.specs.Transactions.{IsTx};
+ghost use Rattle.dubp_chain.specs.Money.{Source, dividends_at, dividend_source, hashes_in, output_source, signed_by};
+ghost use Rattle.dubp_chain.specs.OfCond.{T, cond_text};
+ghost use Rattle.dubp_chain.specs.OfDocs.{tx_hash};
 ghost use Rattle.dubp_kept.specs.LeftBehind.{left_behind};
 ghost use Rattle.dubp_replay.specs.OfMoves.{Account, Spent, with_block, with_cleared, with_gone, with_made, with_transaction};
 ghost use Rattle.dubp_validity.specs.Records.{input_of};
 ghost use Rattle.dubp_validity.specs.declared.record.Record.TheVariants.{Clear};
 ghost use Rattle.dubp_statement.specs.Tallies.{IsTallyOf, moves_of};
 
-use crate::conditions::{has_output, is_text_of, signer};
+use crate::conditions::{is_text_of, signer};
 use crate::tally::Tally;
 use dubp_atoms::{Hash, Key, NoMemory};
 use dubp_block::Block;
 use dubp_chain::Head;
 use dubp_cond::{Input, Output, SourceId, Tx};
-use dubp_docs::tx_hashes;
 use dubp_kept::LeftBehind;
 use dubp_replay::Kind;
 use dubp_validity::Record;
@@ -40,33 +39,43 @@ pub fn add_block(
     ensures account { OnOk result ((c : Chain) (a : Account) → head_of (block.now ∷ c) ≡ Some head.now → left.now ≡ left_behind c block.now → IsTallyOf a tally.old → IsTallyOf (with_block cond.now c block.now a) tally.new) }
     ensures begins { take (length (moves_of tally.old)) (moves_of tally.new) ≡ moves_of tally.old }
 {
-    add_transactions(tally, cond, block)?;
+    add_transactions(tally, cond, block, left.transactions.as_slice())?;
     add_dividends(tally, cond, block.number, head, left.paid.as_slice())?;
     add_cleared(tally, block.number, left.cleared.as_slice())
 }
 
-// The transactions of the block, one after the other.
+// The transactions of the block, which have these hashes, one after the other.
 #[tactic(auto, using(crate::proofs::Lists::begins_on))]
-fn add_transactions(tally: &mut Tally, cond: &[u8], block: &Block) -> Result<(), NoMemory>
-    requires { IsBlock block.now }
-    ensures account { OnOk result ((time : ℕ) (a : Account) → IsTallyOf a tally.old → IsTallyOf (fold (with_transaction cond.now block.now.number time block.now.currency) a block.now.transactions) tally.new) }
+fn add_transactions(
+    tally: &mut Tally,
+    cond: &[u8],
+    block: &Block,
+    hashes: &[Hash],
+) -> Result<(), NoMemory>
+    ensures account { OnOk result ((time : ℕ) (a : Account) → hashes.now ≡ hashes_in block.now → IsTallyOf a tally.old → IsTallyOf (fold (with_transaction cond.now block.now.number time block.now.currency) a block.now.transactions) tally.new) }
     ensures begins { take (length (moves_of tally.old)) (moves_of tally.new) ≡ moves_of tally.old }
 {
-    for tx in block.transactions.as_slice() {
-        add_transaction(tally, cond, block, tx)?;
+    let txs = block.transactions.as_slice();
+    for (tx, hash) in txs.iter().zip(hashes) {
+        add_transaction(tally, cond, block.number, tx, hash)?;
     }
     Ok(())
 }
 
-// What a transaction of the block spends, and then what it makes.
+// What a transaction of this hash spends, and then what it makes.
 #[tactic(auto, using(crate::proofs::Lists::begins_on))]
-fn add_transaction(tally: &mut Tally, cond: &[u8], block: &Block, tx: &Tx) -> Result<(), NoMemory>
-    requires { IsTx tx.now }
-    ensures account { OnOk result ((time : ℕ) (a : Account) → IsTallyOf a tally.old → IsTallyOf (with_transaction cond.now block.now.number time block.now.currency a tx.now) tally.new) }
+fn add_transaction(
+    tally: &mut Tally,
+    cond: &[u8],
+    number: u64,
+    tx: &Tx,
+    hash: &Hash,
+) -> Result<(), NoMemory>
+    ensures account { OnOk result ((currency : Text) (time : ℕ) (a : Account) → hash.now ≡ tx_hash currency tx.now → IsTallyOf a tally.old → IsTallyOf (with_transaction cond.now number time currency a tx.now) tally.new) }
     ensures begins { take (length (moves_of tally.old)) (moves_of tally.new) ≡ moves_of tally.old }
 {
-    add_inputs(tally, block.number, tx.inputs.as_slice())?;
-    add_outputs(tally, cond, block, tx)
+    add_inputs(tally, number, tx.inputs.as_slice())?;
+    add_outputs(tally, cond, number, tx, hash)
 }
 
 // What these inputs spend.
@@ -81,22 +90,9 @@ fn add_inputs(tally: &mut Tally, number: u64, inputs: &[Input]) -> Result<(), No
     Ok(())
 }
 
-// What a transaction of the block makes. Its hash is made only where an output has the condition.
-fn add_outputs(tally: &mut Tally, cond: &[u8], block: &Block, tx: &Tx) -> Result<(), NoMemory>
-    requires { IsTx tx.now }
-    ensures account { OnOk result ((time : ℕ) (a : Account) → IsTallyOf a tally.old → IsTallyOf (fold (with_made cond.now block.now.number) a (outputs_made time block.now.currency tx.now)) tally.new) }
-    ensures begins { take (length (moves_of tally.old)) (moves_of tally.new) ≡ moves_of tally.old }
-{
-    if !has_output(cond, tx) {
-        return Ok(());
-    }
-    let hash = tx_hashes(&block.currency, tx).whole;
-    add_outputs_of(tally, cond, block.number, tx, &hash)
-}
-
-// The same, of the transaction of this hash.
+// What a transaction of this hash makes.
 #[tactic(auto, using(crate::proofs::Lists::begins_on))]
-fn add_outputs_of(
+fn add_outputs(
     tally: &mut Tally,
     cond: &[u8],
     number: u64,
@@ -108,30 +104,31 @@ fn add_outputs_of(
 {
     let mut place = 0;
     for output in tx.outputs.as_slice() {
-        let source = SourceId::T {
-            tx: *hash,
-            index: place,
-        };
-        add_output(tally, cond, number, output, source)?;
+        add_output(tally, cond, number, output, hash, place)?;
         place += 1;
     }
     Ok(())
 }
 
-// The output as the source of this name.
+// The output at this place of the transaction of this hash, where it has the condition.
 fn add_output(
     tally: &mut Tally,
     cond: &[u8],
     number: u64,
     output: &Output,
-    source: SourceId,
+    hash: &Hash,
+    place: u64,
 ) -> Result<(), NoMemory>
-    ensures account { OnOk result ((s : Source) (a : Account) → s.cond ≡ output.now.cond → input_of s ≡ record { amount = output.now.amount; base = output.now.base; source = source } → IsTallyOf a tally.old → IsTallyOf (with_made cond.now number a s) tally.new) }
+    ensures account { OnOk result ((s : Source) (a : Account) → s.cond ≡ output.now.cond → input_of s ≡ record { amount = output.now.amount; base = output.now.base; source = T hash.now place } → IsTallyOf a tally.old → IsTallyOf (with_made cond.now number a s) tally.new) }
     ensures begins { take (length (moves_of tally.old)) (moves_of tally.new) ≡ moves_of tally.old }
 {
     if !is_text_of(cond, &output.cond) {
         return Ok(());
     }
+    let source = SourceId::T {
+        tx: *hash,
+        index: place,
+    };
     let input = Input {
         amount: output.amount,
         base: output.base,

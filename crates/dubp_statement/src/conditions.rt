@@ -1,29 +1,16 @@
 //! Whether a text is that of a condition.
 ghost use Rattle.std.specs.Prelude.{◌≡◌, MatchOption, false};
-ghost use Rattle.std.specs.List.{list_any};
 ghost use Rattle.dubp_atoms.specs.Same.{Text, same_text};
 ghost use Rattle.dubp_chain.specs.Money.{signed_by};
 ghost use Rattle.dubp_chain.specs.OfCond.{cond_text};
 
-use dubp_cond::{SpelledCond, Tx};
+use dubp_cond::SpelledCond;
 
 /// Whether the text is that of the condition. It takes no memory.
 pub(crate) fn is_text_of(text: &[u8], cond: &SpelledCond) -> bool
     ensures { result ≡ same_text text.now (cond_text cond.now) }
 {
     text == cond.as_text()
-}
-
-/// Whether the transaction has an output whose condition has this text. It takes no memory.
-pub(crate) fn has_output(text: &[u8], tx: &Tx) -> bool
-    ensures { result ≡ list_any (λ o. same_text text.now (cond_text o.cond)) tx.now.outputs }
-{
-    for output in tx.outputs.as_slice() {
-        if is_text_of(text, &output.cond) {
-            return true;
-        }
-    }
-    false
 }
 
 /// What stands in the parentheses of a text that is `SIG(..)`: the one key by which the condition of this text may be signed. None exactly

@@ -103,11 +103,11 @@ fn insert(names: &mut HashSet<SourceId, Secret>, source: SourceId) -> Result<(),
     }
 }
 
-// Whether the source has one of the names.
+// Whether the source has one of the names. Where there is none, its own is not hashed.
 fn has(names: &HashSet<SourceId, Secret>, source: &SourceId) -> bool
     ensures { result ≡ list_any (λ name. same_source name source.now) names.now.keys }
 {
-    names.contains(source)
+    !names.is_empty() && names.contains(source)
 }
 
 // The units behind a move, where they are a number of 128 bits.

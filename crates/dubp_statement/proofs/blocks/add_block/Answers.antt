@@ -18,12 +18,12 @@ returns-clause-account c =
     let h = c.args.head.now in
     let moved = fold (with_transaction cond b.number (time_of (b ∷ chain)) b.currency) a b.transactions in
     let paid = λ (l : _). fold (with_made cond b.number) moved l in
-    let first = c.in_ok-add_transactions.ensures.account (time_of (b ∷ chain)) a is in
+    let first = c.in_ok-add_transactions.ensures.account (time_of (b ∷ chain)) a (c.as_slice.ensures ∙ ap (λ (l : LeftBehind). l.transactions) left) is in
     let then = c.in_ok-add_dividends.ensures.account moved first in
     let same =
-    ap (λ keys. dividends_at b.number (Some h) keys) (c.as_slice.ensures ∙ ap (λ (l : LeftBehind). l.paid) left)
+    ap (λ keys. dividends_at b.number (Some h) keys) (c.as_slice-2.ensures ∙ ap (λ (l : LeftBehind). l.paid) left)
     ∙ payments_are b.number (head_of (b ∷ chain)) h (members (b ∷ chain)) head in
     gone (cleared_by chain b (cleared chain)) (paid (dividends_at b.number (head_of (b ∷ chain)) (members (b ∷ chain))))
-    (c.as_slice-2.ensures ∙ ap (λ (l : LeftBehind). l.cleared) left)
+    (c.as_slice-3.ensures ∙ ap (λ (l : LeftBehind). l.cleared) left)
     (subst (λ l. IsTallyOf (paid l) c.add_dividends.new.tally) same then))
     c.add_cleared.ensures.account

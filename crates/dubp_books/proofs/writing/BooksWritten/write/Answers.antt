@@ -46,7 +46,8 @@ returns-clause-left g c = λ chain sound text head at.
     let ended = c.left_of.ensures.ended ∙ ap (filter is_ended) of_people ∙ ended_of_people chain b in
     let members = c.left_of.ensures.paid ∙ keys ∙ paid_by_head chain b h head in
     let cleared = c.left_of.ensures.cleared ∙ c.in_ok-cleared.ensures.cleared chain second paid at.1 in
-    λ i. record { ended = ended i; paid = members i; cleared = cleared i }
+    let named = c.left_of.ensures.transactions ∙ c.in_ok-names.ensures ∙ whole_hashes_are b c.args.hashes.now c.requires.hashes in
+    λ i. record { ended = ended i; paid = members i; cleared = cleared i; transactions = named i }
 
 pub returns-clause-stays : goal.returns-clause-stays
 returns-clause-stays g c = λ n d is. (is.0, c.write.ensures.stays n.1 d is.1)

@@ -3,7 +3,7 @@ use Rattle.std.specs.List.{enumerate_from}
 use Rattle.dubp_chain.specs.Money.{output_source}
 use Rattle.dubp_replay.specs.OfMoves.{Account, with_made}
 use Rattle.dubp_statement.specs.Tallies.{IsTallyOf, moves_of}
-use Rattle.dubp_statement.proofs.blocks.add_outputs_of.Given as goal
+use Rattle.dubp_statement.proofs.blocks.add_outputs.Given as goal
 
 abbrev pub invariant-loop-output : goal.invariant-loop-output
 invariant-loop-output l = record {
