@@ -1,6 +1,8 @@
+ghost use Rattle.std.specs.Prelude.{◌≡◌, option_copied};
+
 use dubp_atoms::{Currency, Hash, Items, Key, Sig, Stamp, Uid};
 use dubp_cond::Tx;
-use dubp_params::Params;
+use dubp_params::{BoxedParams, Params};
 
 /// A block of the chain, with the fields of its text in their order.
 ///
@@ -27,7 +29,7 @@ pub struct Block {
     /// The hash and the issuer of the block before: exactly where the number is not 0.
     pub previous: Option<(Hash, Key)>,
     /// The parameters of the currency: exactly where the number is 0.
-    pub params: Option<Params>,
+    pub params: Option<BoxedParams>,
     pub members: u64,
     pub identities: Items<IdentityLine>,
     pub joiners: Items<MemberLine>,
@@ -40,6 +42,18 @@ pub struct Block {
     pub inner_hash: Hash,
     pub nonce: u64,
     pub sig: Sig,
+}
+
+impl Block {
+    /// The parameters that the block states, where it states some.
+    pub fn stated_params(&self) -> Option<&Params>
+        ensures { option_copied result ≡ self.now.params }
+    {
+        match &self.params {
+            Some(params) => Some(params.get()),
+            None => None,
+        }
+    }
 }
 
 /// A line of Identities: a key takes this name.

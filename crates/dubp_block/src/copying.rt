@@ -3,6 +3,7 @@ ghost use Rattle.std.specs.Prelude.{◌≡◌, IfOk};
 use crate::block::Block;
 use dubp_atoms::{Items, NoMemory};
 use dubp_cond::{Tx, copy_tx};
+use dubp_params::boxed_params;
 use std::alloc::Global;
 
 /// An equal block. `NoMemory` where there is no room for it.
@@ -23,7 +24,7 @@ pub fn copy_block(alloc: Global, block: &Block) -> Result<Block, NoMemory>
         frame_var: block.frame_var,
         issuers: block.issuers,
         previous: block.previous,
-        params: block.params,
+        params: boxed_params(alloc, block.stated_params().copied())?,
         members: block.members,
         identities: block.identities.copy(alloc)?,
         joiners: block.joiners.copy(alloc)?,

@@ -15,7 +15,7 @@ use crate::refusal::ReadRefusal;
 use crate::sections::{take_first_sections, take_last_sections};
 use dubp_atoms::{Currency, Hash, Key, Sig};
 use dubp_lines::{LineRefusal, Lines, Refused, count_lines};
-use dubp_params::Params;
+use dubp_params::{Params, boxed_params};
 use std::alloc::Global;
 
 /// The block that this text is.
@@ -104,7 +104,7 @@ fn take_block(alloc: Global, lines: &mut Lines<'_>) -> Result<Block, LineRefusal
         frame_var: issuing.frame_var,
         issuers: issuing.issuers,
         previous: links.previous,
-        params: links.params,
+        params: boxed_params(alloc, links.params)?,
         members,
         identities: first.identities,
         joiners: first.joiners,

@@ -13,7 +13,7 @@ use crate::entries::{add_field, add_line, add_section, add_value};
 use arrayvec::ArrayVec;
 use dubp_atoms::{Hash, Key, Line, NoMemory, TextSink};
 use dubp_lines::{put_number_line, put_signed_line};
-use dubp_params::Params;
+use dubp_params::BoxedParams;
 use std::alloc::Global;
 
 /// The text of a block. The block is in range. `NoMemory` where there is no room for its text.
@@ -98,14 +98,14 @@ fn add_previous<S: TextSink>(out: &mut S, previous: &Option<(Hash, Key)>) -> Res
 fn add_params<S: TextSink>(
     out: &mut S,
     line: &mut Line,
-    params: &Option<Params>,
+    params: &Option<BoxedParams>,
 ) -> Result<(), S::Refusal>
     requires { IfSome params.now IsParams }
     ensures { OnOk result (AddsLines S.has out.old out.new (params_lines params.now)) }
 {
     match params {
         None => Ok(()),
-        Some(params) => add_value(out, line, b"Parameters: ", params),
+        Some(params) => add_value(out, line, b"Parameters: ", params.get()),
     }
 }
 

@@ -44,7 +44,7 @@ const HASH: &[u8] = b"213EECFB0EEA61A655E64854E92BE5C3C4F3DE3D12DAD82F421E4DFA25
 // What is read of the first block, and its hashes.
 fn is_first(block: &Block) -> bool {
     block.time == 1_488_987_127
-        && matches!(&block.params, Some(params) if params.ud0 == 1000)
+        && matches!(&block.params, Some(params) if params.get().ud0 == 1000)
         && block_hash(block).as_bytes() == HASH
         && stamp_of(block).number == 0
 }

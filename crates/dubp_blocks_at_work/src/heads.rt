@@ -37,11 +37,11 @@ fn broken_with(heads: &Heads, block: &Block, members: u64) -> Option<Option<Rule
     requires heads { heads.now.list ≡ [] }
     requires few { members < 2 ^ 21 }
 {
-    let params = block.params?;
-    if in_range(&params) && may_be_first(block) {
-        let head = augment(heads, &params, block, members).ok()?;
+    let params = block.stated_params()?;
+    if in_range(params) && may_be_first(block) {
+        let head = augment(heads, params, block, members).ok()?;
         if head.members == members {
-            return head_rules(heads, &params, &head, block).ok();
+            return head_rules(heads, params, &head, block).ok();
         }
     }
     None

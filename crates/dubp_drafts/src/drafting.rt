@@ -14,6 +14,7 @@ use crate::sections::{actives, certifications, identities, joiners};
 use dubp_atoms::{Items, NoMemory, Stamp};
 use dubp_block::{Block, CertLine, IdentityLine, MemberLine};
 use dubp_cond::{Input, Tx};
+use dubp_params::boxed_params;
 use std::alloc::Global;
 
 // When the block of number 0 is made, in seconds.
@@ -38,7 +39,7 @@ pub fn first_draft(alloc: Global) -> Result<Draft, NoMemory>
     ensures valid { IfOk result (λ d. IsBlock d.block) }
 {
     let mut first = draft(alloc, 0, 0, &empty_stamp(), None)?;
-    first.block.params = Some(parameters());
+    first.block.params = boxed_params(alloc, Some(parameters()))?;
     first.block.members = 8;
     Ok(first)
 }

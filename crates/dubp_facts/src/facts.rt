@@ -216,7 +216,7 @@ fn write_first<L: StepBook>(
     match &block.params {
         Some(params) => {
             let set = First {
-                params: *params,
+                params: *params.get(),
                 currency: block.currency,
             };
             first.set((), Some(set), steps)?;

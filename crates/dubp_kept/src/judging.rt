@@ -153,8 +153,8 @@ fn params_with<'a>(blocks: &'a [Block], block: &'a Block) -> Option<&'a Params>
     ensures { option_copied result ≡ stated (block.now ∷ reverse blocks.now) }
 {
     match first_of(blocks) {
-        Some(first) => first.params.as_ref(),
-        None => block.params.as_ref(),
+        Some(first) => first.stated_params(),
+        None => block.stated_params(),
     }
 }
 
@@ -162,7 +162,7 @@ fn params_with<'a>(blocks: &'a [Block], block: &'a Block) -> Option<&'a Params>
 fn stated_params(blocks: &[Block]) -> Option<&Params>
     ensures { option_copied result ≡ stated (reverse blocks.now) }
 {
-    first_of(blocks)?.params.as_ref()
+    first_of(blocks)?.stated_params()
 }
 
 // What the rules up to `G51` say of the block.

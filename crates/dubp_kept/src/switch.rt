@@ -111,8 +111,8 @@ fn first_params(blocks: &[Block], held: &[Block]) -> Option<Params>
     ensures { result ≡ stated_params (held.now ++ reverse blocks.now) }
 {
     match first_of(blocks) {
-        Some(block) => block.params,
-        None => last_of(held)?.params,
+        Some(block) => block.stated_params().copied(),
+        None => last_of(held)?.stated_params().copied(),
     }
 }
 

@@ -71,7 +71,7 @@ fn stated(block: &Block) -> Params
     ensures { result ≡ params (block.now ∷ []) }
 {
     match &block.params {
-        Some(params) => *params,
+        Some(params) => *params.get(),
         None => NO_PARAMS,
     }
 }

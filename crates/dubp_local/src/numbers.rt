@@ -28,7 +28,7 @@ pub(crate) fn params_are_in_range(block: &Block) -> bool
 {
     match &block.params {
         None => true,
-        Some(params) => in_range(params) && block.pow_min <= GREATEST_FIRST_POW_MIN,
+        Some(params) => in_range(params.get()) && block.pow_min <= GREATEST_FIRST_POW_MIN,
     }
 }
 

@@ -11,12 +11,14 @@
 //! ```
 #![tactic(auto)]
 
+mod boxed;
 pub mod laws;
 mod params;
 mod ranges;
 mod reading;
 mod writing;
 
+pub use boxed::{BoxedParams, boxed_params};
 pub use dubp_atoms::{Dec, Hash};
 pub use params::Params;
 pub use ranges::{in_range, max_acceleration, max_gen_time, min_gen_time};
