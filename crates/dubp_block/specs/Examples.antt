@@ -2,7 +2,7 @@
 use Rattle.std.specs.Prelude.{ℕ, List, [], ◌∷◌, ◌++◌, codes, negsuc, Some, None}
 use Rattle.dubp_atoms.specs.declared.stamp.Stamp.{Stamp}
 use Rattle.dubp_cond.specs.Tree.{sig, no_items, add_item, no_alls, add_all}
-use Rattle.dubp_cond.specs.declared.source.SourceId.TheVariants.{D, T}
+use Rattle.dubp_cond.specs.declared.source.SourceId.TheVariants.{D}
 use Rattle.dubp_cond.specs.declared.unlock.Unlock.TheVariants.{Sig}
 use Rattle.dubp_cond.specs.declared.tx.Tx.{Tx}
 use Rattle.dubp_block.specs.declared.block.Block.{Block}

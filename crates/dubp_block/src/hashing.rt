@@ -1,4 +1,4 @@
-ghost use Rattle.std.specs.Prelude.{◌≡◌, Ok};
+ghost use Rattle.std.specs.Prelude.{◌≡◌, Ok, length};
 ghost use Rattle.dubp_atoms.specs.Hashing.{hash_of};
 ghost use Rattle.dubp_lines.specs.Lines.{unlines};
 ghost use Rattle.dubp_block.specs.Parts.{closing_of};
@@ -8,6 +8,7 @@ use crate::block::Block;
 use crate::writing::add_inner;
 use arrayvec::ArrayVec;
 use dubp_atoms::{Hash, Hashing, Line, NoMemory, Stamp, put_bytes, put_number};
+use itoa::Buffer;
 use std::alloc::Global;
 
 /// The SHA-256 of the text before the InnerHash line: what a right InnerHash is. The block is in range. It takes no memory.
@@ -35,9 +36,16 @@ pub fn inner_hash_in(text: &[u8], block: &Block) -> Hash
     requires { text.now ≡ block_text block.now }
     ensures { result ≡ hash_of (inner_text block.now) }
 {
-    let mut closing: Line = ArrayVec::new();
-    spell_closing(block, &mut closing);
-    Hash::of(&text[..text.len() - closing.len()])
+    Hash::of(&text[..text.len() - closing_len(block)])
+}
+
+// How many bytes the InnerHash, Nonce and signature lines of a block have.
+fn closing_len(block: &Block) -> usize
+    ensures { result ≡ length (unlines (closing_of block.now)) }
+{
+    let mut digits = Buffer::new();
+    let nonce = digits.format(block.nonce).as_bytes();
+    21 + block.inner_hash.as_bytes().len() + nonce.len() + block.sig.as_bytes().len()
 }
 
 /// The hash of a block: the SHA-256 of its InnerHash, Nonce and signature lines. It takes no memory.
