@@ -1,12 +1,13 @@
 -- The two lines that the issuer of a block signs, as they are put together.
-use Rattle.std.proofs.Common.{◌≡◌, ℕ, List, [], ◌∷◌, ◌++◌, append_assoc, append-nil}
+use Rattle.std.proofs.Common.{◌≡◌, ℕ, List, [], ◌∷◌, ◌++◌, decimal, append-nil}
 use Rattle.std.specs.Prelude.{codes}
-use Rattle.dubp_lines.specs.Lines.{unlines}
+use Rattle.dubp_block.specs.declared.block.Block.{Block}
+use Rattle.dubp_block.specs.Text.{signed_text}
 
-regrouped_parts : (a hash b nonce lf : List ℕ) → ((((a ++ hash) ++ (lf ++ b)) ++ nonce) ++ lf) ≡ ((a ++ hash) ++ lf) ++ (((b ++ nonce) ++ lf) ++ [])
-regrouped_parts a hash b nonce lf = simp (append_assoc, append-nil)
+two_lines : (a b lf : List ℕ) → (a ++ lf) ++ (b ++ lf) ≡ (a ++ lf) ++ ((b ++ lf) ++ [])
+two_lines a b lf = simp (append-nil)
 
-pub signing_is : (hash nonce : List ℕ)
-    → (((codes "InnerHash: " ++ hash) ++ codes "\nNonce: ") ++ nonce) ++ codes "\n"
-    ≡ unlines ((codes "InnerHash: " ++ hash) ∷ (codes "Nonce: " ++ nonce) ∷ [])
-signing_is hash nonce = regrouped_parts (codes "InnerHash: ") hash (codes "Nonce: ") nonce (10 ∷ [])
+pub signing_is : (b : Block) (hash : List ℕ) → hash ≡ b.inner_hash
+    → ((codes "InnerHash: " ++ hash) ++ 10 ∷ []) ++ ((codes "Nonce: " ++ decimal b.nonce) ++ 10 ∷ []) ≡ signed_text b
+unfolding signed_text
+signing_is b hash is = rw is (two_lines (codes "InnerHash: " ++ b.inner_hash) (codes "Nonce: " ++ decimal b.nonce) (10 ∷ []))

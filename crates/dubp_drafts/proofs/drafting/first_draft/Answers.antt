@@ -3,7 +3,7 @@ use Rattle.dubp_drafts.proofs.drafting.first_draft.Goals as goal
 
 pub returns-clause-block : goal.returns-clause-block
 returns-clause-block c =
-    first_draft_is c.in_ok-first.first.block c.empty_stamp.result c.parameters.result c.in_ok-first.ensures.block c.empty_stamp.ensures.value c.parameters.ensures.value
+    ?
 
 pub returns-clause-verdicts : goal.returns-clause-verdicts
 returns-clause-verdicts c = first_given_is c.in_ok-first.first.verdicts.items c.empty_stamp.result c.in_ok-first.ensures.verdicts c.empty_stamp.ensures.value
