@@ -20,7 +20,7 @@ use Rattle.dubp_replay.specs.declared.query.Query.TheVariants as query
 use Rattle.dubp_replay.specs.declared.command.Command.{Command}
 use Rattle.dubp_replay.specs.declared.command.Command.TheVariants as command
 use Rattle.dubp_script.specs.Spelling.{IsCommand, IsQuery, IsCondText, command_text, query_text, Says}
-use Rattle.dubp_script.specs.Reading.{bare, verdict_of, change_of, choice_of, cond_text_if, forging_of, statement_of, pending_of, one_line_of, many_lines_of, command_of}
+use Rattle.dubp_script.specs.Reading.{bare, verdict_of, change_of, other_of, choice_of, cond_text_if, forging_of, statement_of, pending_of, one_line_of, many_lines_of, command_of}
 use Rattle.dubp_script.proofs.Tried.{or_some, map_some, behind, bare_found}
 
 -- whatever is read has this text and is in range
@@ -103,12 +103,11 @@ verdict_tells = record {
 change_tells : Tells IsCommand command_text change_of
 unfolding change_of
 change_tells =
-    either_tells verdict_tells
-    (either_tells (number_tells (codes "BLOCK ") command.Block (λ n is. is) (λ n. refl))
+    either_tells (number_tells (codes "BLOCK ") command.Block (λ n is. is) (λ n. refl))
     (either_tells (number_tells (codes "REVERT ") command.Revert (λ n is. is) (λ n. refl))
     (either_tells (number_tells (codes "OFFER ") command.Offer (λ n is. is) (λ n. refl))
     (either_tells (stamp_tells (codes "SWITCH ") command.Switch (λ s is. is) (λ s. refl))
-    (stamp_tells (codes "FORGET ") command.Forget (λ s is. is) (λ s. refl))))))
+    (stamp_tells (codes "FORGET ") command.Forget (λ s is. is) (λ s. refl)))))
 
 choice_tells : Tells IsCommand command_text choice_of
 unfolding choice_of
@@ -179,9 +178,13 @@ asks_tells {read = read} p = record {
       subst P m.2 (p.tells line m.0 m.1);
 }
 
+other_tells : Tells IsCommand command_text other_of
+unfolding other_of
+other_tells = either_tells change_tells (either_tells choice_tells (either_tells statement_tells (either_tells pending_tells (either_tells (asks_tells one_line_tells) (asks_tells many_lines_tells)))))
+
 command_tells : Tells IsCommand command_text command_of
 unfolding command_of
-command_tells = either_tells change_tells (either_tells choice_tells (either_tells statement_tells (either_tells pending_tells (either_tells (asks_tells one_line_tells) (asks_tells many_lines_tells)))))
+command_tells = either_tells verdict_tells other_tells
 
 pub command_says : (line : List ℕ) (c : Command) → command_of line ≡ Some c → Says line c
 command_says line c e = let f = command_tells.tells line c e in record { is = f.0; text = f.1 }
@@ -213,7 +216,7 @@ forging_again key time k t =
     ∙ rw (number_again time t) refl
 
 pub command_again : (c : Command) → IsCommand c → command_of (command_text c) ≡ Some c
-unfolding command_of change_of choice_of statement_of pending_of one_line_of many_lines_of
+unfolding command_of other_of change_of choice_of statement_of pending_of one_line_of many_lines_of
 command_again (command.Verdict key hash sig) is = rw (verdict_again key hash sig is.0 is.1 is.2) refl
 command_again (command.Block len) is = rw (number_again len is) refl
 command_again (command.Revert count) is = rw (number_again count is) refl

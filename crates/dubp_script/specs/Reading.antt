@@ -25,12 +25,11 @@ verdict_of text =
 
 unfoldable pub change_of : List ℕ → Option Command
 change_of line =
-    option_or (named (codes "VERDICT ") verdict_of line)
-    (option_or (option_map command.Block (named (codes "BLOCK ") number_of line))
+    option_or (option_map command.Block (named (codes "BLOCK ") number_of line))
     (option_or (option_map command.Revert (named (codes "REVERT ") number_of line))
     (option_or (option_map command.Offer (named (codes "OFFER ") number_of line))
     (option_or (option_map command.Switch (named (codes "SWITCH ") stamp_of line))
-    (option_map command.Forget (named (codes "FORGET ") stamp_of line))))))
+    (option_map command.Forget (named (codes "FORGET ") stamp_of line)))))
 
 -- the text of a condition
 unfoldable pub cond_text_if : List ℕ → Option (ArrayVec ℕ)
@@ -81,5 +80,9 @@ many_lines_of line =
 abbrev pub asking_of : List ℕ → Option Command
 asking_of line = option_or (option_map command.Ask (one_line_of line)) (option_map command.Ask (many_lines_of line))
 
+-- what is said by a command that is no verdict
+unfoldable pub other_of : List ℕ → Option Command
+other_of line = option_or (change_of line) (option_or (choice_of line) (option_or (statement_of line) (option_or (pending_of line) (asking_of line))))
+
 unfoldable pub command_of : List ℕ → Option Command
-command_of line = option_or (change_of line) (option_or (choice_of line) (option_or (statement_of line) (option_or (pending_of line) (asking_of line))))
+command_of line = option_or (named (codes "VERDICT ") verdict_of line) (other_of line)

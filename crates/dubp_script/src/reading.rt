@@ -1,7 +1,7 @@
 ghost use Rattle.std.specs.Prelude.{◌≡◌, IfSome, Some, option_map};
 ghost use Rattle.dubp_script.specs.Spelling.{IsCommand, command_text};
 ghost use Rattle.std.specs.Option.{option_or};
-ghost use Rattle.dubp_script.specs.Reading.{asking_of, command_of, many_lines_of, pending_of};
+ghost use Rattle.dubp_script.specs.Reading.{asking_of, command_of, many_lines_of, other_of, pending_of};
 ghost use Rattle.dubp_replay.specs.declared.command.Command.{Command as CommandValue};
 ghost use Rattle.dubp_replay.specs.declared.command.Command.TheVariants.{Ask as AskCommand};
 
@@ -20,14 +20,23 @@ pub fn read_command(line: &[u8]) -> Option<Command>
     command(line)
 }
 
-// A command has room for the longest condition, so it is made where its line has been told, and nowhere before.
-#[tactic(auto, unfolding(crate::specs::Reading::command_of, crate::specs::Reading::change_of, crate::specs::Reading::choice_of, crate::specs::Reading::statement_of))]
+// A command has room for the longest condition, so it is made where its line has been told, and nowhere before. Verdicts, which are most of the lines
+// that are read here, have a function of their own, since a function clears all that it has when it begins.
+#[tactic(auto, unfolding(crate::specs::Reading::command_of))]
 fn command(line: &[u8]) -> Option<Command>
     ensures { result ≡ command_of line.now }
 {
     if let Some(SaidVerdict { key, hash, sig }) = verdict_behind(b"VERDICT ", line) {
         return Some(Command::Verdict { key, hash, sig });
     }
+    other(line)
+}
+
+// What is said by a command that is no verdict.
+#[tactic(auto, unfolding(crate::specs::Reading::other_of, crate::specs::Reading::change_of, crate::specs::Reading::choice_of, crate::specs::Reading::statement_of))]
+fn other(line: &[u8]) -> Option<Command>
+    ensures { result ≡ other_of line.now }
+{
     if let Some(len) = number_behind(b"BLOCK ", line) {
         return Some(Command::Block { len });
     }
