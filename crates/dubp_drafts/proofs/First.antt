@@ -1,6 +1,6 @@
 -- The first draft as the code puts it together.
 use Rattle.std.proofs.Common.{◌≡◌, List, ap, ◌∙◌}
-use Rattle.std.specs.Prelude.{Some, None}
+use Rattle.std.specs.Prelude.{Option, Some, None}
 use Rattle.dubp_atoms.specs.Same.{empty_stamp}
 use Rattle.dubp_atoms.specs.declared.stamp.Stamp.{Stamp}
 use Rattle.dubp_params.specs.declared.params.Params.{Params}
