@@ -1,3 +1,4 @@
+pub mod Copied
 pub mod Drafted
 pub mod Giving
 pub mod Rounds

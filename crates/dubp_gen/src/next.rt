@@ -5,13 +5,14 @@ ghost use Rattle.dubp_drafts.specs.Drafting.{with_parameters};
 ghost use Rattle.dubp_drafts.specs.Sealing.{IsSealed, IsSealing};
 ghost use Rattle.dubp_gen.specs.declared.chain.GenRefusal.TheVariants.{NoNonce};
 ghost use Rattle.dubp_gen.specs.Generated.{EndsWith, HasNoNonce, HasNoSeal, IsMadeNext, IsRefused, next_draft, next_given, number_at, with_given};
-ghost use Rattle.dubp_gen.specs.Making.{IsOfMade, IsSealedBlock, Joins, made_of};
+ghost use Rattle.dubp_gen.specs.Making.{HasGrown, IsOfMade, IsSealedBlock, Joins, made_in};
+ghost use Rattle.dubp_ledger.specs.OfKept.{with_block};
 ghost use Rattle.dubp_validity.specs.LocalRules.{InnerHashIsRight};
 
-use crate::chain::{Chain, GenRefusal};
+use crate::chain::GenRefusal;
 use crate::spending::first_source;
 use dubp_atoms::{Hash, Key, NoMemory, Sig, Steps};
-use dubp_block::{Block, copy_block, put_block};
+use dubp_block::{Block, put_block};
 use dubp_drafts::{Draft, SealRefusal, Sealed, draft, first_draft, payer, seal, seal_hashed};
 use dubp_ledger::{Ledger, PeopleAndMoney, SubmitRefusal};
 use dubp_rules::Rule;
@@ -22,21 +23,21 @@ use std::sync::ledger::Ledger as StepBook;
 /// The most bytes that the text of a block has.
 const LONGEST_BLOCK: usize = 1_048_576;
 
-/// Makes the next block, whose number in the run is `x`, and puts it and its verdicts behind those of the chain. The ledger has the blocks
-/// of the chain, and the verdicts are those that were given. After a refusal none of them is of use.
+/// Makes the next block, whose number in the run is `x`, in the ledger, and notes its verdicts behind those of the blocks before it. The
+/// verdicts are those that were noted. After a refusal none of the three is of use.
 pub(crate) fn make_next<T: PeopleAndMoney, L: StepBook>(
     alloc: Global,
     ledger: &mut Ledger<T>,
     verdicts: &mut Verdicts,
     x: u64,
-    chain: &mut Chain,
+    noted: &mut Vec<(Key, Hash, Sig)>,
     steps: &mut Steps<L>,
 ) -> Result<(), GenRefusal>
     requires few { length ledger.old.chain < 5000 }
-    ensures made { OnOk result ((start : ℕ) → IsOfMade start ledger.old verdicts.old x chain.old → (b : BlockValue) × IsMadeNext start (made_of chain.old) b (made_of chain.new)) }
-    ensures ledger { OnOk result ((start : ℕ) → IsOfMade start ledger.old verdicts.old x chain.old → ledger.new.chain ≡ (made_of chain.new).chain) }
-    ensures verdicts { OnOk result ((start : ℕ) → IsOfMade start ledger.old verdicts.old x chain.old → verdicts.new ≡ with_given [] chain.new.verdicts.items) }
-    ensures ended { IfErr result (λ refusal. (start : ℕ) → IsOfMade start ledger.old verdicts.old x chain.old → EndsWith start (made_of chain.old) refusal) }
+    ensures made { OnOk result ((start : ℕ) → IsOfMade start ledger.old verdicts.old x noted.old.items → (b : BlockValue) × IsMadeNext start (made_in ledger.old noted.old.items) b (made_in ledger.new noted.new.items)) }
+    ensures ledger { OnOk result (HasGrown ledger.old ledger.new) }
+    ensures verdicts { OnOk result ((start : ℕ) → IsOfMade start ledger.old verdicts.old x noted.old.items → verdicts.new ≡ with_given [] noted.new.items) }
+    ensures ended { IfErr result (λ refusal. (start : ℕ) → IsOfMade start ledger.old verdicts.old x noted.old.items → EndsWith start (made_in ledger.old noted.old.items) refusal) }
 {
     let Ok(drafted) = draft_next(alloc, ledger, x) else {
         return Err(GenRefusal::NoMemory);
@@ -46,21 +47,14 @@ pub(crate) fn make_next<T: PeopleAndMoney, L: StepBook>(
         verdicts: given,
     } = drafted;
     let sealed = seal_next(ledger, block)?;
-    let Ok(()) = note_all(verdicts, &mut chain.verdicts, given.as_slice()) else {
+    let Ok(()) = note_all(verdicts, noted, given.as_slice()) else {
         return Err(GenRefusal::NoMemory);
     };
     let own = (sealed.key, sealed.message, sealed.sig);
-    let Ok(()) = note(verdicts, &mut chain.verdicts, own) else {
+    let Ok(()) = note(verdicts, noted, own) else {
         return Err(GenRefusal::NoMemory);
     };
-    join(
-        alloc,
-        ledger,
-        verdicts,
-        sealed.block,
-        &mut chain.blocks,
-        steps,
-    )
+    join(alloc, ledger, verdicts, sealed.block, steps)
 }
 
 /// What the next block says before it gets its header.
@@ -198,20 +192,18 @@ fn note(
     noted.push((key, hash, sig)).map_err(|_| NoMemory)
 }
 
-/// The block, which has its inner hash, joins the ledger, and a copy of it the blocks, where it is not too long and breaks no rule.
+/// The block, which has its inner hash, joins the ledger, where it is not too long and breaks no rule.
 fn join<T: PeopleAndMoney, L: StepBook>(
     alloc: Global,
     ledger: &mut Ledger<T>,
     verdicts: &Verdicts,
     block: Block,
-    blocks: &mut Vec<Block>,
     steps: &mut Steps<L>,
 ) -> Result<(), GenRefusal>
     requires text { IsBlock block }
     requires inner { InnerHashIsRight block }
     ensures joined { OnOk result (Joins verdicts.now ledger.old.chain block) }
-    ensures ledger { OnOk result (ledger.new.chain ≡ block ∷ ledger.old.chain) }
-    ensures blocks { OnOk result (blocks.new.items ≡ blocks.old.items ++ block ∷ []) }
+    ensures ledger { OnOk result (ledger.new ≡ with_block block ledger.old) }
     ensures ended { IfErr result (IsRefused verdicts.now ledger.old.chain block) }
 {
     let number = ledger.len() as u64;
@@ -224,15 +216,9 @@ fn join<T: PeopleAndMoney, L: StepBook>(
             rule: Rule::X01,
         });
     }
-    let Ok(copy) = copy_block(alloc, &block) else {
-        return Err(GenRefusal::NoMemory);
-    };
     let inner = block.inner_hash;
     match ledger.submit_read(block, &inner, verdicts, steps) {
-        Ok(_) => match blocks.push(copy) {
-            Ok(()) => Ok(()),
-            Err(_) => Err(GenRefusal::NoMemory),
-        },
+        Ok(_) => Ok(()),
         Err(SubmitRefusal::Refused { rule, .. }) => Err(GenRefusal::Invalid {
             block: number,
             rule,

@@ -73,7 +73,7 @@ verdicts_front gs i old mid new p same =
 
 -- ---- blocks, from the last of the list on
 
-turned_push : (b : Block) (done : List Block) → map block_given (reverse (b ∷ done)) ≡ map block_given (reverse done) ++ block_given b ∷ []
+pub turned_push : (b : Block) (done : List Block) → map block_given (reverse (b ∷ done)) ≡ map block_given (reverse done) ++ block_given b ∷ []
 turned_push b done = ap (map block_given) (reverse-append (b ∷ []) done) ∙ map_push block_given (reverse done) b
 
 -- the blocks that were given, behind those that are left

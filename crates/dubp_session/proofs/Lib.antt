@@ -1,2 +1,3 @@
+mod Handed
 pub mod Givens
 pub mod Items

@@ -86,6 +86,12 @@ pub record GeneratedPart (n start : ℕ) (old new : Situation) : Type 0 where
   pub left : new.left ≡ old.left
   pub written : AppendsPart old.held new.held text
 
+-- a chain that was made was given to the node
+pub record IsGivenWhole (n start : ℕ) (old new : State) : Type 0 where
+  pub made : Made
+  pub is : IsMade start n made
+  pub given : IsGivenAll (commands_of made) old new
+
 -- of the chain that was made a front was given to the node
 pub record IsGivenSome (n start : ℕ) (old new : State) : Type 0 where
   pub made : Made

@@ -9,4 +9,4 @@ pub mod Stored
 pub mod Decisions
 pub mod LongAnswers
 pub mod Outside
-mod Valid
+pub mod Valid

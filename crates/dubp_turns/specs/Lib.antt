@@ -6,3 +6,4 @@ pub mod BranchActs
 pub mod Deciding
 pub mod OfForks
 pub mod Told
+pub mod TakenOver

@@ -1,8 +1,9 @@
-ghost use Rattle.std.specs.Prelude.{◌≡◌, length, ◌≤◌, ◌<◌, ℕ, List, [], ◌∷◌, None, Some, OnOk, OnErr, slice_get};
+ghost use Rattle.std.specs.Prelude.{◌≡◌, ◌↔◌, IsTrue, length, ◌≤◌, ◌<◌, ℕ, List, [], ◌∷◌, None, Some, OnOk, OnErr, slice_get};
 ghost use Rattle.std.specs.List.{list_any};
 ghost use Rattle.dubp_atoms.specs.Spelling.{IsNumber};
 ghost use Rattle.dubp_turns.specs.BranchActs.{BranchesActs};
 ghost use Rattle.dubp_turns.specs.Told.{told_text};
+ghost use Rattle.dubp_turns.specs.TakenOver.{HasNoBlock};
 ghost use Rattle.dubp_atoms.specs.Hashing.{hash_of};
 ghost use Rattle.dubp_block.specs.Text.{IsBlock, block_text, inner_text, stamp_of as block_stamp};
 ghost use Rattle.dubp_block.specs.declared.block.Block.{Block as BlockValue};
@@ -111,6 +112,13 @@ impl<T: PeopleAndMoney> Branches<T> {
     /// What is hashed by whatever strangers choose.
     pub fn secret(&self) -> Secret {
         self.store.secret()
+    }
+
+    /// Whether there is no block: none is in the chain, none can be reversed, and none is stored. It takes no memory.
+    pub fn is_empty(&self) -> bool
+        ensures { IsTrue result ↔ HasNoBlock self.now }
+    {
+        self.ledger.len() == 0 && self.ledger.kept() == 0 && self.store.held() == 0
     }
 
     /// How many blocks are stored: at most 1,024. It takes no memory.
@@ -301,6 +309,16 @@ impl<T: PeopleAndMoney> Branches<T> {
         let (key, hash, sig) = given;
         self.verdicts.add(key, hash, sig)?;
         Ok(())
+    }
+
+    /// Where there is no block, this ledger takes the place of that of the empty chain. It takes no memory.
+    pub fn take_over(&mut self, ledger: Ledger<T>)
+        requires empty { HasNoBlock self.old }
+        requires whole { ledger.out ≡ None }
+        requires valid { IsValid self.old.verdicts ledger.chain }
+        ensures { self.new ≡ record self.old { chain = ledger.chain; kept = ledger.kept } }
+    {
+        self.ledger = ledger;
     }
 
     /// Stores the block of these bytes, which are at most 1,048,576, and tells its stamp; or the first reason against it is named, and all is

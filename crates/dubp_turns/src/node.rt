@@ -1,14 +1,15 @@
-ghost use Rattle.std.specs.Prelude.{◌≡◌, length, ◌≤◌, ℕ, List, [], ◌∷◌, None, OnOk, OnErr, true};
+ghost use Rattle.std.specs.Prelude.{◌≡◌, ◌↔◌, IsTrue, length, ◌≤◌, ℕ, List, [], ◌∷◌, None, OnOk, OnErr, true};
 ghost use Rattle.dubp_atoms.specs.Spelling.{IsNumber};
 ghost use Rattle.dubp_turns.specs.Acting.{Acts, OfferActs, PendActs};
 ghost use Rattle.dubp_replay.specs.AnswerBytes.{answer_bytes};
 ghost use Rattle.dubp_turns.specs.Told.{told_text};
+ghost use Rattle.dubp_turns.specs.TakenOver.{HasNoBlock};
 ghost use Rattle.dubp_block.specs.Text.{IsBlock, block_text};
 ghost use Rattle.dubp_validity.specs.LocalRules.{InnerHashIsRight};
 ghost use Rattle.dubp_validity.specs.Rules.{IsValid, longest_block};
 ghost use Rattle.dubp_turns.specs.Given.{IsGivenAll, block_given, verdict_given};
 ghost use Rattle.dubp_replay.specs.OneLine.{IsShort, query_of};
-ghost use Rattle.dubp_replay.specs.Turns.{IsTimely, left_over, start};
+ghost use Rattle.dubp_replay.specs.Turns.{IsTimely, branches_of, left_over, start};
 ghost use Rattle.dubp_replay.specs.declared.command.Command.TheVariants.{Ask as AskCommand, Auto as AutoCommand, Block as BlockCommand, Failures as FailuresCommand, Forge as ForgeCommand, Forget as ForgetCommand, Offer as OfferCommand, Pend as PendCommand, Revert as RevertCommand, Statement as StatementCommand, Switch as SwitchCommand, Unpend as UnpendCommand, Verdict as VerdictCommand};
 
 use crate::branches::Branches;
@@ -164,6 +165,18 @@ impl<T: PeopleAndMoney> Node<T> {
         self.branches.ledger()
     }
 
+    /// Whether the node has no block: none is in its chain, none can be reversed, and none is stored. It takes no memory.
+    pub fn is_empty(&self) -> bool
+        ensures { IsTrue result ↔ HasNoBlock (branches_of self.now) }
+    {
+        self.branches.is_empty()
+    }
+
+    /// What the node hashes by whatever strangers choose.
+    pub fn secret(&self) -> Secret {
+        self.branches.secret()
+    }
+
     /// Does nothing. Its clauses say what holds at any time: each block of the chain breaks no rule on those before it, with the verdicts of
     /// the node; and the block at which each failure came is stored.
     pub fn laws(&self)
@@ -272,6 +285,17 @@ impl<T: PeopleAndMoney> Node<T> {
     {
         self.branches.give_verdict(given)?;
         Ok(())
+    }
+
+    /// Where the node has no block, it takes this ledger in the place of its own, whose blocks break no rule with the verdicts of the node. It
+    /// takes no memory.
+    pub fn take_over(&mut self, ledger: Ledger<T>)
+        requires empty { HasNoBlock (branches_of self.old) }
+        requires whole { ledger.out ≡ None }
+        requires valid { IsValid self.old.verdicts ledger.chain }
+        ensures { self.new ≡ record self.old { chain = ledger.chain; kept = ledger.kept } }
+    {
+        self.branches.take_over(ledger);
     }
 
     // The node chooses from now on, and at once; or no longer.
