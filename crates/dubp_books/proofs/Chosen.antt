@@ -1,4 +1,4 @@
--- Of the records of people, those that tell what ended are the last.
+-- Who is paid a dividend, by the head of a chain.
 use Rattle.std.proofs.Common.{◌≡◌, ◌∷◌, [], ◌++◌, ◌&&◌, not, ℕ, List, Option, Some, None, IfSome, filter, unwrap_or, refl, sym, ap}
 use Rattle.std.specs.Option.{option_map_or}
 use Rattle.dubp_atoms.specs.Same.{Text}
@@ -15,30 +15,7 @@ use Rattle.dubp_validity.specs.Records.{membership_time, identity_keys, is_revok
 use Rattle.dubp_people.specs.OfSteps.{people_records}
 use Rattle.dubp_money_rules.specs.OfMoney.{ArePaid}
 use Rattle.dubp_kept.specs.LeftBehind.{paid_by}
-use Rattle.dubp_books.specs.Kinds.{is_ended}
 use Rattle.dubp_books.specs.Paid.{paid_keys}
-use Rattle.dubp_books.proofs.Filtered.{HasNone, HasAll, none_of_map, none_of_flat_map, none_of_both, all_of_map, all_of_both, last_alone}
-
-none_of_lines : (c : Chain) (b : Block) → HasNone is_ended (line_records c b)
-none_of_lines c b =
-    none_of_both (none_of_map (λ line. Create line.key line.uid line.stamp) b.identities (λ line. refl))
-    (none_of_both (none_of_flat_map (λ line. Enter line.key ∷ Join line.key (membership_time c b line) ∷ []) b.joiners (λ line. record { is = refl }))
-    (none_of_both (none_of_map (λ line. Active line.key (membership_time c b line)) b.actives (λ line. refl))
-    (none_of_both (none_of_map (λ line. Leave line.key (membership_time c b line)) b.leavers (λ line. refl))
-    (none_of_both (none_of_map (λ line. Revoke line.key) b.revoked (λ line. refl))
-    (none_of_both (none_of_map Exit b.excluded (λ key. refl))
-    (none_of_map (λ line. Cert line.from line.to (unwrap_or (certification_made c b line) 0)) b.certifications (λ line. refl)))))))
-
-all_ended : (c : Chain) (b : Block) → HasAll is_ended (expiry_records c b ++ (revocation_records c b ++ ended_records c b))
-all_ended c b =
-    all_of_both (all_of_map Expire (filter (λ k. expired (b ∷ c) k && not (expired c k)) (identity_keys (b ∷ c))) (λ key. refl))
-    (all_of_both (all_of_map ExpireRev (filter (is_revoked_by_time c b) (identity_keys (b ∷ c))) (λ key. refl))
-    (all_of_map (λ p. CertExpire p.0 p.1) (filter (λ p. live c p.0 p.1 && not (live (b ∷ c) p.0 p.1)) (pairs_in_order (certified_pairs c))) (λ p. refl)))
-
-pub ended_of_people : (c : Chain) (b : Block) → filter is_ended (people_records c b) ≡ expiry_records c b ++ (revocation_records c b ++ ended_records c b)
-ended_of_people c b = last_alone (none_of_lines c b) (all_ended c b)
-
--- who is paid by the head of a chain
 
 paid_where : (ud : Option ℕ) (keys paid : List Text) → keys ≡ option_map_or (λ amount. paid) ud [] → IfSome ud (λ amount. keys ≡ paid)
 paid_where None keys paid e = tt

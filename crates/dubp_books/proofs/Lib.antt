@@ -1,5 +1,4 @@
 pub mod Asked
 pub mod Chosen
-pub mod Filtered
 pub mod Records
 pub mod Sides

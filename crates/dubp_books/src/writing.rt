@@ -11,7 +11,7 @@ use dubp_chain::Head;
 use dubp_docs::TxHashes;
 use dubp_kept::{LeftBehind, Written};
 use dubp_moving::Tables;
-use dubp_people::{People, apply};
+use dubp_people::{People, write_block};
 use dubp_people_views::member_keys;
 use std::alloc::Global;
 use std::sync::ledger::Ledger as StepBook;
@@ -25,15 +25,14 @@ impl<R> Written for Books<R> {
         hashes: &[TxHashes],
         steps: &mut Steps<L>,
     ) -> Result<LeftBehind, NoMemory> {
-        let mut of_people = Vec::new(alloc);
         let names = names_of(alloc, hashes)?;
         let tables = &mut self.tables;
-        apply(alloc, &mut tables.first, block, head, &mut of_people, steps)?;
+        let ended = write_block(alloc, &mut tables.first, block, head, steps)?;
         let members = paid_members(alloc, &tables.first, head)?;
         let cleared = tables
             .second
             .write(alloc, block, head, members.as_slice(), hashes, steps)?;
-        Ok(left_of(of_people, members, cleared, names))
+        Ok(left_of(ended, members, cleared, names))
     }
 }
 

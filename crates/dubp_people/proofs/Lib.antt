@@ -1,2 +1,3 @@
 pub mod Last
+pub mod Lines
 pub mod Rows

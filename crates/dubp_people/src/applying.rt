@@ -1,5 +1,6 @@
-ghost use Rattle.std.specs.Prelude.{◌≡◌, ℕ, ◌+◌, ◌*◌, ◌≤◌, ◌∷◌, ◌++◌, List, length, OnOk, OnErr};
+ghost use Rattle.std.specs.Prelude.{◌≡◌, ℕ, ◌+◌, ◌*◌, ◌≤◌, ◌∷◌, ◌++◌, List, length, IfOk, OnOk, OnErr};
 ghost use Rattle.dubp_chain.specs.Chains.{Chain};
+ghost use Rattle.dubp_people_apply.specs.Ends.{end_records};
 ghost use Rattle.dubp_people_apply.specs.OfSteps.{people_records};
 ghost use Rattle.dubp_people.specs.Applied.{IsApplied};
 
@@ -8,6 +9,7 @@ use crate::writing::{write_lines, write_others};
 use dubp_atoms::{NoMemory, Steps};
 use dubp_block::Block;
 use dubp_chain::Head;
+use dubp_people_apply::put_line_records;
 use dubp_registry::{Registry, next_of};
 use dubp_undo::Tables;
 use dubp_validity::Record;
@@ -33,9 +35,35 @@ pub fn apply<L: StepBook>(
     ensures steps { OnOk result ((c : Chain) → IsApplied c block.now head.now → ⟦<Registry as Tables<Block>>⟧.at people.old c → steps.new ≤ steps.old + (8 * length (people_records c block.now) + 8)) }
     ensures refused { OnErr result (out.new.items ≡ out.old.items) }
 {
+    let mut records = Vec::new(alloc);
+    put_line_records(people.facts(), block, &mut records)?;
+    let mut ended = write_block(alloc, people, block, head, steps)?;
+    append(&mut ended, &mut records)?;
+    append(&mut records, out)?;
+    Ok(())
+}
+
+/// Writes the block, whose head this is, behind the chain, and hands out the records of its ends, which no line tells: `apply` without the
+/// records of the lines. Where nothing ends they take no memory.
+///
+/// It adds as many steps as `apply`, and what is kept stays so. `NoMemory` where there is no room: what was written until then stands in the
+/// tables until they go back to what is kept.
+pub fn write_block<L: StepBook>(
+    alloc: Global,
+    people: &mut Registry,
+    block: &Block,
+    head: &Head,
+    steps: &mut Steps<L>,
+) -> Result<Vec<Record>, NoMemory>
+    ensures at { OnOk result ((c : Chain) → IsApplied c block.now head.now → ⟦<Registry as Tables<Block>>⟧.at people.old c → ⟦<Registry as Tables<Block>>⟧.at people.new (block.now ∷ c)) }
+    ensures records { IfOk result (λ ended. (c : Chain) → IsApplied c block.now head.now → ⟦<Registry as Tables<Block>>⟧.at people.old c → ended.items ≡ end_records c block.now) }
+    ensures others { ⟦<Registry as Tables<Block>>⟧.others people.new ≡ ⟦<Registry as Tables<Block>>⟧.others people.old }
+    ensures count { ⟦<Registry as Tables<Block>>⟧.count people.new + steps.old ≤ ⟦<Registry as Tables<Block>>⟧.count people.old + steps.new }
+    ensures steps { OnOk result ((c : Chain) → IsApplied c block.now head.now → ⟦<Registry as Tables<Block>>⟧.at people.old c → steps.new ≤ steps.old + (8 * length (people_records c block.now) + 8)) }
+{
     let next = next_of(people.facts(), block, head);
     let since = time_before(people, block);
-    let mut records = Vec::new(alloc);
+    let mut ended = Vec::new(alloc);
     let tables = &mut people.tables;
     write_lines(
         alloc,
@@ -44,7 +72,7 @@ pub fn apply<L: StepBook>(
         since,
         block,
         &next,
-        &mut records,
+        &mut ended,
         steps,
     )?;
     write_others(
@@ -53,11 +81,10 @@ pub fn apply<L: StepBook>(
         block,
         head,
         &next,
-        records.as_slice(),
+        ended.as_slice(),
         steps,
     )?;
-    append(&mut records, out)?;
-    Ok(())
+    Ok(ended)
 }
 
 /// Moves the records behind those that are there.

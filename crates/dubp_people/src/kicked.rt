@@ -1,4 +1,4 @@
-ghost use Rattle.std.specs.Prelude.{◌≡◌, ◌+◌, ◌≤◌, ◌∷◌, ◌++◌, ℕ, List, false, Some, None, is_some, nat_le, length, if◌then◌else◌, OnOk, OnErr};
+ghost use Rattle.std.specs.Prelude.{◌≡◌, ◌+◌, ◌≤◌, ◌∷◌, ℕ, Some, None, false, is_some, nat_le, length, if◌then◌else◌, fold, OnOk};
 ghost use Rattle.std.specs.Option.{option_map_or};
 ghost use Rattle.std.specs.Cmp.Lexicographic.{slice_cmp};
 ghost use Rattle.std.specs.Ordering.{nat_cmp};
@@ -6,59 +6,32 @@ ghost use Rattle.dubp_atoms.specs.Same.{Text, same_text};
 ghost use Rattle.dubp_undo.specs.Definition.{IsAt};
 ghost use Rattle.dubp_undo.specs.MovingTable.{get};
 ghost use Rattle.dubp_undo.specs.States.{states};
-ghost use Rattle.dubp_chain.specs.Chains.{Chain, params};
-ghost use Rattle.dubp_chain.specs.Heads.{time_of};
-ghost use Rattle.dubp_chain.specs.Live.{received};
-ghost use Rattle.dubp_chain.specs.Tables.{identity_row, membership_row};
-ghost use Rattle.dubp_people_apply.specs.OfSteps.{touches, people_records};
-ghost use Rattle.dubp_people_apply.specs.OfSteps.{kicked_by};
-ghost use Rattle.dubp_people.specs.Exclusion.{is_member_row, has_lapsed, is_kicked};
-ghost use Rattle.dubp_registry.specs.OfLeft.{identities_left, memberships_left, certifications_left, kicked_at};
+ghost use Rattle.dubp_chain.specs.Chains.{Chain};
+ghost use Rattle.dubp_people_apply.specs.Counting.{touching_lines};
+ghost use Rattle.dubp_people_apply.specs.Ends.{end_records};
+ghost use Rattle.dubp_people.specs.Exclusion.{is_member_row, has_lapsed, is_kicked, kicked_with, noted_anew};
+ghost use Rattle.dubp_registry.specs.OfLeft.{kicked_at};
 ghost use Rattle.dubp_registry.specs.OfLeft.{IsWritten};
-ghost use Rattle.dubp_block.specs.declared.block.Block.{Block as BlockValue};
 
+use crate::touching::Touching;
 use dubp_atoms::{Key, NoMemory, Steps};
 use dubp_block::Block;
-use dubp_cindex::{CIndex, CertRows};
-use dubp_iindex::{IIndex, IdentityRow, IdentityRows};
-use dubp_mindex::{MIndex, MemberRow, MemberRows};
-use dubp_registry::{KickedOf, Next};
+use dubp_iindex::IdentityRow;
+use dubp_mindex::MemberRow;
+use dubp_registry::{Indexes, KickedOf, Next};
 use dubp_undo::{Leaf, Tables};
 use dubp_validity::Record;
 use std::sync::ledger::Ledger as StepBook;
 
 pub(crate) type KickedTable = Leaf<Block, Key, (), KickedOf>;
 
-/// The key for which the record may change whether it has to be excluded.
-fn touched(entry: &Record) -> Option<Key>
-    ensures { (k : Text) → touches k entry.now ≡ option_map_or (same_text k) result false }
-{
-    match entry {
-        Record::Enter { key } => Some(*key),
-        Record::Exit { key } => Some(*key),
-        Record::Active { key, .. } => Some(*key),
-        Record::Revoke { key } => Some(*key),
-        Record::Expire { key } => Some(*key),
-        Record::ExpireRev { key } => Some(*key),
-        Record::Cert { to, .. } => Some(*to),
-        Record::CertExpire { to, .. } => Some(*to),
-        _ => None,
-    }
-}
-
 /// Whether the key has to be excluded by what stands in the indexes at this time.
-fn has_to_be_excluded(
-    identities: &IIndex,
-    memberships: &MIndex,
-    certifications: &CIndex,
-    next: &Next,
-    key: Key,
-) -> bool
-    ensures { (c : Chain) → ⟦<IIndex as Tables<IdentityRows>>⟧.at identities.now (states identities_left c) → ⟦<MIndex as Tables<MemberRows>>⟧.at memberships.now (states memberships_left c) → ⟦<CIndex as Tables<CertRows>>⟧.at certifications.now (states certifications_left c) → result ≡ kicked_by next.now.params next.now.time (received c key) (identity_row c key) (membership_row c key) }
+fn has_to_be_excluded(indexes: &Indexes, next: &Next, key: Key) -> bool
+    ensures { (c : Chain) → ⟦<Indexes as Tables<Block>>⟧.at indexes.now c → result ≡ kicked_with next.now c key }
 {
-    let identity = identities.row(key);
-    let membership = memberships.row(key);
-    let received = certifications.received(key);
+    let identity = indexes.tables.first.tables.row(key);
+    let membership = indexes.tables.second.tables.row(key);
+    let received = indexes.tables.third.tables.received(key);
     is_kicked(&identity, &membership, received, next)
 }
 
@@ -129,24 +102,22 @@ fn noted(is: bool) -> Option<()>
     if is { Some(()) } else { None }
 }
 
-/// Notes it anew of the key for which the record may have changed it.
-fn renew<L: StepBook>(
+/// Notes it anew of the key that the line or the record names, where it names one.
+fn renew<L: StepBook, T: Touching>(
     kicked: &mut KickedTable,
-    identities: &IIndex,
-    memberships: &MIndex,
-    certifications: &CIndex,
+    indexes: &Indexes,
     next: &Next,
-    entry: &Record,
+    entry: &T,
     steps: &mut Steps<L>,
 ) -> Result<(), NoMemory>
-    ensures now { OnOk result ((c : Chain) → ⟦<IIndex as Tables<IdentityRows>>⟧.at identities.now (states identities_left c) → ⟦<MIndex as Tables<MemberRows>>⟧.at memberships.now (states memberships_left c) → ⟦<CIndex as Tables<CertRows>>⟧.at certifications.now (states certifications_left c) → (k : Text) → is_some (get (slice_cmp nat_cmp) kicked.new.table.now k) ≡ (if touches k entry.now then kicked_by next.now.params next.now.time (received c k) (identity_row c k) (membership_row c k) else is_some (get (slice_cmp nat_cmp) kicked.old.table.now k))) }
+    ensures now { OnOk result ((c : Chain) → ⟦<Indexes as Tables<Block>>⟧.at indexes.now c → (k : Text) → is_some (get (slice_cmp nat_cmp) kicked.new.table.now k) ≡ noted_anew (kicked_with next.now c k) (T.touches k) (is_some (get (slice_cmp nat_cmp) kicked.old.table.now k)) entry.now) }
     ensures others { ⟦<KickedTable as Tables<Block>>⟧.others kicked.new ≡ ⟦<KickedTable as Tables<Block>>⟧.others kicked.old }
     ensures count { ⟦<KickedTable as Tables<Block>>⟧.count kicked.new + steps.old ≤ ⟦<KickedTable as Tables<Block>>⟧.count kicked.old + steps.new }
     ensures steps { OnOk result (steps.new ≤ steps.old + 1) }
 {
-    match touched(entry) {
+    match entry.touched() {
         Some(key) => {
-            let is = has_to_be_excluded(identities, memberships, certifications, next, key);
+            let is = has_to_be_excluded(indexes, next, key);
             note(kicked, key, is, steps)?;
             Ok(())
         }
@@ -154,33 +125,47 @@ fn renew<L: StepBook>(
     }
 }
 
-/// Notes of each key that a record may have changed whether it has to be excluded: at most one step for each record.
-///
-/// The indexes are those of the chain with the block, and the records those that it made of people.
-pub(crate) fn write_kicked<L: StepBook>(
+/// The same of each of these lines or records: at most one step for each.
+fn renew_all<L: StepBook, T: Touching>(
     kicked: &mut KickedTable,
-    identities: &IIndex,
-    memberships: &MIndex,
-    certifications: &CIndex,
+    indexes: &Indexes,
     next: &Next,
-    records: &[Record],
+    entries: &[T],
     steps: &mut Steps<L>,
 ) -> Result<(), NoMemory>
-    ensures at { OnOk result ((c : Chain) (b : BlockValue) → IsWritten c b next.now → records.now ≡ people_records c b → ⟦<IIndex as Tables<IdentityRows>>⟧.at identities.now (states identities_left (b ∷ c)) → ⟦<MIndex as Tables<MemberRows>>⟧.at memberships.now (states memberships_left (b ∷ c)) → ⟦<CIndex as Tables<CertRows>>⟧.at certifications.now (states certifications_left (b ∷ c)) → IsAt (slice_cmp nat_cmp) kicked_at kicked.old.table.now c → IsAt (slice_cmp nat_cmp) kicked_at kicked.new.table.now (b ∷ c)) }
+    ensures now { OnOk result ((c : Chain) → ⟦<Indexes as Tables<Block>>⟧.at indexes.now c → (k : Text) → is_some (get (slice_cmp nat_cmp) kicked.new.table.now k) ≡ fold (noted_anew (kicked_with next.now c k) (T.touches k)) (is_some (get (slice_cmp nat_cmp) kicked.old.table.now k)) entries.now) }
     ensures others { ⟦<KickedTable as Tables<Block>>⟧.others kicked.new ≡ ⟦<KickedTable as Tables<Block>>⟧.others kicked.old }
     ensures count { ⟦<KickedTable as Tables<Block>>⟧.count kicked.new + steps.old ≤ ⟦<KickedTable as Tables<Block>>⟧.count kicked.old + steps.new }
-    ensures steps { OnOk result (steps.new ≤ steps.old + length records.now) }
+    ensures steps { OnOk result (steps.new ≤ steps.old + length entries.now) }
 {
-    for record in records {
-        renew(
-            kicked,
-            identities,
-            memberships,
-            certifications,
-            next,
-            record,
-            steps,
-        )?;
+    for entry in entries {
+        renew(kicked, indexes, next, entry, steps)?;
     }
+    Ok(())
+}
+
+/// Notes of each key that a line or an end may have changed whether it has to be excluded: at most one step for each of them.
+///
+/// The indexes are those of the chain with the block, and `ended` has the records of its ends.
+pub(crate) fn write_kicked<L: StepBook>(
+    kicked: &mut KickedTable,
+    indexes: &Indexes,
+    next: &Next,
+    block: &Block,
+    ended: &[Record],
+    steps: &mut Steps<L>,
+) -> Result<(), NoMemory>
+    ensures at { OnOk result ((c : Chain) → IsWritten c block.now next.now → ended.now ≡ end_records c block.now → ⟦<Indexes as Tables<Block>>⟧.at indexes.now (block.now ∷ c) → IsAt (slice_cmp nat_cmp) kicked_at kicked.old.table.now c → IsAt (slice_cmp nat_cmp) kicked_at kicked.new.table.now (block.now ∷ c)) }
+    ensures others { ⟦<KickedTable as Tables<Block>>⟧.others kicked.new ≡ ⟦<KickedTable as Tables<Block>>⟧.others kicked.old }
+    ensures count { ⟦<KickedTable as Tables<Block>>⟧.count kicked.new + steps.old ≤ ⟦<KickedTable as Tables<Block>>⟧.count kicked.old + steps.new }
+    ensures steps { OnOk result (steps.new ≤ steps.old + (touching_lines block.now + length ended.now)) }
+{
+    renew_all(kicked, indexes, next, block.joiners.as_slice(), steps)?;
+    renew_all(kicked, indexes, next, block.actives.as_slice(), steps)?;
+    renew_all(kicked, indexes, next, block.revoked.as_slice(), steps)?;
+    renew_all(kicked, indexes, next, block.excluded.as_slice(), steps)?;
+    let certifications = block.certifications.as_slice();
+    renew_all(kicked, indexes, next, certifications, steps)?;
+    renew_all(kicked, indexes, next, ended, steps)?;
     Ok(())
 }

@@ -3,12 +3,12 @@ ghost use Rattle.std.specs.Cmp.Lexicographic.{slice_cmp};
 ghost use Rattle.std.specs.Ordering.{nat_cmp};
 ghost use Rattle.dubp_undo.specs.States.{states};
 ghost use Rattle.dubp_chain.specs.Chains.{Chain};
-ghost use Rattle.dubp_people_apply.specs.OfSteps.{people_records};
 ghost use Rattle.dubp_registry.specs.OfLeft.{queue_left};
 ghost use Rattle.dubp_registry.specs.OfLeft.{IsWritten};
 ghost use Rattle.dubp_registry.specs.OfFacts.{IsNext};
 ghost use Rattle.dubp_people_apply.specs.Writing.{most_sets};
-ghost use Rattle.dubp_people_apply.specs.Counting.{membership_sets, certification_sets, queue_sets};
+ghost use Rattle.dubp_people_apply.specs.Counting.{membership_sets, certification_sets, queue_sets, touching_lines};
+ghost use Rattle.dubp_people_apply.specs.Ends.{end_records};
 ghost use Rattle.dubp_people_apply.specs.Taking.{IsSince};
 
 use crate::kicked::{KickedTable, write_kicked};
@@ -23,7 +23,7 @@ use dubp_validity::Record;
 use std::alloc::Global;
 use std::sync::ledger::Ledger as StepBook;
 
-/// Writes the block into the three indexes and the queue, and appends its records of people.
+/// Writes the block into the three indexes and the queue, and appends the records of its ends.
 ///
 /// `facts` are those of the chain below the block, and `since` is its time in seconds, where it has a block. What is kept stays so.
 fn write_indexes<L: StepBook>(
@@ -39,7 +39,7 @@ fn write_indexes<L: StepBook>(
 ) -> Result<(), NoMemory>
     ensures indexes { OnOk result ((c : Chain) → ⟦<Facts as Tables<Block>>⟧.at facts.now c → IsWritten c block.now next.now → IsSince c since → ⟦<Indexes as Tables<Block>>⟧.at indexes.old c → ⟦<Queue as Tables<Entries>>⟧.at queue.old (states queue_left c) → ⟦<Indexes as Tables<Block>>⟧.at indexes.new (block.now ∷ c)) }
     ensures queue { OnOk result ((c : Chain) → ⟦<Facts as Tables<Block>>⟧.at facts.now c → IsWritten c block.now next.now → IsSince c since → ⟦<Indexes as Tables<Block>>⟧.at indexes.old c → ⟦<Queue as Tables<Entries>>⟧.at queue.old (states queue_left c) → ⟦<Queue as Tables<Entries>>⟧.at queue.new (states queue_left (block.now ∷ c))) }
-    ensures records { OnOk result ((c : Chain) → ⟦<Facts as Tables<Block>>⟧.at facts.now c → IsWritten c block.now next.now → IsSince c since → ⟦<Indexes as Tables<Block>>⟧.at indexes.old c → ⟦<Queue as Tables<Entries>>⟧.at queue.old (states queue_left c) → out.new.items ≡ out.old.items ++ people_records c block.now) }
+    ensures records { OnOk result ((c : Chain) → ⟦<Facts as Tables<Block>>⟧.at facts.now c → IsWritten c block.now next.now → IsSince c since → ⟦<Indexes as Tables<Block>>⟧.at indexes.old c → ⟦<Queue as Tables<Entries>>⟧.at queue.old (states queue_left c) → out.new.items ≡ out.old.items ++ end_records c block.now) }
     ensures indexes_others { ⟦<Indexes as Tables<Block>>⟧.others indexes.new ≡ ⟦<Indexes as Tables<Block>>⟧.others indexes.old }
     ensures queue_others { ⟦<Queue as Tables<Entries>>⟧.others queue.new ≡ ⟦<Queue as Tables<Entries>>⟧.others queue.old }
     ensures count { ⟦<Indexes as Tables<Block>>⟧.count indexes.new + ⟦<Queue as Tables<Entries>>⟧.count queue.new + steps.old ≤ ⟦<Indexes as Tables<Block>>⟧.count indexes.old + ⟦<Queue as Tables<Entries>>⟧.count queue.old + steps.new }
@@ -63,28 +63,27 @@ fn write_indexes<L: StepBook>(
 
 /// Notes who has to be excluded, and writes the block into the facts.
 ///
-/// The indexes and the queue are those of the chain with the block already, and the records those that it made of people.
+/// The indexes and the queue are those of the chain with the block already, and `ended` has the records of its ends.
 pub(crate) fn write_others<L: StepBook>(
     others: &mut Others,
     indexes: &Indexes,
     block: &Block,
     head: &Head,
     next: &Next,
-    records: &[Record],
+    ended: &[Record],
     steps: &mut Steps<L>,
 ) -> Result<(), NoMemory>
-    ensures at { OnOk result ((c : Chain) → IsWritten c block.now next.now → IsNext c block.now head.now → records.now ≡ people_records c block.now → ⟦<Indexes as Tables<Block>>⟧.at indexes.now (block.now ∷ c) → ⟦<Queue as Tables<Entries>>⟧.at others.old.tables.first.tables (states queue_left (block.now ∷ c)) → ⟦<KickedTable as Tables<Block>>⟧.at others.old.tables.second c → ⟦<Facts as Tables<Block>>⟧.at others.old.tables.third c → ⟦<Others as Tables<Block>>⟧.at others.new (block.now ∷ c)) }
+    ensures at { OnOk result ((c : Chain) → IsWritten c block.now next.now → IsNext c block.now head.now → ended.now ≡ end_records c block.now → ⟦<Indexes as Tables<Block>>⟧.at indexes.now (block.now ∷ c) → ⟦<Queue as Tables<Entries>>⟧.at others.old.tables.first.tables (states queue_left (block.now ∷ c)) → ⟦<KickedTable as Tables<Block>>⟧.at others.old.tables.second c → ⟦<Facts as Tables<Block>>⟧.at others.old.tables.third c → ⟦<Others as Tables<Block>>⟧.at others.new (block.now ∷ c)) }
     ensures others { ⟦<Others as Tables<Block>>⟧.others others.new ≡ ⟦<Others as Tables<Block>>⟧.others others.old }
     ensures count { ⟦<Others as Tables<Block>>⟧.count others.new + steps.old ≤ ⟦<Others as Tables<Block>>⟧.count others.old + steps.new }
-    ensures steps { OnOk result (steps.new ≤ steps.old + (length records.now + 2)) }
+    ensures steps { OnOk result (steps.new ≤ steps.old + (touching_lines block.now + length ended.now + 2)) }
 {
     write_kicked(
         &mut others.tables.second,
-        &indexes.tables.first.tables,
-        &indexes.tables.second.tables,
-        &indexes.tables.third.tables,
+        indexes,
         next,
-        records,
+        block,
+        ended,
         steps,
     )?;
     write_facts(&mut others.tables.third, block, head, steps)?;
@@ -121,7 +120,7 @@ pub(crate) fn write_lines<L: StepBook>(
     ensures indexes { OnOk result ((c : Chain) → IsWritten c block.now next.now → IsSince c since → ⟦<Indexes as Tables<Block>>⟧.at indexes.old c → ⟦<Others as Tables<Block>>⟧.at others.old c → ⟦<Indexes as Tables<Block>>⟧.at indexes.new (block.now ∷ c)) }
     ensures queue { OnOk result ((c : Chain) → IsWritten c block.now next.now → IsSince c since → ⟦<Indexes as Tables<Block>>⟧.at indexes.old c → ⟦<Others as Tables<Block>>⟧.at others.old c → ⟦<Queue as Tables<Entries>>⟧.at others.new.tables.first.tables (states queue_left (block.now ∷ c))) }
     ensures beside { (others.new.tables.second ≡ others.old.tables.second) × (others.new.tables.third ≡ others.old.tables.third) }
-    ensures records { OnOk result ((c : Chain) → IsWritten c block.now next.now → IsSince c since → ⟦<Indexes as Tables<Block>>⟧.at indexes.old c → ⟦<Others as Tables<Block>>⟧.at others.old c → out.new.items ≡ out.old.items ++ people_records c block.now) }
+    ensures records { OnOk result ((c : Chain) → IsWritten c block.now next.now → IsSince c since → ⟦<Indexes as Tables<Block>>⟧.at indexes.old c → ⟦<Others as Tables<Block>>⟧.at others.old c → out.new.items ≡ out.old.items ++ end_records c block.now) }
     ensures others { ⟦<Indexes as Tables<Block>>⟧.others indexes.new ≡ ⟦<Indexes as Tables<Block>>⟧.others indexes.old }
     ensures others_others { ⟦<Others as Tables<Block>>⟧.others others.new ≡ ⟦<Others as Tables<Block>>⟧.others others.old }
     ensures count { ⟦<Indexes as Tables<Block>>⟧.count indexes.new + ⟦<Others as Tables<Block>>⟧.count others.new + steps.old ≤ ⟦<Indexes as Tables<Block>>⟧.count indexes.old + ⟦<Others as Tables<Block>>⟧.count others.old + steps.new }

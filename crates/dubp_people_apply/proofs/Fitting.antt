@@ -10,7 +10,8 @@ use Rattle.dubp_validity.specs.declared.record.Record.{Record}
 use Rattle.dubp_validity.specs.declared.record.Record.TheVariants.{Create, Enter, Exit, Join, Active, Leave, Revoke, Cert}
 use Rattle.dubp_validity.specs.Records.{membership_time, line_records, expiry_records, revocation_records, ended_records}
 use Rattle.dubp_steps.specs.Steps.{people_records}
-use Rattle.dubp_people_apply.specs.Counting.{SetsFit}
+use Rattle.dubp_people_apply.specs.Counting.{SetsFit, touching_lines}
+use Rattle.dubp_people_apply.specs.Ends.{end_records}
 
 length-twice : {X Y : Type 0} (f : X → List Y) → ((x : X) → length (f x) ≡ 2) → (xs : List X) → length (flat_map f xs) ≡ 2 * length xs
 length-twice f two [] = refl
@@ -54,3 +55,10 @@ pub sets_fit : SetsFit
 sets_fit c b kicked few =
     numbers_fit (length b.identities) (length b.joiners) (length b.actives) (length b.leavers) (length b.revoked) (length b.excluded) (length b.certifications) (length (expiry_records c b)) (length (revocation_records c b))
     (length (ended_records c b)) kicked (length (people_records c b)) (length-people c b ∙ ap (λ n. n + (length (expiry_records c b) + (length (revocation_records c b) + length (ended_records c b)))) (length-lines c b)) few
+
+-- the lines that may change who has to be excluded, and the ends, are no more than the records
+pub touching_fits : (c : Chain) (b : Block) → touching_lines b + length (end_records c b) ≤ length (people_records c b)
+touching_fits c b =
+    let all = length-append (line_records c b) (end_records c b) in
+    let lines = length-lines c b in
+    omega (arith, all, lines)

@@ -23,6 +23,10 @@ queue_sets c b =
     4 * (length b.joiners + length b.actives) + length b.revoked + 2 * length b.certifications
     + (length (expiry_records c b) + (length (revocation_records c b) + length (ended_records c b)))
 
+-- a line of Joiners, Actives, Revoked or Excluded names a key that may have to be excluded with it or have to be no more, and so does a certification
+abbrev pub touching_lines : Block → ℕ
+touching_lines b = length b.joiners + length b.actives + length b.revoked + length b.excluded + length b.certifications
+
 -- With at most four keys of the identities for each line of Identities, Joiners and Excluded, at most one key of the table of who is to be
 -- excluded for each record, and two of the facts, a block sets at most eight keys for each record on people, and eight.
 abbrev pub SetsFit : Type 0

@@ -2,5 +2,6 @@ pub mod Held
 pub mod Lines
 pub mod Taking
 pub mod Counting
+pub mod Ends
 pub mod OfSteps
 pub mod Writing

@@ -1,16 +1,15 @@
 ghost use Rattle.std.specs.Prelude.{◌≡◌, ◌∷◌, ◌++◌, take, length, OnOk, ◌+◌, ◌≤◌};
 ghost use Rattle.dubp_chain.specs.Chains.{Chain};
-ghost use Rattle.dubp_validity.specs.Records.{line_records, expiry_records, revocation_records, ended_records};
 ghost use Rattle.dubp_left.specs.Next.{IsWritten};
 ghost use Rattle.dubp_steps.specs.Taken.{is_over_at_once, is_revoked_at_once, is_ended_at_once};
 ghost use Rattle.dubp_people_apply.specs.Counting.{IsWithin, membership_sets, certification_sets, queue_sets};
+ghost use Rattle.dubp_people_apply.specs.Ends.{end_records};
 ghost use Rattle.dubp_people_apply.specs.Taking.{IsSince, AreNoted, HasAllTaken, AreLeftBy};
 
 use crate::at_once::at_once;
 use crate::certifications::write_certifications;
 use crate::ended::{Ended, put_ended};
 use crate::memberships::write_memberships;
-use crate::records::put_line_records;
 use crate::taking::take_due;
 use dubp_atoms::{NoMemory, Steps};
 use dubp_block::Block;
@@ -61,7 +60,8 @@ fn write_tables<L: StepBook>(
     )
 }
 
-/// Writes the block into the memberships, the certifications and the queue, and appends the records of its lines and of all ends.
+/// Writes the block into the memberships, the certifications and the queue, and appends the records of all ends, which take no memory where
+/// nothing ends.
 ///
 /// `facts` are those of the chain below the block, and `since` is its time in seconds, where it has a block. What is kept stays so.
 /// `NoMemory` where there is no room; what was written until then stands in the tables, and some records may have been appended, behind those that were there.
@@ -82,7 +82,7 @@ pub fn write_ends<L: StepBook>(
         → AreLeftBy c (⟦<MIndex as Tables<MemberRows>>⟧.at memberships.old) (⟦<CIndex as Tables<CertRows>>⟧.at certifications.old) (⟦<Queue as Tables<Entries>>⟧.at queue.old)
         → AreLeftBy (block.now ∷ c) (⟦<MIndex as Tables<MemberRows>>⟧.at memberships.new) (⟦<CIndex as Tables<CertRows>>⟧.at certifications.new) (⟦<Queue as Tables<Entries>>⟧.at queue.new)) }
     ensures records { OnOk result ((c : Chain) → ⟦<Facts as Tables<Block>>⟧.at facts.now c → IsWritten c block.now next.now → IsSince c since
-        → AreLeftBy c (⟦<MIndex as Tables<MemberRows>>⟧.at memberships.old) (⟦<CIndex as Tables<CertRows>>⟧.at certifications.old) (⟦<Queue as Tables<Entries>>⟧.at queue.old) → out.new.items ≡ out.old.items ++ (line_records c block.now ++ (expiry_records c block.now ++ (revocation_records c block.now ++ ended_records c block.now)))) }
+        → AreLeftBy c (⟦<MIndex as Tables<MemberRows>>⟧.at memberships.old) (⟦<CIndex as Tables<CertRows>>⟧.at certifications.old) (⟦<Queue as Tables<Entries>>⟧.at queue.old) → out.new.items ≡ out.old.items ++ end_records c block.now) }
     ensures begins { take (length out.old.items) out.new.items ≡ out.old.items }
     ensures memberships_others { ⟦<MIndex as Tables<MemberRows>>⟧.others memberships.new ≡ ⟦<MIndex as Tables<MemberRows>>⟧.others memberships.old }
     ensures certifications_others { ⟦<CIndex as Tables<CertRows>>⟧.others certifications.new ≡ ⟦<CIndex as Tables<CertRows>>⟧.others certifications.old }
@@ -111,6 +111,5 @@ pub fn write_ends<L: StepBook>(
         &mut ended,
         steps,
     )?;
-    put_line_records(facts, block, out)?;
     put_ended(&mut ended, out)
 }

@@ -11,12 +11,12 @@ use Rattle.dubp_people.proofs.Rows.{kicked_told}
 use Rattle.dubp_people.proofs.kicked.has_to_be_excluded.Goals as goal
 
 pub returns : goal.returns
-returns c = λ chain at at' at''.
+returns c = λ chain at.
     let next = c.args.next.now in
-    let identity = c.row-identity.ensures (states identities_left chain) at ∙ identity-look chain c.args.key in
-    let membership = c.row-membership.ensures (states memberships_left chain) at' ∙ membership-look chain c.args.key in
+    let identity = c.row-identity.ensures (states identities_left chain) at.0 ∙ identity-look chain c.args.key in
+    let membership = c.row-membership.ensures (states memberships_left chain) at.1 ∙ membership-look chain c.args.key in
     let count =
-    c.received-received.ensures (states certifications_left chain) at''
+    c.received-received.ensures (states certifications_left chain) at.2
     ∙ ap (λ rows. received_in rows c.args.key) (newest-left empty certifications_left refl chain)
     ∙ received-counted chain c.args.key
     in

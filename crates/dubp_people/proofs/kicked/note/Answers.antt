@@ -1,4 +1,4 @@
-use Rattle.std.proofs.Common.{Bool, true, false, cond, Option, refl, ap, sym, ◌∙◌, ◌≡◌}
+use Rattle.std.proofs.Common.{Bool, true, false, cond, Option, ap, sym, ◌∙◌, ◌≡◌}
 use Rattle.std.specs.Prelude.{is_some, if◌then◌else◌}
 use Rattle.std.specs.Cmp.Lexicographic.{slice_cmp, texts_ties}
 use Rattle.std.specs.Ordering.{nat_cmp}
