@@ -30,7 +30,7 @@ returns-clause-steps g c = λ chain sound text head at.
     let second : money_words.IsApplied chain b h = record { sound = sound; block = text; short = c.requires.short; head = head } in
     let people_at = c.in_ok-ended.ensures.at chain first at.0 in
     let paid = are_paid (b ∷ chain) h c.as_slice.result.now (c.as_slice.ensures.value ∙ c.in_ok-members.ensures (b ∷ chain) people_at sound) in
-    steps_of_both chain b c.args.steps.now c.write_block-ended.new.steps c.write.new.steps (c.in_ok-ended.ensures.steps chain first at.0) (c.in_ok-cleared.ensures.steps chain second paid at.1)
+    steps_of_both chain b c.args.steps.now c.write_block.new.steps c.write.new.steps (c.in_ok-ended.ensures.steps chain first at.0) (c.in_ok-cleared.ensures.steps chain second paid at.1)
 
 pub returns-clause-left : goal.returns-clause-left
 returns-clause-left g c = λ chain sound text head at.
